@@ -56,3 +56,10 @@ file_served None old new x y unit bad P is before after p = is
 file_served {A = A} (Some bytes) old new x y unit bad P is before after p =
     subst (λ (o : Option A). IfSome o (λ a. IfSome new (λ b. P (imaged bytes bad) a b))) (sym before)
     (subst (λ (o : Option A). IfSome o (λ b. P (imaged bytes bad) x b)) (sym after) (subst (λ (m : BlockMaps). P m x y) is p))
+
+-- the file is as it was
+pub file_kept : {A : Type 0} (file : Option (List ℕ)) (image : Option A) (P : List ℕ → A → A → Type 0) → ((bytes : List ℕ) → (a : A) → P bytes a a)
+    → IfSome file (λ bytes. IfSome image (λ a. IfSome image (λ b. P bytes a b)))
+file_kept None image P p = tt
+file_kept (Some bytes) None P p = tt
+file_kept (Some bytes) (Some a) P p = p bytes a

@@ -1,6 +1,7 @@
 -- Bytes that are read and written, one part after the other.
-use Rattle.std.proofs.Common.{ℕ, List, [], ◌++◌, Option, Result, Ok, Err}
-use Rattle.std.specs.Prelude.{OnOk}
+use Rattle.std.proofs.Common.{◌≡◌, ℕ, List, [], ◌++◌, Option, None, Some, Result, Ok, Err}
+use Rattle.std.specs.Prelude.{IfErr, IfSome, OnOk, is_some, true}
+use Rattle.std.proofs.lemmas.Bool.{false≢true}
 use Rattle.std.specs.Io.KnownBytes.{Consumes}
 use Rattle.std.proofs.KnownBytes.{Appends-nil, Appends-trans, Consumes-nil, Consumes-trans}
 use Rattle.nbd.specs.Streams.{Gave}
@@ -39,3 +40,17 @@ on_ok (Err e) f p = p
 pub on_ok_both : {T E P Q R : Type 0} (r : Result T E) → OnOk r P → OnOk r Q → (P → Q → R) → OnOk r R
 on_ok_both (Ok x) p q f = f p q
 on_ok_both (Err e) p q f = p
+
+-- what holds of a call that failed
+pub on_err : {T E : Type 0} {P Q : E → Type 0} (r : Result T E) → ((e : E) → P e → Q e) → IfErr r P → IfErr r Q
+on_err (Ok x) f p = p
+on_err (Err e) f p = f e p
+
+-- what holds anyway
+pub if_some : {A P : Type 0} (o : Option A) → P → IfSome o (λ _. P)
+if_some None p = tt
+if_some (Some a) p = p
+
+pub is_some_so : {A P : Type 0} (o : Option A) → is_some o ≡ true → IfSome o (λ _. P) → P
+is_some_so None e p = absurd (false≢true e)
+is_some_so (Some a) e p = p

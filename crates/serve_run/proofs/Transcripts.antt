@@ -1,11 +1,11 @@
 -- Requests that were answered, and one more.
-use Rattle.std.proofs.Common.{◌≡◌, ℕ, Bool, List, [], ◌∷◌, ◌++◌, Option, refl, sym, ap, subst, ◌∙◌, append_assoc, append-nil}
+use Rattle.std.proofs.Common.{◌≡◌, ℕ, Bool, List, [], ◌∷◌, ◌++◌, ◌⊎◌, inl, inr, Option, refl, sym, ap, subst, ◌∙◌, append_assoc, append-nil, arith}
 use Rattle.std.specs.Io.KnownBytes.{Appends, Consumes}
 use Rattle.std.proofs.KnownBytes.{Appends-nil, Appends-trans, Consumes-nil, Consumes-trans}
 use Rattle.nbd.specs.declared.transmission.Request.{Request}
 use Rattle.nbd.specs.Transmission.{request_text}
 use Rattle.disk_server.specs.Serving.{Serving}
-use Rattle.serve_run.specs.Sessions.{Answers, Leaves, Transmitted, Turns}
+use Rattle.serve_run.specs.Sessions.{Answers, Done, Leaves, Transmitted, Turns, Untold}
 use Rattle.serve_run.specs.Transcript.{Answered, Exports, IsAnswered, after_answer, asked_text, replies_text, requests_text, told_text}
 
 requests_text-then : (answers : List Answered) (a : Answered) → requests_text (answers ++ (a ∷ [])) ≡ requests_text answers ++ asked_text a
@@ -75,3 +75,36 @@ transmitted can_fail old new l lm ln w wn turns leaves = record {
   sent = turns.sent;
   exports = turns.exports;
 }
+
+-- whatever ends it between two requests
+pub done_here : (can_fail : Bool) (old new : Serving) (l ln w wn : Option (List ℕ)) → Turns can_fail old new l ln w wn → Done can_fail old new l w
+done_here can_fail old new l ln w wn turns = record {
+  answers = turns.answers;
+  untold = [];
+  few = omega arith;
+  left_new = ln;
+  read = subst (λ (told : List Answered). Consumes l ln (requests_text told)) (sym (append-nil turns.answers)) turns.read;
+  written_new = wn;
+  sent = turns.sent;
+  exports = subst (λ (told : List Answered). Exports can_fail old told new) (sym (append-nil turns.answers)) turns.exports;
+}
+
+-- whatever ends it at a request
+pub done_at : (can_fail : Bool) (request : Request) (old middle new : Serving) (l lm lr w wm : Option (List ℕ)) → Turns can_fail old middle l lm w wm
+    → Consumes lm lr (request_text request) → (new ≡ middle) ⊎ Untold can_fail request middle new lr → Done can_fail old new l w
+done_at can_fail request old middle new l lm lr w wm turns head (inl same) =
+    subst (λ (s : Serving). Done can_fail old s l w) (sym same) (done_here can_fail old middle l lm w wm turns)
+done_at can_fail request old middle new l lm lr w wm turns head (inr untold) =
+    let a : Answered = untold.answers.answered in
+    record {
+      answers = turns.answers;
+      untold = a ∷ [];
+      few = omega arith;
+      left_new = untold.left_new;
+      read = subst (Consumes l untold.left_new) (sym (requests_text-then turns.answers a))
+          (Consumes-trans l lm untold.left_new (requests_text turns.answers) (asked_text a) turns.read
+          (asked a request lm lr untold.left_new untold.answers.asks head untold.answers.read));
+      written_new = wm;
+      sent = turns.sent;
+      exports = Exports-then can_fail old middle new turns.answers a turns.exports untold.answers.is untold.answers.after;
+    }

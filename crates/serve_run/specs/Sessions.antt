@@ -1,11 +1,13 @@
 -- What one call of a session does: the bytes that it reads of the client and writes to it, and what becomes of the server.
-use Rattle.std.specs.Prelude.{◌≡◌, ℕ, ◌⊎◌, Bool, IsTrue, List, [], ◌++◌, Option}
+use Rattle.std.specs.Prelude.{◌≡◌, ℕ, ◌⊎◌, ◌≤◌, Bool, IsTrue, List, [], ◌++◌, length, Option, None}
 use Rattle.std.specs.Io.KnownBytes.{Appends, Consumes, IsAtEnd}
 use Rattle.block_unit.specs.BlockMaps.{BlockMaps}
 use Rattle.nbd.specs.declared.transmission.Command.TheVariants.{Disconnect}
+use Rattle.nbd.specs.declared.transmission.ErrorNumber.{ErrorNumber}
+use Rattle.nbd.specs.declared.transmission.ErrorNumber.TheVariants as error
 use Rattle.nbd.specs.declared.transmission.Request.{Request}
 use Rattle.nbd.specs.Transmission.{request_text}
-use Rattle.disk_server.specs.Serving.{Serving, medium_of, opening_serving, synced}
+use Rattle.disk_server.specs.Serving.{IsFlushTold, Serving, after_saving, medium_of, opening_serving, synced}
 use Rattle.serve_run.specs.Transcript.{Answered, Exports, IsAnswered, after_answer, replies_text, requests_text, told_text}
 
 -- some bytes were read
@@ -31,6 +33,11 @@ pub record Answers (can_fail : Bool) (request : Request) (old new : Serving) (le
   pub after : new ≡ after_answer old answered
   pub read : Consumes left left_new answered.brought
   pub sent : Appends written written_new (told_text answered)
+
+-- A request was done, and nothing is known of what was written of its reply.
+pub record Untold (can_fail : Bool) (request : Request) (old new : Serving) (left : Option (List ℕ)) : Type 0 where
+  pub left_new : Option (List ℕ)
+  pub answers : Answers can_fail request old new left left_new None None
 
 -- requests were read and answered
 pub record Turns (can_fail : Bool) (old new : Serving) (left left_new written written_new : Option (List ℕ)) : Type 0 where
@@ -58,6 +65,17 @@ pub record Transmitted (can_fail : Bool) (old new : Serving) (left left_new writ
   pub sent : Appends written written_new (replies_text answers)
   pub exports : Exports can_fail old answers new
 
+-- Whatever ended a session, the server has done what the client asked, in its order, and told it of all that but perhaps of the last.
+pub record Done (can_fail : Bool) (old new : Serving) (left written : Option (List ℕ)) : Type 0 where
+  pub answers : List Answered
+  pub untold : List Answered
+  pub few : length untold ≤ 1
+  pub left_new : Option (List ℕ)
+  pub read : Consumes left left_new (requests_text (answers ++ untold))
+  pub written_new : Option (List ℕ)
+  pub sent : Appends written written_new (replies_text answers)
+  pub exports : Exports can_fail old (answers ++ untold) new
+
 -- and then the server flushed
 pub record Finished (can_fail : Bool) (old new : Serving) (left left_new written written_new : Option (List ℕ)) : Type 0 where
   pub last : Serving
@@ -83,3 +101,20 @@ pub record Served (can_fail : Bool) (unit : BlockMaps) (tells : Bool) (holds : L
   pub left_behind : Serving
   pub flushed : (left_behind.machine ≡ (synced last).serving.machine) ⊎ ((answers ≡ []) × (left_behind.machine ≡ last.machine))
   pub held : IsTrue tells → holds ≡ medium_of left_behind.machine
+
+-- Behind what it has done the server flushed: where that was done, the file holds the medium.
+pub record Flushed (can_fail tells : Bool) (holds : List ℕ) (old new : Serving) (left written : Option (List ℕ)) : Type 0 where
+  pub last : Serving
+  pub done : Done can_fail old last left written
+  pub flush : ErrorNumber
+  pub told : IsFlushTold can_fail (synced last) flush
+  pub after : new ≡ after_saving (synced last).serving flush
+  pub held : flush ≡ error.None → IsTrue tells → holds ≡ medium_of (synced last).serving.machine
+
+-- A unit was served until a fault, behind the bytes of the handshake, and then the server flushed.
+pub record Broken (can_fail : Bool) (unit : BlockMaps) (tells : Bool) (holds : List ℕ) (left written : Option (List ℕ)) : Type 0 where
+  pub left_behind : Option (List ℕ)
+  pub written_behind : Option (List ℕ)
+  pub talks : Talks left left_behind written written_behind
+  pub new : Serving
+  pub flushed : Flushed can_fail tells holds (begun unit) new left_behind written_behind

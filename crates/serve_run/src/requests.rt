@@ -1,11 +1,11 @@
 //! A READ and a WRITE: what they bring and are given.
 
 ghost use Rattle.uas_profile.specs.declared.TheConstants.{MAX_BLOCKS};
-ghost use Rattle.std.specs.Prelude.{◌≡◌, ◌+◌, ◌*◌, ◌≤◌, ◌++◌, true, length, take, drop, Ok, None, OnOk, IfOk};
+ghost use Rattle.std.specs.Prelude.{◌≡◌, ◌⊎◌, ◌+◌, ◌*◌, ◌≤◌, ◌++◌, true, length, take, drop, Ok, None, OnOk, IfOk, IfSome};
 ghost use Rattle.std.specs.Io.KnownBytes.{Appends, Consumes};
 ghost use Rattle.nbd.specs.Transmission.{reply_text};
 ghost use Rattle.disk_server.specs.Serving.{IsBehind, cover_blocks};
-ghost use Rattle.serve_run.specs.Sessions.{Answers};
+ghost use Rattle.serve_run.specs.Sessions.{Answers, Untold};
 ghost use Rattle.serve_run.specs.Transcript.{given_of, is_served, reading_of};
 
 use crate::fault::ServeFault;
@@ -96,6 +96,8 @@ pub(crate) fn take<I: Image, S: Source, O: Sink>(
     ensures same { OnOk result (I.can_fail image.new ≡ I.can_fail image.old) }
     ensures answered { result ≡ Ok None → Answers (I.can_fail image.old) request.now server.old server.new
         (S.left input.old) (S.left input.new) (O.written output.old) (O.written output.new) }
+    ensures untold { IfOk result (λ ended. IfSome ended (λ fault.
+        (server.new ≡ server.old) ⊎ Untold (I.can_fail image.old) request.now server.old server.new (S.left input.old))) }
 {
     if let Some(fault) = read_data(taken, input, request)? {
         return Ok(Some(fault));

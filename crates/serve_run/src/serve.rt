@@ -1,11 +1,12 @@
 //! The run `serve`.
 
-ghost use Rattle.std.specs.Prelude.{◌≡◌, ◌⊎◌, Some, None, Ok, IsTrue, IsOk, IsErr, IsSome, IfOk, IfSome, OnOk, option_to_list};
+ghost use Rattle.std.specs.Prelude.{◌≡◌, ◌⊎◌, Some, None, Ok, IsTrue, IsOk, IsErr, IsSome, IfErr, IfOk, IfSome, OnOk, option_to_list};
 ghost use Rattle.std.specs.Io.KnownBytes.{Keeps};
 ghost use Rattle.block_unit.specs.BlockMaps.{imaged};
 ghost use Rattle.disk_image.specs.Images.{blocks_in};
 ghost use Rattle.disk_server.specs.Serving.{IsBehind, medium_of};
-ghost use Rattle.serve_run.specs.Sessions.{Finished, Served, begun};
+ghost use Rattle.serve_run.specs.Serves.{status_of};
+ghost use Rattle.serve_run.specs.Sessions.{Broken, Finished, Flushed, Served, begun};
 
 use crate::fault::ServeFault;
 use crate::handshake::shake;
@@ -46,6 +47,10 @@ pub fn run_serve<R: Source, I: Image, S: Source, O: Sink, W: Write>(
         (S.left input.old) (S.left input.new) (O.written output.old) (O.written output.new)))) }
     ensures open { result ≡ 0 → IsSome image.old }
     ensures kept { result ≡ 0 → IsSome image.new }
+    // At a fault the file is as it was, or it holds what the requests before the fault left, flushed.
+    ensures broken { result ≡ 3 → IfSome (R.left file.old) (λ bytes. IfSome image.old (λ held. IfSome image.new (λ kept.
+        (I.holds kept ≡ I.holds held) ⊎ Broken (I.can_fail held) (imaged bytes (option_to_list bad)) (I.tells held) (I.holds kept)
+        (S.left input.old) (O.written output.old)))) }
 {
     match serve(alloc, bad, file, image, input, output) {
         Ok(()) => DONE,
@@ -70,6 +75,10 @@ fn serve<R: Source, I: Image, S: Source, O: Sink>(
         (S.left input.old) (S.left input.new) (O.written output.old) (O.written output.new))))) }
     ensures open { OnOk result (IsSome image.old) }
     ensures kept { OnOk result (IsSome image.new) }
+    ensures broken { IfErr result (λ fault. status_of fault ≡ 3 →
+        IfSome (R.left file.old) (λ bytes. IfSome image.old (λ held. IfSome image.new (λ kept.
+        (I.holds kept ≡ I.holds held) ⊎ Broken (I.can_fail held) (imaged bytes (option_to_list bad)) (I.tells held) (I.holds kept)
+        (S.left input.old) (O.written output.old))))) }
 {
     let unit = match read_disk(alloc, bad, file) {
         Ok(unit) => unit,
@@ -90,8 +99,10 @@ fn serve_unit<I: Image, S: Source, O: Sink>(
     output: &mut O,
 ) -> Result<(), ServeFault>
     requires { IsTrue (I.tells image.old) → I.holds image.old ≡ unit.medium }
-    ensures { OnOk result (Served (I.can_fail image.old) unit (I.tells image.old) (I.holds image.new)
+    ensures served { OnOk result (Served (I.can_fail image.old) unit (I.tells image.old) (I.holds image.new)
         (S.left input.old) (S.left input.new) (O.written output.old) (O.written output.new)) }
+    ensures broken { IfErr result (λ fault. status_of fault ≡ 3 → (I.holds image.new ≡ I.holds image.old)
+        ⊎ Broken (I.can_fail image.old) unit (I.tells image.old) (I.holds image.new) (S.left input.old) (O.written output.old)) }
 {
     let mut server = begin(alloc, unit)?;
     if !shake(input, output, server.size())? {
@@ -100,8 +111,9 @@ fn serve_unit<I: Image, S: Source, O: Sink>(
     serve_client(alloc, &mut server, image, input, output)
 }
 
-/// Answers a client's requests until it leaves, and flushes.
-fn serve_client<I: Image, S: Source, O: Sink>(
+/// A session behind its handshake: answers a client's requests until it leaves or a fault ends that, and flushes. The server is then as what it
+/// has done and the flush left it; the file holds the medium, or the flush was told EIO.
+pub fn serve_client<I: Image, S: Source, O: Sink>(
     alloc: Global,
     server: &mut Server,
     image: &mut I,
@@ -112,6 +124,8 @@ fn serve_client<I: Image, S: Source, O: Sink>(
     ensures finished { OnOk result (Finished (I.can_fail image.old) server.old server.new
         (S.left input.old) (S.left input.new) (O.written output.old) (O.written output.new)) }
     ensures held { OnOk result (IsTrue (I.tells image.old) → I.holds image.new ≡ medium_of server.new.machine) }
+    ensures flushed { IfErr result (λ fault. status_of fault ≡ 3 → Flushed (I.can_fail image.old) (I.tells image.old) (I.holds image.new)
+        server.old server.new (S.left input.old) (O.written output.old)) }
 {
     match transmit_and_flush(alloc, server, image, input, output) {
         Ok(None) => Ok(()),
@@ -131,7 +145,7 @@ fn begin(alloc: Global, unit: Unit) -> Result<Server, ServeFault>
     }
 }
 
-/// Answers requests until the client leaves, and then flushes: why this gave up, if it did.
+/// Answers requests until the client leaves or a fault ends that, and then flushes: why this gave up, if it did.
 fn transmit_and_flush<I: Image, S: Source, O: Sink>(
     alloc: Global,
     server: &mut Server,
@@ -144,6 +158,8 @@ fn transmit_and_flush<I: Image, S: Source, O: Sink>(
     ensures told { OnOk result (I.tells image.new ≡ I.tells image.old) }
     ensures finished { result ≡ Ok None → Finished (I.can_fail image.old) server.old server.new
         (S.left input.old) (S.left input.new) (O.written output.old) (O.written output.new) }
+    ensures flushed { OnOk result (Flushed (I.can_fail image.old) (I.tells image.old) (I.holds image.new)
+        server.old server.new (S.left input.old) (O.written output.old)) }
 {
     let fault = transmit(alloc, server, image, input, output)?;
     let flushed = server.flush(image)?;

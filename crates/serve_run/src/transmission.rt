@@ -1,13 +1,13 @@
 //! The transmission: requests in their order, each answered before the next one is read.
 
-ghost use Rattle.std.specs.Prelude.{◌≡◌, Bool, true, false, Ok, None, IfOk, IfSome, OnOk};
+ghost use Rattle.std.specs.Prelude.{◌≡◌, ◌⊎◌, Bool, true, false, Ok, None, IfOk, IfSome, OnOk};
 ghost use Rattle.std.specs.Io.KnownBytes.{Appends, Consumes};
 ghost use Rattle.nbd.specs.Streams.{Gave};
 ghost use Rattle.nbd.specs.Transmission.{reply_text, request_text};
 ghost use Rattle.disk_server.specs.Answers.{is_done};
 ghost use Rattle.disk_server.specs.Serving.{IsBehind};
 ghost use Rattle.serve_run.specs.Serves.{has_bad_length, is_beyond, is_disconnection, refusal_of};
-ghost use Rattle.serve_run.specs.Sessions.{Answers, Leaves, Transmitted};
+ghost use Rattle.serve_run.specs.Sessions.{Answers, Done, Leaves, Transmitted, Untold};
 ghost use Rattle.serve_run.specs.Transcript.{brought_bytes, is_served};
 
 use crate::fault::ServeFault;
@@ -40,7 +40,8 @@ impl Room {
 }
 
 /// Reads requests and answers them, each before the next one is read, until the client leaves, or a fault ends that. Where the client
-/// left, its requests and what they brought are what was read, and what was written are the replies, each as the server was by then.
+/// left, its requests and what they brought are what was read, and what was written are the replies, each as the server was by then; at a
+/// fault the server has done what was asked, and told all of it but perhaps the last.
 pub fn transmit<I: Image, S: Source, O: Sink>(
     alloc: Global,
     server: &mut Server,
@@ -51,6 +52,7 @@ pub fn transmit<I: Image, S: Source, O: Sink>(
     requires { IsBehind (I.tells image.old) (I.holds image.old) server.old }
     ensures answered { result ≡ Ok None → Transmitted (I.can_fail image.old) server.old server.new
         (S.left input.old) (S.left input.new) (O.written output.old) (O.written output.new) }
+    ensures done { OnOk result (Done (I.can_fail image.old) server.old server.new (S.left input.old) (O.written output.old)) }
     ensures behind { OnOk result (IsBehind (I.tells image.new) (I.holds image.new) server.new) }
     ensures told { OnOk result (I.tells image.new ≡ I.tells image.old) }
     ensures same { OnOk result (I.can_fail image.new ≡ I.can_fail image.old) }
@@ -112,6 +114,8 @@ fn answer<I: Image, S: Source, O: Sink>(
     requires stays { is_disconnection request.now.command ≡ false }
     ensures answered { result ≡ Ok None → Answers (I.can_fail image.old) request.now server.old server.new
         (S.left input.old) (S.left input.new) (O.written output.old) (O.written output.new) }
+    ensures untold { IfOk result (λ ended. IfSome ended (λ fault.
+        (server.new ≡ server.old) ⊎ Untold (I.can_fail image.old) request.now server.old server.new (S.left input.old))) }
     ensures behind { OnOk result (IsBehind (I.tells image.new) (I.holds image.new) server.new) }
     ensures told { OnOk result (I.tells image.new ≡ I.tells image.old) }
     ensures same { OnOk result (I.can_fail image.new ≡ I.can_fail image.old) }

@@ -1,8 +1,9 @@
-use Rattle.std.proofs.Common.{rules, ◌≡◌, ◌∙◌, ℕ, true, false, None, ap}
+use Rattle.std.proofs.Common.{rules, ◌≡◌, ◌∙◌, ℕ, true, false, None, ap, inr}
 use borrow.Author.Tests.{tests}
 use Rattle.disk_server.specs.Answers.{is_done}
 use Rattle.disk_server.specs.Serving.{size_of}
 use Rattle.serve_run.proofs.Answering.{flush_answers, is_flush, read_answers, refusal_answers}
+use Rattle.serve_run.proofs.Talking.{if_some}
 use Rattle.serve_run.specs.Serves.{refusal_of}
 use Rattle.serve_run.specs.Transcript.{is_served}
 use Rattle.serve_run.proofs.transmission.answer.Goals as goal
@@ -29,3 +30,23 @@ returns-in_ok-error-in-Flush-clause-answered g c = λ e.
     flush_answers _ c.args.request.now c.in_ok-error-in-Flush.error c.args.server.now c.flush.new.self _ _ _ served
     (is_flush c.args.server.now c.args.request.now served c.requires.stays c.in-Flush.is)
     c.in_ok-error-in-Flush.ensures.answer c.in_ok-error-in-Flush.ensures.server (c.tell.ensures none)
+
+-- the same, whatever becomes of the reply
+pub returns-in_ok-fault-in-Read-clause-untold : goal.returns-in_ok-fault-in-Read-clause-untold
+returns-in_ok-fault-in-Read-clause-untold g c =
+    let served : is_served c.args.server.now c.args.request.now ≡ true = search rules in
+    if_some c.in_ok-fault-in-Read.fault (inr (record {
+      left_new = g.S.Source.left c.args.input.now;
+      answers = read_answers _ c.args.request.now c.args.server.now c.give.new.server (g.S.Source.left c.args.input.now) None None served c.in-Read.is
+          c.in_ok-fault-in-Read.ensures.server tt;
+    }))
+
+pub returns-in_ok-error-in-Flush-clause-untold : goal.returns-in_ok-error-in-Flush-clause-untold
+returns-in_ok-error-in-Flush-clause-untold g c =
+    let served : is_served c.args.server.now c.args.request.now ≡ true = search rules in
+    if_some c.tell.result (inr (record {
+      left_new = g.S.Source.left c.args.input.now;
+      answers = flush_answers _ c.args.request.now c.in_ok-error-in-Flush.error c.args.server.now c.flush.new.self (g.S.Source.left c.args.input.now) None
+          None served (is_flush c.args.server.now c.args.request.now served c.requires.stays c.in-Flush.is) c.in_ok-error-in-Flush.ensures.answer
+          c.in_ok-error-in-Flush.ensures.server tt;
+    }))

@@ -1,5 +1,7 @@
 mod Answering
+mod Asking
 mod Faults
+mod Handshakes
 mod Served
 mod Serving
 mod Talking

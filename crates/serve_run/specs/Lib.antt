@@ -1,3 +1,4 @@
 pub mod Serves
+pub mod Handshake
 pub mod Transcript
 pub mod Sessions

@@ -1,7 +1,12 @@
-//! The handshake: the greeting, and the client's options until the transmission begins.
+//! The handshake: the greeting, and the client's options until the transmission begins. Its bytes, as definitions, are
+//! specs/Handshake.antt.
 
-ghost use Rattle.std.specs.Prelude.{◌≡◌, ◌^◌, ◌<◌, length, OnOk};
-ghost use Rattle.serve_run.specs.Sessions.{Hears, Says, Talks};
+ghost use Rattle.std.specs.Prelude.{◌≡◌, ◌^◌, ◌<◌, length, OnOk, IfOk};
+ghost use Rattle.std.specs.Io.KnownBytes.{Appends};
+ghost use Rattle.serve_run.specs.Handshake.{OptionAnswered, ReadsHead, Shaken, Tested};
+ghost use Rattle.serve_run.specs.Handshake.{export_information, export_of, informed, is_well_formed, is_whole_ask, listed};
+ghost use Rattle.serve_run.specs.Handshake.{next_of, replied, sizes_information, told_export, told_option};
+ghost use Rattle.serve_run.specs.Sessions.{Talks};
 
 use crate::fault::ServeFault;
 use crate::link::{drop_rest, read_message, read_rest, send};
@@ -15,8 +20,8 @@ use nbd::{
 /// What is offered: the fixed newstyle, and to leave out the zeros behind an export.
 const OFFERED: u16 = 3;
 
-/// The client leaves out the zeros.
-const NO_ZEROES: u32 = 2;
+/// The lower of the two flags that are offered: a client's flags above it have `NO_ZEROES`.
+const FIXED_NEWSTYLE: u32 = 1;
 
 /// What the export can do: it has flags, and it takes FLUSH and FUA.
 const EXPORT_FLAGS: u16 = 13;
@@ -44,131 +49,91 @@ pub(crate) enum Next {
     End,
 }
 
-/// Greets the client and answers its options, and tells whether the transmission begins.
+/// Greets the client and answers its options, and tells whether the transmission begins: it doesn't where the client leaves, by the end of
+/// its bytes or by ABORT. A flag that isn't offered is a fault, and so is an option that doesn't begin as one.
 pub fn shake<S: Source, O: Sink>(
     input: &mut S,
     output: &mut O,
     size: u64,
 ) -> Result<bool, ServeFault>
-    ensures { OnOk result (Talks (S.left input.old) (S.left input.new) (O.written output.old) (O.written output.new)) }
+    ensures talks { OnOk result (Talks (S.left input.old) (S.left input.new) (O.written output.old) (O.written output.new)) }
+    ensures shaken { IfOk result (λ begins. Shaken size begins (S.left input.old) (S.left input.new) (O.written output.old) (O.written output.new)) }
 {
     send(output, &greeting(ServerFlags(OFFERED)))?;
-    let mut flags = [0; 4];
-    if !read_message(input, &mut flags)? {
+    let mut taken = [0; 4];
+    if !read_message(input, &mut taken)? {
         return Ok(false);
     }
-    let flags = client_flags(&flags).0;
+    let flags = client_flags(&taken).0;
     if flags > u32::from(OFFERED) {
         return Err(ServeFault::Handshake);
     }
-    let export = Export {
-        size,
-        flags: ExportFlags(EXPORT_FLAGS),
-    };
+    let lacks_zeros = flags > FIXED_NEWSTYLE;
     for turn in 0..u64::MAX {
-        match answer_option(input, output, export, flags & NO_ZEROES != 0)? {
+        let Some(head) = read_head(input)? else {
+            return Ok(false);
+        };
+        match answer_option(input, output, size, lacks_zeros, head)? {
             Next::Option => {}
             Next::Transmission => return Ok(true),
             Next::End => return Ok(false),
         }
     }
-    Ok(false)
+    // so many options nobody sends
+    Err(ServeFault::Stream)
 }
 
-/// Reads an option and answers it.
-fn answer_option<S: Source, O: Sink>(
-    input: &mut S,
-    output: &mut O,
-    export: Export,
-    no_zeros: bool,
-) -> Result<Next, ServeFault>
-    ensures { OnOk result (Talks (S.left input.old) (S.left input.new) (O.written output.old) (O.written output.new)) }
+/// Reads the head of the next option; none where the client leaves before it.
+fn read_head<S: Source>(input: &mut S) -> Result<Option<OptionHead>, ServeFault>
+    ensures { IfOk result (λ found. ReadsHead found (S.left input.old) (S.left input.new)) }
 {
     let mut bytes = [0; 16];
     if !read_message(input, &mut bytes)? {
-        return Ok(Next::End);
+        return Ok(None);
     }
-    let head = OptionHead::from_bytes(&bytes).map_err(|_| ServeFault::Handshake)?;
+    match OptionHead::from_bytes(&bytes) {
+        Ok(head) => Ok(Some(head)),
+        Err(_) => Err(ServeFault::Handshake),
+    }
+}
+
+/// Reads the data of an option, answers it, and tells how the handshake goes on.
+fn answer_option<S: Source, O: Sink>(
+    input: &mut S,
+    output: &mut O,
+    size: u64,
+    lacks_zeros: bool,
+    head: OptionHead,
+) -> Result<Next, ServeFault>
+    ensures { IfOk result (λ next. OptionAnswered size lacks_zeros head next
+        (S.left input.old) (S.left input.new) (O.written output.old) (O.written output.new)) }
+{
+    let well_formed = read_option_data(input, head)?;
+    tell_option(output, size, lacks_zeros, head.option, well_formed)?;
+    Ok(next_of(head.option, well_formed))
+}
+
+/// Reads the data of an option, and tells whether they are well formed.
+fn read_option_data<S: Source>(input: &mut S, head: OptionHead) -> Result<bool, ServeFault>
+    ensures { IfOk result (λ says. Tested (is_well_formed head.option) head.length says (S.left input.old) (S.left input.new)) }
+{
     match head.option {
-        OptionKind::ExportName => {
+        OptionKind::Info | OptionKind::Go => read_asked(input, head.length),
+        OptionKind::List => {
             drop_rest(input, head.length)?;
-            send(output, &export.to_bytes())?;
-            if !no_zeros {
-                send(output, &[0; EXPORT_ZEROS])?;
-            }
-            Ok(Next::Transmission)
+            Ok(head.length == 0)
         }
-        OptionKind::Abort => {
+        OptionKind::ExportName | OptionKind::Abort | OptionKind::Other(_) => {
             drop_rest(input, head.length)?;
-            reply(output, head.option, ReplyKind::Ack, &[])?;
-            Ok(Next::End)
-        }
-        OptionKind::List => list(input, output, head),
-        OptionKind::Info | OptionKind::Go => inform(input, output, head, export),
-        OptionKind::Other(_) => {
-            drop_rest(input, head.length)?;
-            reply(output, head.option, ReplyKind::Unsupported, &[])?;
-            Ok(Next::Option)
+            Ok(true)
         }
     }
-}
-
-/// Answers the option LIST: the one export has no name.
-fn list<S: Source, O: Sink>(
-    input: &mut S,
-    output: &mut O,
-    head: OptionHead,
-) -> Result<Next, ServeFault>
-    ensures { OnOk result (Talks (S.left input.old) (S.left input.new) (O.written output.old) (O.written output.new)) }
-{
-    drop_rest(input, head.length)?;
-    if head.length != 0 {
-        reply(output, head.option, ReplyKind::Invalid, &[])?;
-        return Ok(Next::Option);
-    }
-    // its name's length
-    reply(output, head.option, ReplyKind::Server, &[0, 0, 0, 0])?;
-    reply(output, head.option, ReplyKind::Ack, &[])?;
-    Ok(Next::Option)
-}
-
-/// Answers the options INFO and GO, whatever name they have.
-fn inform<S: Source, O: Sink>(
-    input: &mut S,
-    output: &mut O,
-    head: OptionHead,
-    export: Export,
-) -> Result<Next, ServeFault>
-    ensures { OnOk result (Talks (S.left input.old) (S.left input.new) (O.written output.old) (O.written output.new)) }
-{
-    if !read_asked(input, head.length)? {
-        reply(output, head.option, ReplyKind::Invalid, &[])?;
-        return Ok(Next::Option);
-    }
-    let mut info = [0; 12];
-    BigEndian::write_u16(&mut info, INFO_EXPORT);
-    info[2..].copy_from_slice(&export.to_bytes());
-    reply(output, head.option, ReplyKind::Info, &info)?;
-    let sizes = BlockSizes {
-        least: 1,
-        preferred: 4096,
-        most: MOST_BYTES,
-    };
-    let mut info = [0; 14];
-    BigEndian::write_u16(&mut info, INFO_BLOCK_SIZE);
-    info[2..].copy_from_slice(&sizes.to_bytes());
-    reply(output, head.option, ReplyKind::Info, &info)?;
-    reply(output, head.option, ReplyKind::Ack, &[])?;
-    if head.option == OptionKind::Go {
-        return Ok(Next::Transmission);
-    }
-    Ok(Next::Option)
 }
 
 /// Reads the data of INFO and GO, so many bytes: a name's length, the name, a count, and so many numbers of what is asked for. It
 /// tells whether they are just that.
 fn read_asked<S: Source>(input: &mut S, length: u32) -> Result<bool, ServeFault>
-    ensures { OnOk result (Hears (S.left input.old) (S.left input.new)) }
+    ensures { IfOk result (λ says. Tested is_whole_ask length says (S.left input.old) (S.left input.new)) }
 {
     let Some(behind_name) = length.checked_sub(6) else {
         drop_rest(input, length)?;
@@ -187,6 +152,104 @@ fn read_asked<S: Source>(input: &mut S, length: u32) -> Result<bool, ServeFault>
     Ok(numbers == 2 * u32::from(BigEndian::read_u16(&count)))
 }
 
+/// How the handshake goes on behind an option.
+fn next_of(option: OptionKind, well_formed: bool) -> Next
+    ensures { result ≡ next_of option well_formed }
+{
+    match option {
+        OptionKind::ExportName => Next::Transmission,
+        OptionKind::Abort => Next::End,
+        OptionKind::Go if well_formed => Next::Transmission,
+        OptionKind::List | OptionKind::Info | OptionKind::Go | OptionKind::Other(_) => Next::Option,
+    }
+}
+
+/// Writes what an option is told.
+fn tell_option<O: Sink>(
+    output: &mut O,
+    size: u64,
+    lacks_zeros: bool,
+    option: OptionKind,
+    well_formed: bool,
+) -> Result<(), ServeFault>
+    ensures { OnOk result (Appends (O.written output.old) (O.written output.new) (told_option size lacks_zeros option well_formed)) }
+{
+    if !well_formed {
+        return reply(output, option, ReplyKind::Invalid, &[]);
+    }
+    match option {
+        OptionKind::ExportName => tell_export(output, size, lacks_zeros),
+        OptionKind::Abort => reply(output, option, ReplyKind::Ack, &[]),
+        OptionKind::List => list(output),
+        OptionKind::Info | OptionKind::Go => inform(output, size, option),
+        OptionKind::Other(_) => reply(output, option, ReplyKind::Unsupported, &[]),
+    }
+}
+
+/// Answers the option EXPORT_NAME, whatever name it has: the export, and the zeros where the client wants them.
+fn tell_export<O: Sink>(output: &mut O, size: u64, lacks_zeros: bool) -> Result<(), ServeFault>
+    ensures { OnOk result (Appends (O.written output.old) (O.written output.new) (told_export size lacks_zeros)) }
+{
+    send(output, &export_of(size).to_bytes())?;
+    if lacks_zeros {
+        return Ok(());
+    }
+    send(output, &[0; EXPORT_ZEROS])
+}
+
+/// Answers the option LIST: the one export has no name.
+fn list<O: Sink>(output: &mut O) -> Result<(), ServeFault>
+    ensures { OnOk result (Appends (O.written output.old) (O.written output.new) listed) }
+{
+    // its name's length
+    reply(output, OptionKind::List, ReplyKind::Server, &[0, 0, 0, 0])?;
+    reply(output, OptionKind::List, ReplyKind::Ack, &[])
+}
+
+/// Answers the options INFO and GO, whatever name they have.
+fn inform<O: Sink>(output: &mut O, size: u64, option: OptionKind) -> Result<(), ServeFault>
+    ensures { OnOk result (Appends (O.written output.old) (O.written output.new) (informed size option)) }
+{
+    reply(output, option, ReplyKind::Info, &export_information(size))?;
+    reply(output, option, ReplyKind::Info, &sizes_information())?;
+    reply(output, option, ReplyKind::Ack, &[])
+}
+
+/// The information on the export.
+fn export_information(size: u64) -> [u8; 12]
+    ensures { result ≡ export_information size }
+{
+    let mut bytes = [0; 12];
+    BigEndian::write_u16(&mut bytes, INFO_EXPORT);
+    bytes[2..].copy_from_slice(&export_of(size).to_bytes());
+    bytes
+}
+
+/// The information on the sizes of a request.
+fn sizes_information() -> [u8; 14]
+    ensures { result ≡ sizes_information }
+{
+    let sizes = BlockSizes {
+        least: 1,
+        preferred: 4096,
+        most: MOST_BYTES,
+    };
+    let mut bytes = [0; 14];
+    BigEndian::write_u16(&mut bytes, INFO_BLOCK_SIZE);
+    bytes[2..].copy_from_slice(&sizes.to_bytes());
+    bytes
+}
+
+/// The export of so many bytes.
+fn export_of(size: u64) -> Export
+    ensures { result ≡ export_of size }
+{
+    Export {
+        size,
+        flags: ExportFlags(EXPORT_FLAGS),
+    }
+}
+
 /// Writes a reply to an option, with its data.
 fn reply<O: Sink>(
     output: &mut O,
@@ -195,7 +258,7 @@ fn reply<O: Sink>(
     bytes: &[u8],
 ) -> Result<(), ServeFault>
     requires { length bytes.now < 2 ^ 32 }
-    ensures { OnOk result (Says (O.written output.old) (O.written output.new)) }
+    ensures { OnOk result (Appends (O.written output.old) (O.written output.new) (replied option kind bytes.now)) }
 {
     let head = OptionReply {
         option,

@@ -1,8 +1,9 @@
 //! The run `serve`: an image as a disk for any client of NBD, over a reader and a writer.
 //!
 //! [`run_serve`] reads an image, greets the client, answers its options, and then its requests in their order ([`serve_client`], [`transmit`]),
-//! each by a [`Server`](disk_server::Server) of the image's unit. What is refused, and as what, is specs/Serves.antt; what a request is told, and
-//! what all of them make of the server, is specs/Transcript.antt; the bytes that a session reads and writes are specs/Sessions.antt.
+//! each by a [`Server`](disk_server::Server) of the image's unit. What is refused, and as what, is specs/Serves.antt; the bytes of the
+//! handshake are specs/Handshake.antt; what a request is told, and what all of them make of the server, is specs/Transcript.antt; the bytes
+//! that a session reads and writes are specs/Sessions.antt.
 //!
 //! The parts of a session that say nothing of that server ([`shake`], [`read_request`], [`refuse`] and their like) serve other disks too.
 //!

@@ -3,7 +3,6 @@
 ghost use Rattle.std.specs.Prelude.{◌≡◌, ℕ, List, [], true, false, Ok, OnOk};
 ghost use Rattle.std.specs.Io.KnownBytes.{Appends, Consumes, IsAtEnd};
 ghost use Rattle.nbd.specs.Streams.{Gave};
-ghost use Rattle.serve_run.specs.Sessions.{Hears, Says};
 
 use crate::fault::ServeFault;
 use byte_io::{Sink, Source, StreamFault};
@@ -15,7 +14,6 @@ pub(crate) fn read_message<S: Source>(input: &mut S, buffer: &mut [u8]) -> Resul
     ensures whole { result ≡ Ok true → Consumes (S.left input.old) (S.left input.new) buffer.new }
     ensures none { result ≡ Ok false → Consumes (S.left input.old) (S.left input.new) [] }
     ensures end { result ≡ Ok false → IsAtEnd (S.left input.new) }
-    ensures hears { OnOk result (Hears (S.left input.old) (S.left input.new)) }
 {
     let count = read_whole(input, buffer).map_err(|_| ServeFault::Stream)?;
     if count == 0 && !buffer.is_empty() {
@@ -30,7 +28,6 @@ pub(crate) fn read_message<S: Source>(input: &mut S, buffer: &mut [u8]) -> Resul
 /// Fills `buffer` with what follows in a message.
 pub(crate) fn read_rest<S: Source>(input: &mut S, buffer: &mut [u8]) -> Result<(), ServeFault>
     ensures bytes { OnOk result (Consumes (S.left input.old) (S.left input.new) buffer.new) }
-    ensures hears { OnOk result (Hears (S.left input.old) (S.left input.new)) }
 {
     let count = read_whole(input, buffer).map_err(|_| ServeFault::Stream)?;
     if count < buffer.len() {
@@ -53,7 +50,6 @@ pub(crate) fn drop_rest<S: Source>(input: &mut S, count: u32) -> Result<(), Serv
 /// Writes to the client.
 pub(crate) fn send<O: Sink>(output: &mut O, bytes: &[u8]) -> Result<(), ServeFault>
     ensures bytes { OnOk result (Appends (O.written output.old) (O.written output.new) bytes.now) }
-    ensures says { OnOk result (Says (O.written output.old) (O.written output.new)) }
 {
     match output.write(bytes) {
         Ok(()) => Ok(()),

@@ -12,12 +12,12 @@ serve_client-requires g c = record {
 }
 
 pub returns-then-not-branch-clause-served : goal.returns-then-not-branch-clause-served
-returns-then-not-branch-clause-served g c = served_left _ _ c.args.unit _ _ _ _ _ c.requires c.in_ok-shake.ensures
+returns-then-not-branch-clause-served g c = served_left _ _ c.args.unit _ _ _ _ _ c.requires c.in_ok-shake.ensures.talks
 
 pub returns-clause-served : goal.returns-clause-served
 returns-clause-served g c =
     on_ok_both c.serve_client.result c.serve_client.ensures.finished c.serve_client.ensures.held (λ done held.
-    served_whole _ _ c.args.unit c.serve_client.new.server _ _ _ _ _ _ _ c.in_ok-shake.ensures
+    served_whole _ _ c.args.unit c.serve_client.new.server _ _ _ _ _ _ _ c.in_ok-shake.ensures.talks
     (subst (λ (s : Serving). Finished (g.I.Image.can_fail c.args.image.now) s c.serve_client.new.server (g.S.Source.left c.shake.new.input)
     (g.S.Source.left c.serve_client.new.input) (g.O.Sink.written c.shake.new.output) (g.O.Sink.written c.serve_client.new.output))
     c.in_ok-server.ensures.begun done) held)

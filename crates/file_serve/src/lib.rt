@@ -2,8 +2,12 @@
 //!
 //! [`run_file_serve`] greets the client, answers its options, and then its requests in their order ([`transmit`]), each by a
 //! [`FileDisk`](file_disk::FileDisk) over the file, of which nothing is read into memory but what a request names. The handshake and what
-//! a request is refused for are `serve_run`'s. A WRITE that is stored changes the file just there, and with FUA what the file holds is
-//! safe; with status 0 what it holds in the end is safe.
+//! a request is refused for are `serve_run`'s.
+//!
+//! What a request is told, and what the file is then, is specs/Filed.antt: a READ that is done is given what the file holds there, a WRITE
+//! that is done changes the file just there, and a FLUSH, or a WRITE with FUA, makes safe what it holds. EIO is told only where the file
+//! can fail. The bytes that a session reads and writes are specs/Sessions.antt. With status 0 what the file holds in the end is safe;
+//! where the file can't fail, that is so whatever ends the session.
 //!
 //! It stands on the disk over a file, on the session of `serve_run`, on the messages of `nbd`, and on readers and writers.
 #![tactic(auto)]

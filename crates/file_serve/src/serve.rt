@@ -1,6 +1,9 @@
-//! The run `serve --file`.
+//! The run `serve --file`. What a session reads and writes, and what it makes of the file, is specs/Sessions.antt.
 
-ghost use Rattle.std.specs.Prelude.{◌≡◌, ◌*◌, ◌^◌, ◌<◌, ◌≤◌, ◌⊎◌, length, IsTrue, IsSome, IfOk, IfSome, OnOk};
+ghost use Rattle.std.specs.Prelude.{◌≡◌, ◌*◌, ◌^◌, ◌<◌, ◌≤◌, ◌⊎◌, false, length, IsTrue, IsOk, IsErr, IsSome, IfOk, IfSome, OnOk};
+ghost use Rattle.std.specs.Io.KnownBytes.{Keeps};
+ghost use Rattle.file_serve.specs.Filed.{filed};
+ghost use Rattle.file_serve.specs.Sessions.{Served, Talked};
 ghost use Rattle.file_serve.specs.Sizes.{blocks_in};
 
 use crate::transmission::transmit;
@@ -33,8 +36,20 @@ pub fn run_file_serve<B: Blocks, S: Source, O: Sink, W: Write>(
 ) -> u8
     ensures statuses { (result ≡ 0) ⊎ ((result ≡ 3) ⊎ (result ≡ 4)) }
     ensures there { result ≡ 0 → IsSome file.old }
+    ensures whole { result ≡ 0 → IfSome file.old (λ was. IsTrue (B.tells was) → IsOk (blocks_in (length (B.holds was)))) }
+    // To the client of a file whose length is refused not a byte is written.
+    ensures refused { IfSome file.old (λ was.
+        IsTrue (B.tells was) → IsErr (blocks_in (length (B.holds was))) → Keeps (O.written output.old) (O.written output.new)) }
     // What the file holds in the end is safe.
     ensures safe { result ≡ 0 → IfSome file.new (λ kept. IsTrue (B.tells kept) → B.synced kept ≡ B.holds kept) }
+    ensures kept { IsSome file.old → IsSome file.new }
+    // What the client asked was answered by the file, and what it was told is just that.
+    ensures served { result ≡ 0 → IfSome file.old (λ was. IfSome file.new (λ kept. Served (B.can_fail was) (B.tells was)
+        (filed (B.holds was) (B.synced was)) (filed (B.holds kept) (B.synced kept))
+        (S.left input.old) (S.left input.new) (O.written output.old) (O.written output.new))) }
+    // Whatever ends the session, what a file holds that can't fail is safe in the end, or the file is as it was.
+    ensures rescued { IfSome file.old (λ was. IfSome file.new (λ kept.
+        IsTrue (B.tells was) → B.can_fail was ≡ false → (B.synced kept ≡ B.holds kept) ⊎ (kept ≡ was))) }
 {
     match serve(alloc, file, input, output) {
         Ok(()) => DONE,
@@ -49,7 +64,16 @@ fn serve<B: Blocks, S: Source, O: Sink>(
     output: &mut O,
 ) -> Result<(), ServeFault>
     ensures there { OnOk result (IsSome file.old) }
+    ensures whole { OnOk result (IfSome file.old (λ was. IsTrue (B.tells was) → IsOk (blocks_in (length (B.holds was))))) }
+    ensures refused { IfSome file.old (λ was.
+        IsTrue (B.tells was) → IsErr (blocks_in (length (B.holds was))) → Keeps (O.written output.old) (O.written output.new)) }
     ensures safe { OnOk result (IfSome file.new (λ kept. IsTrue (B.tells kept) → B.synced kept ≡ B.holds kept)) }
+    ensures kept { IsSome file.old → IsSome file.new }
+    ensures served { OnOk result (IfSome file.old (λ was. IfSome file.new (λ kept. Served (B.can_fail was) (B.tells was)
+        (filed (B.holds was) (B.synced was)) (filed (B.holds kept) (B.synced kept))
+        (S.left input.old) (S.left input.new) (O.written output.old) (O.written output.new)))) }
+    ensures rescued { IfSome file.old (λ was. IfSome file.new (λ kept.
+        IsTrue (B.tells was) → B.can_fail was ≡ false → (B.synced kept ≡ B.holds kept) ⊎ (kept ≡ was))) }
 {
     let Some(file) = file else {
         return Err(ServeFault::Run(RunFault::ImageFile));
@@ -73,7 +97,11 @@ fn serve_client<B: Blocks, S: Source, O: Sink>(
     output: &mut O,
 ) -> Result<(), ServeFault>
     requires { IsTrue (B.tells file.old) → length (B.holds file.old) ≡ 512 * disk.old }
-    ensures { OnOk result (IsTrue (B.tells file.new) → B.synced file.new ≡ B.holds file.new) }
+    ensures safe { OnOk result (IsTrue (B.tells file.new) → B.synced file.new ≡ B.holds file.new) }
+    ensures served { OnOk result (Served (B.can_fail file.old) (B.tells file.old)
+        (filed (B.holds file.old) (B.synced file.old)) (filed (B.holds file.new) (B.synced file.new))
+        (S.left input.old) (S.left input.new) (O.written output.old) (O.written output.new)) }
+    ensures rescued { IsTrue (B.tells file.old) → B.can_fail file.old ≡ false → B.synced file.new ≡ B.holds file.new }
 {
     let served = talk(alloc, disk, file, input, output);
     let flushed = disk.flush(file);
@@ -93,7 +121,11 @@ fn talk<B: Blocks, S: Source, O: Sink>(
     output: &mut O,
 ) -> Result<(), ServeFault>
     requires { IsTrue (B.tells file.old) → length (B.holds file.old) ≡ 512 * disk.old }
-    ensures { B.tells file.new ≡ B.tells file.old }
+    ensures talked { OnOk result (Talked (B.can_fail file.old) (B.tells file.old) (512 * disk.old)
+        (filed (B.holds file.old) (B.synced file.old)) (filed (B.holds file.new) (B.synced file.new))
+        (S.left input.old) (S.left input.new) (O.written output.old) (O.written output.new)) }
+    ensures told { B.tells file.new ≡ B.tells file.old }
+    ensures same { B.can_fail file.new ≡ B.can_fail file.old }
 {
     if !shake(input, output, disk.size())? {
         return Ok(());

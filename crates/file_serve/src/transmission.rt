@@ -1,8 +1,11 @@
-//! The transmission: requests in their order, each answered before the next one is read.
+//! The transmission: requests in their order, each answered before the next one is read. What each of them is told, and what the file is
+//! then, is specs/Filed.antt; the bytes that are read and written are specs/Sessions.antt.
 
-ghost use Rattle.std.specs.Prelude.{◌≡◌, ◌+◌, ◌*◌, ◌≤◌, false, true, length, IsTrue, OnOk, OnErr};
+ghost use Rattle.std.specs.Prelude.{◌≡◌, ◌+◌, ◌*◌, ◌≤◌, false, true, [], length, Ok, None, IsTrue, OnOk, OnErr};
 ghost use Rattle.image_file.specs.Written.{written_over};
-ghost use Rattle.serve_run.specs.Serves.{is_disconnection};
+ghost use Rattle.file_serve.specs.Filed.{filed};
+ghost use Rattle.file_serve.specs.Sessions.{Answers, Replies, Transmitted};
+ghost use Rattle.serve_run.specs.Serves.{is_disconnection, refusal_of};
 ghost use Rattle.serve_run.specs.Transcript.{has_fua};
 
 use byte_io::{Sink, Source};
@@ -11,7 +14,8 @@ use nbd::{Command, ErrorNumber, REPLY_BYTES, Request};
 use serve_run::{FUA, ServeFault, read_data, read_request, refusal_of, refuse, send_part, tell};
 use std::alloc::{AllocError, Global};
 
-/// Reads requests and answers them, each before the next one is read, until the client leaves, or a fault ends that.
+/// Reads requests and answers them, each before the next one is read, until the client leaves, or a fault ends that. Where the client
+/// left, its requests and what they brought are what was read, and what was written are the replies, each by the file as it was by then.
 pub fn transmit<B: Blocks, S: Source, O: Sink>(
     alloc: Global,
     disk: &mut FileDisk,
@@ -20,6 +24,9 @@ pub fn transmit<B: Blocks, S: Source, O: Sink>(
     output: &mut O,
 ) -> Result<Option<ServeFault>, AllocError>
     requires { IsTrue (B.tells file.old) → length (B.holds file.old) ≡ 512 * disk.old }
+    ensures answered { result ≡ Ok None → Transmitted (B.can_fail file.old) (B.tells file.old) (512 * disk.old)
+        (filed (B.holds file.old) (B.synced file.old)) (filed (B.holds file.new) (B.synced file.new))
+        (S.left input.old) (S.left input.new) (O.written output.old) (O.written output.new) }
     ensures disk { disk.new ≡ disk.old }
     ensures told { B.tells file.new ≡ B.tells file.old }
     ensures same { B.can_fail file.new ≡ B.can_fail file.old }
@@ -41,7 +48,8 @@ pub fn transmit<B: Blocks, S: Source, O: Sink>(
     Ok(Some(ServeFault::Stream))
 }
 
-/// Answers a request that isn't a disconnection. `room` holds the data of the request while it is served.
+/// Answers a request that isn't a disconnection: what it brings is read, and its reply is written. `room` holds the data of the request
+/// while it is served.
 pub fn serve_request<B: Blocks, S: Source, O: Sink>(
     disk: &mut FileDisk,
     room: &mut Vec<u8>,
@@ -52,6 +60,9 @@ pub fn serve_request<B: Blocks, S: Source, O: Sink>(
 ) -> Result<Option<ServeFault>, AllocError>
     requires file { IsTrue (B.tells file.old) → length (B.holds file.old) ≡ 512 * disk.old }
     requires stays { is_disconnection request.now.command ≡ false }
+    ensures answered { result ≡ Ok None → Answers (B.can_fail file.old) (B.tells file.old) (512 * disk.old)
+        (filed (B.holds file.old) (B.synced file.old)) (filed (B.holds file.new) (B.synced file.new)) request.now
+        (S.left input.old) (S.left input.new) (O.written output.old) (O.written output.new) }
     ensures disk { disk.new ≡ disk.old }
     ensures told { B.tells file.new ≡ B.tells file.old }
     ensures same { B.can_fail file.new ≡ B.can_fail file.old }
@@ -78,8 +89,13 @@ fn give<B: Blocks, O: Sink>(
     output: &mut O,
     request: &Request,
 ) -> Result<Option<ServeFault>, AllocError>
+    requires served { refusal_of (512 * disk.old) request.now ≡ ErrorNumber.None }
+    requires command { request.now.command ≡ Command.Read }
     requires fits { request.now.offset + request.now.length ≤ 512 * disk.old }
     requires file { IsTrue (B.tells file.now) → length (B.holds file.now) ≡ 512 * disk.old }
+    ensures answered { result ≡ Ok None → Replies (B.can_fail file.now) (B.tells file.now) (512 * disk.old)
+        (filed (B.holds file.now) (B.synced file.now)) (filed (B.holds file.now) (B.synced file.now))
+        request.now [] (O.written output.old) (O.written output.new) }
     ensures disk { disk.new ≡ disk.old }
 {
     let end = REPLY_BYTES + request.length as usize;
@@ -97,9 +113,14 @@ fn give_part<B: Blocks, O: Sink>(
     output: &mut O,
     request: &Request,
 ) -> Option<ServeFault>
+    requires served { refusal_of (512 * disk.old) request.now ≡ ErrorNumber.None }
+    requires command { request.now.command ≡ Command.Read }
     requires len { length part.old ≡ 16 + request.now.length }
     requires fits { request.now.offset + request.now.length ≤ 512 * disk.old }
     requires file { IsTrue (B.tells file.now) → length (B.holds file.now) ≡ 512 * disk.old }
+    ensures answered { result ≡ None → Replies (B.can_fail file.now) (B.tells file.now) (512 * disk.old)
+        (filed (B.holds file.now) (B.synced file.now)) (filed (B.holds file.now) (B.synced file.now))
+        request.now [] (O.written output.old) (O.written output.new) }
     ensures disk { disk.new ≡ disk.old }
 {
     match disk.read(file, request.offset, &mut part[REPLY_BYTES..]) {
@@ -117,8 +138,13 @@ fn take<B: Blocks, S: Source, O: Sink>(
     output: &mut O,
     request: &Request,
 ) -> Result<Option<ServeFault>, AllocError>
+    requires served { refusal_of (512 * disk.old) request.now ≡ ErrorNumber.None }
+    requires command { request.now.command ≡ Command.Write }
     requires fits { request.now.offset + request.now.length ≤ 512 * disk.old }
     requires file { IsTrue (B.tells file.old) → length (B.holds file.old) ≡ 512 * disk.old }
+    ensures answered { result ≡ Ok None → Answers (B.can_fail file.old) (B.tells file.old) (512 * disk.old)
+        (filed (B.holds file.old) (B.synced file.old)) (filed (B.holds file.new) (B.synced file.new)) request.now
+        (S.left input.old) (S.left input.new) (O.written output.old) (O.written output.new) }
     ensures disk { disk.new ≡ disk.old }
     ensures told { B.tells file.new ≡ B.tells file.old }
     ensures same { B.can_fail file.new ≡ B.can_fail file.old }
@@ -146,6 +172,7 @@ fn store<B: Blocks>(
     ensures disk { disk.new ≡ disk.old }
     ensures bytes { OnOk result (IsTrue (B.tells file.old) → B.holds file.new ≡ written_over (B.holds file.old) request.now.offset bytes.now) }
     ensures safe { OnOk result (has_fua request.now ≡ true → IsTrue (B.tells file.old) → B.synced file.new ≡ B.holds file.new) }
+    ensures kept { has_fua request.now ≡ false → B.synced file.new ≡ B.synced file.old }
     ensures fault { OnErr result (IsTrue (B.can_fail file.old)) }
     ensures told { B.tells file.new ≡ B.tells file.old }
     ensures same { B.can_fail file.new ≡ B.can_fail file.old }
@@ -165,6 +192,11 @@ fn make_safe<B: Blocks, O: Sink>(
     output: &mut O,
     request: &Request,
 ) -> Option<ServeFault>
+    requires served { refusal_of (512 * disk.old) request.now ≡ ErrorNumber.None }
+    requires command { request.now.command ≡ Command.Flush }
+    ensures answered { result ≡ None → Replies (B.can_fail file.old) (B.tells file.old) (512 * disk.old)
+        (filed (B.holds file.old) (B.synced file.old)) (filed (B.holds file.new) (B.synced file.new))
+        request.now [] (O.written output.old) (O.written output.new) }
     ensures disk { disk.new ≡ disk.old }
     ensures told { B.tells file.new ≡ B.tells file.old }
     ensures same { B.can_fail file.new ≡ B.can_fail file.old }

@@ -1,5 +1,7 @@
 use Rattle.std.proofs.Common.{◌≡◌, ◌*◌, length}
 use Rattle.std.specs.Prelude.{IsTrue}
+use Rattle.file_serve.specs.Filed.{filed}
+use Rattle.file_serve.specs.Sessions.{Turns}
 use Rattle.file_serve.proofs.transmission.transmit.Given as goal
 
 abbrev pub invariant-loop-turn : goal.invariant-loop-turn
@@ -8,4 +10,7 @@ invariant-loop-turn g l = record {
   told : g.B.Blocks.tells l.file ≡ g.B.Blocks.tells l.fn.file;
   same : g.B.Blocks.can_fail l.file ≡ g.B.Blocks.can_fail l.fn.file;
   len : IsTrue (g.B.Blocks.tells l.fn.file) → length (g.B.Blocks.holds l.file) ≡ 512 * l.fn.disk;
+  turns : Turns (g.B.Blocks.can_fail l.fn.file) (g.B.Blocks.tells l.fn.file) (512 * l.fn.disk)
+      (filed (g.B.Blocks.holds l.fn.file) (g.B.Blocks.synced l.fn.file)) (filed (g.B.Blocks.holds l.file) (g.B.Blocks.synced l.file))
+      (g.S.Source.left l.fn.input) (g.S.Source.left l.input) (g.O.Sink.written l.fn.output) (g.O.Sink.written l.output);
 }

@@ -1,0 +1,62 @@
+-- What a session with one client does: the bytes that it reads of the client and writes to it, and what becomes of the file.
+use Rattle.std.specs.Prelude.{◌≡◌, ℕ, ◌⊎◌, Bool, IsTrue, List, ◌++◌, length, Option}
+use Rattle.std.specs.Io.KnownBytes.{Appends, Consumes}
+use Rattle.nbd.specs.declared.transmission.Request.{Request}
+use Rattle.serve_run.specs.Sessions.{IsLeaving, Talks}
+use Rattle.serve_run.specs.Transcript.{Answered, replies_text, requests_text, told_text}
+use Rattle.file_serve.specs.Filed.{Exports, Filed, IsAnswered}
+
+-- a request that brought these bytes is answered, and its reply is written
+pub record Replies (can_fail tells : Bool) (size : ℕ) (old new : Filed) (request : Request) (brought : List ℕ)
+    (written written_new : Option (List ℕ)) : Type 0 where
+  pub answered : Answered
+  pub asks : answered.request ≡ request
+  pub brings : answered.brought ≡ brought
+  pub is : IsAnswered can_fail tells size old new answered
+  pub sent : Appends written written_new (told_text answered)
+
+-- a request that was read is answered: what it brings is read, and its reply is written
+pub record Answers (can_fail tells : Bool) (size : ℕ) (old new : Filed) (request : Request)
+    (left left_new written written_new : Option (List ℕ)) : Type 0 where
+  pub brought : List ℕ
+  pub read : Consumes left left_new brought
+  pub replies : Replies can_fail tells size old new request brought written written_new
+
+-- requests were read and answered
+pub record Turns (can_fail tells : Bool) (size : ℕ) (old new : Filed) (left left_new written written_new : Option (List ℕ)) : Type 0 where
+  pub answers : List Answered
+  pub read : Consumes left left_new (requests_text answers)
+  pub sent : Appends written written_new (replies_text answers)
+  pub exports : Exports can_fail tells size old answers new
+
+-- Requests were read and answered until the client left: what was read is their bytes and how it left, what was written are the replies.
+pub record Transmitted (can_fail tells : Bool) (size : ℕ) (old new : Filed) (left left_new written written_new : Option (List ℕ)) : Type 0 where
+  pub answers : List Answered
+  pub ending : List ℕ
+  pub how : IsLeaving ending left_new
+  pub read : Consumes left left_new (requests_text answers ++ ending)
+  pub sent : Appends written written_new (replies_text answers)
+  pub exports : Exports can_fail tells size old answers new
+
+-- the client left in the handshake: behind that nothing was read or written, and the file stays
+pub record Left (old new : Filed) (left left_new written written_new : Option (List ℕ)) : Type 0 where
+  pub same : new ≡ old
+  pub read : left_new ≡ left
+  pub sent : written_new ≡ written
+
+-- The bytes of the handshake were read and written, and then those of the requests and of their replies, if the client didn't leave before.
+pub record Talked (can_fail tells : Bool) (size : ℕ) (old new : Filed) (left left_new written written_new : Option (List ℕ)) : Type 0 where
+  pub left_greeted : Option (List ℕ)
+  pub written_greeted : Option (List ℕ)
+  pub greeted : Talks left left_greeted written written_greeted
+  pub went : Transmitted can_fail tells size old new left_greeted left_new written_greeted written_new
+      ⊎ Left old new left_greeted left_new written_greeted written_new
+
+-- A file was served, with its own length as the export's: it holds what the session left in it, and all of that is safe.
+pub record Served (can_fail tells : Bool) (old new : Filed) (left left_new written written_new : Option (List ℕ)) : Type 0 where
+  pub size : ℕ
+  pub sized : IsTrue tells → length old.holds ≡ size
+  pub last : Filed
+  pub talked : Talked can_fail tells size old last left left_new written written_new
+  pub holds : IsTrue tells → new.holds ≡ last.holds
+  pub safe : IsTrue tells → new.synced ≡ new.holds

@@ -1,5 +1,5 @@
 -- When a device without blocks is made, and the first fault where it isn't.
-use Rattle.std.specs.Prelude.{ℕ, ◌%◌, ◌^◌, ◌==◌, nat_lt, Bool, not, ◌&&◌, ◌||◌, if◌then◌else◌, List, length, Option, None, Some}
+use Rattle.std.specs.Prelude.{ℕ, ◌*◌, ◌%◌, ◌^◌, ◌==◌, nat_lt, Bool, not, ◌&&◌, ◌||◌, if◌then◌else◌, List, length, map, Option, None, Some}
 use Rattle.std.specs.List.{list_all}
 use Rattle.host_commands.specs.declared.BlockLength.{BlockLength}
 use Rattle.host_commands.specs.declared.BlockLength.TheVariants.{Bytes512, Bytes4096}
@@ -8,6 +8,8 @@ use Rattle.host_commands.specs.declared.CommandSet.TheVariants.{Profile, Host}
 use Rattle.host_commands.specs.Shapes.{Shape}
 use Rattle.c_faults.specs.declared.TheConstants.{BLOCKS, NO_MEMORY, TASKS_BLOCK_BYTES, TASKS_CHUNK, TASKS_SERIAL, TASKS_SET, UNITS}
 use Rattle.uas_profile.specs.declared.TheConstants.{MAX_CLIENTS}
+use Rattle.uas_tasks.specs.declared.LogicalUnit.{LogicalUnit}
+use Rattle.uas_tasks.specs.Machine.{Machine, greatest_block, opening, quiet}
 use Rattle.c_tasks.specs.declared.UasTasksUnit.{UasTasksUnit}
 
 -- 1 to 2^48 blocks
@@ -55,3 +57,12 @@ shape_of unit = record { blocks = unit.blocks; block_length = block_length_of un
 
 abbrev pub set_of : ℕ → ℕ → CommandSet
 set_of number most = if number == 0 then Profile else Host most
+
+-- the logical units of these records, each as its record says and without a unit attention
+abbrev pub logical_units : List UasTasksUnit → List LogicalUnit
+logical_units units = map quiet (map shape_of units)
+
+-- A device of these logical units without a task. It has the commands of that set, which move at most `most` blocks where it is the host set.
+-- A request is of at most `chunk` blocks, and each tag has room for as many of the longest blocks of any unit.
+abbrev pub made_tasks : List UasTasksUnit → ℕ → ℕ → ℕ → Machine
+made_tasks units set most chunk = opening (logical_units units) (set_of set most) chunk (chunk * greatest_block (logical_units units))

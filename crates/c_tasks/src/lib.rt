@@ -1,14 +1,18 @@
 //! A device without blocks as C asks for it: records of logical units, and numbers for the command set and the greatest chunk.
 //!
 //! What is promised: [`making_fault`] is the first fault of what is asked for, in the order of specs/Making.antt; where there is none,
-//! [`make_tasks`] makes that very device, without a task, or finds too little memory. It stands on `host_commands` and `uas_tasks`.
+//! [`make_tasks`] makes that very device, without a task (`made_tasks`), or finds too little memory.
+//!
+//! `proofs/MadeExport.antt` proves, once for every handle of such units, that an export which makes a box and hands it out meets its contract.
+//!
+//! It stands on `host_commands` and `uas_tasks`, and for that proof on `c_common`.
 #![tactic(auto)]
 
-ghost use Rattle.std.specs.Prelude.{◌≡◌, ◌*◌, ◌<◌, ◌≤◌, IfOk, IfSome, None, length, map, true};
+ghost use Rattle.std.specs.Prelude.{◌≡◌, ◌<◌, ◌≤◌, IfOk, IfSome, None, length, map, true};
 ghost use Rattle.std.specs.List.{list_all};
 ghost use Rattle.uas_profile.specs.declared.TheConstants.{MAX_CLIENTS};
-ghost use Rattle.uas_tasks.specs.Machine.{greatest_block, opening, quiet};
-ghost use Rattle.c_tasks.specs.Making.{block_length_of, has_block_bytes, has_blocks, has_serial, is_chunk, is_set, making_fault, set_of, shape_of};
+ghost use Rattle.c_tasks.specs.Making.{block_length_of, has_block_bytes, has_blocks, has_serial, is_chunk, is_set, made_tasks, making_fault};
+ghost use Rattle.c_tasks.specs.Making.{set_of, shape_of};
 
 use c_faults::{BLOCKS, TASKS_BLOCK_BYTES, TASKS_CHUNK, TASKS_SERIAL, TASKS_SET, UNITS};
 use host_commands::{
@@ -83,6 +87,7 @@ pub fn making_fault(units: &[UasTasksUnit], set: u8, most: u16, chunk: u16) -> O
     ensures fault { result ≡ making_fault units.now set most chunk }
     ensures units { result ≡ None → length units.now ≤ MAX_CLIENTS }
     ensures chunk { result ≡ None → is_chunk chunk ≡ true }
+    ensures not_0 { IfSome result (λ fault. 0 < fault) }
 {
     if units.is_empty() || units.len() > MAX_CLIENTS {
         Some(UNITS)
@@ -153,8 +158,7 @@ pub fn make_tasks(
 ) -> Result<Tasks, AllocError>
     requires units { length units.now ≤ MAX_CLIENTS }
     requires chunk { is_chunk chunk ≡ true }
-    ensures { IfOk result (λ tasks. tasks ≡ opening (map quiet (map shape_of units.now)) (set_of set most) chunk
-        (chunk * greatest_block (map quiet (map shape_of units.now)))) }
+    ensures { IfOk result (λ tasks. tasks ≡ made_tasks units.now set most chunk) }
 {
     let shapes = shapes(alloc, units)?;
     let Some(set) = command_set(set, most) else {

@@ -1,13 +1,15 @@
 //! A device without blocks, made for C.
-ghost use Rattle.std.specs.Prelude.{◌≡◌, ◌<◌, true};
-ghost use Rattle.c_tasks.specs.Making.{making_fault, tells};
+ghost use Rattle.std.specs.Prelude.{◌≡◌, ◌<◌, IfErr, IfOk, true};
+ghost use types.Logic.{sem};
+ghost use Rattle.c_common.specs.HandedOut.{handed_out, made_number};
+ghost use Rattle.c_tasks.specs.Making.{made_tasks, making_fault, tells};
+ghost use Rattle.uas_tasks_c.specs.contracts.door.KeptTasks.{the_row as tasks_row};
 
 use crate::door::KeptTasks;
-use c_common::hand_out;
+use c_common::hand_out_made;
 use c_faults::NO_MEMORY;
 use c_tasks::{UasTasksUnit, make_tasks, making_fault};
-use std::alloc::{AllocError, Global};
-use uas_tasks::Tasks;
+use std::alloc::Global;
 
 /// The device's name in C, which knows no more of it.
 #[repr(C)]
@@ -15,16 +17,10 @@ pub struct UasTasks {
     hidden: u8,
 }
 
-fn boxed(alloc: Global, tasks: Tasks) -> Result<Box<KeptTasks, Global>, AllocError> {
-    match Box::new(alloc, KeptTasks { tasks }) {
-        Ok(made) => Ok(made),
-        Err(_) => Err(AllocError),
-    }
-}
-
 /// Makes a device of logical units, without a task. `set` is 0 for the profile's commands and 1 for those of hosts, which move at most `most`
 /// blocks; a request is of at most `chunk` blocks. The number of the fault, where `tasks` is as it was, or 0: `UNITS` no logical unit or more
-/// than 15, `BLOCKS` one of no blocks or of more than 2^48, `TASKS_BLOCK_BYTES`, `TASKS_SERIAL`, `TASKS_SET`, `TASKS_CHUNK`, `NO_MEMORY`.
+/// than 15, `BLOCKS` one of no blocks or of more than 2^48, `TASKS_BLOCK_BYTES`, `TASKS_SERIAL`, `TASKS_SET`, `TASKS_CHUNK`, `NO_MEMORY`. At 0
+/// that very device, `made_tasks`, lies at `tasks` and is the caller's.
 #[unsafe(no_mangle)]
 pub extern "C" fn uas_tasks_new(
     alloc: Global,
@@ -36,16 +32,31 @@ pub extern "C" fn uas_tasks_new(
 ) -> u8
     ensures fault { tells result (making_fault units.now set most chunk) ≡ true }
     ensures refused { 0 < result → tasks.new ≡ tasks.old }
+    ensures* handed_out { sem 𝓛 (handed_out tasks_row (λ made. made ≡ made_tasks units.now set most chunk) result tasks.new) }
+{
+    hand_out_made(made(alloc, units, set, most, chunk), tasks)
+}
+
+/// The error is the number of the fault.
+fn made(
+    alloc: Global,
+    units: &[UasTasksUnit],
+    set: u8,
+    most: u16,
+    chunk: u16,
+) -> Result<Box<KeptTasks, Global>, u8>
+    ensures made { IfOk result (λ made. made.value ≡ made_tasks units.now set most chunk) }
+    ensures fault { tells (made_number result) (making_fault units.now set most chunk) ≡ true }
+    ensures number { IfErr result (λ number. 0 < number) }
 {
     if let Some(fault) = making_fault(units, set, most, chunk) {
-        return fault;
+        return Err(fault);
     }
-    let Ok(made) = make_tasks(alloc, units, set, most, chunk) else {
-        return NO_MEMORY;
+    let Ok(tasks) = make_tasks(alloc, units, set, most, chunk) else {
+        return Err(NO_MEMORY);
     };
-    let Ok(made) = boxed(alloc, made) else {
-        return NO_MEMORY;
-    };
-    *tasks = hand_out(made);
-    0
+    match Box::new(alloc, KeptTasks { tasks }) {
+        Ok(made) => Ok(made),
+        Err(_) => Err(NO_MEMORY),
+    }
 }

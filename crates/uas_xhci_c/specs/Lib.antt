@@ -1,6 +1,7 @@
 -- What C sees of a controller over its memory.
 pub mod CallLaws
 pub mod Looked
+pub mod Made
 pub mod RegionLaws
 pub mod Regions
 pub mod Turned

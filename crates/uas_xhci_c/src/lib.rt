@@ -7,7 +7,8 @@
 //! | turn.rt | `uas_xhci_take_turn` |
 //! | wants.rt | `uas_xhci_look` |
 //!
-//! What is promised: `uas_xhci_new` answers the first fault of what is asked for, as `uas_tasks_new` does. A call through the door is
+//! What is promised: `uas_xhci_new` answers the first fault of what is asked for, as `uas_tasks_new` does, and at 0 has handed out a controller
+//! after a reset, with that very disk plugged in (specs/Made.antt), which is the caller's. A call through the door is
 //! `after_call` of specs/XhciCall.antt: what it makes of the controller, the door and the bytes, for every number of a call, any register
 //! access and any bytes. A refused call changes nothing, and REQUEST tells of a request exactly where a tag's is to be asked
 //! (specs/CallLaws.antt). `uas_xhci_take_turn` works over up to 64 regions as one memory, whose bytes are those of `held lent_in regions`; it

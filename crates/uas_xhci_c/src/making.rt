@@ -1,13 +1,16 @@
 //! A controller over a caller's memory, made for C.
-ghost use Rattle.std.specs.Prelude.{◌≡◌, ◌<◌, true};
+ghost use Rattle.std.specs.Prelude.{◌≡◌, ◌<◌, IfErr, IfOk, true};
+ghost use types.Logic.{sem};
+ghost use Rattle.c_common.specs.HandedOut.{handed_out, made_number};
 ghost use Rattle.c_tasks.specs.Making.{making_fault, tells};
+ghost use Rattle.uas_xhci_c.specs.Made.{IsMade};
+ghost use Rattle.uas_xhci_c.specs.contracts.door.KeptXhci.{the_row as xhci_row};
 
 use crate::door::KeptXhci;
-use c_common::hand_out;
+use c_common::hand_out_made;
 use c_faults::NO_MEMORY;
 use c_tasks::{UasTasksUnit, make_tasks, making_fault};
-use std::alloc::{AllocError, Global};
-use uas_tasks::Tasks;
+use std::alloc::Global;
 use xhci_machine::Machine;
 
 /// The controller's name in C, which knows no more of it.
@@ -16,19 +19,10 @@ pub struct UasXhci {
     hidden: u8,
 }
 
-/// A controller whose disk is this device.
-fn boxed(alloc: Global, tasks: Tasks) -> Result<Box<KeptXhci, Global>, AllocError> {
-    let machine = Machine::new(alloc, tasks)?;
-    match Box::new(alloc, KeptXhci { machine }) {
-        Ok(made) => Ok(made),
-        Err(_) => Err(AllocError),
-    }
-}
-
 /// Makes a controller after a reset, with a disk of logical units plugged in. `set` is 0 for the profile's commands and 1 for those of hosts,
 /// which move at most `most` blocks; a request is of at most `chunk` blocks. The number of the fault, where `xhci` is as it was, or 0: `UNITS` no
 /// logical unit or more than 15, `BLOCKS` one of no blocks or of more than 2^48, `TASKS_BLOCK_BYTES`, `TASKS_SERIAL`, `TASKS_SET`,
-/// `TASKS_CHUNK`, `NO_MEMORY`.
+/// `TASKS_CHUNK`, `NO_MEMORY`. At 0 such a controller (`IsMade`) lies at `xhci` and is the caller's.
 #[unsafe(no_mangle)]
 pub extern "C" fn uas_xhci_new(
     alloc: Global,
@@ -40,16 +34,34 @@ pub extern "C" fn uas_xhci_new(
 ) -> u8
     ensures fault { tells result (making_fault units.now set most chunk) ≡ true }
     ensures refused { 0 < result → xhci.new ≡ xhci.old }
+    ensures* handed_out { sem 𝓛 (handed_out xhci_row (IsMade units.now set most chunk) result xhci.new) }
+{
+    hand_out_made(made(alloc, units, set, most, chunk), xhci)
+}
+
+/// The error is the number of the fault.
+fn made(
+    alloc: Global,
+    units: &[UasTasksUnit],
+    set: u8,
+    most: u16,
+    chunk: u16,
+) -> Result<Box<KeptXhci, Global>, u8>
+    ensures made { IfOk result (λ made. IsMade units.now set most chunk made.value) }
+    ensures fault { tells (made_number result) (making_fault units.now set most chunk) ≡ true }
+    ensures number { IfErr result (λ number. 0 < number) }
 {
     if let Some(fault) = making_fault(units, set, most, chunk) {
-        return fault;
+        return Err(fault);
     }
     let Ok(tasks) = make_tasks(alloc, units, set, most, chunk) else {
-        return NO_MEMORY;
+        return Err(NO_MEMORY);
     };
-    let Ok(made) = boxed(alloc, tasks) else {
-        return NO_MEMORY;
+    let Ok(machine) = Machine::new(alloc, tasks) else {
+        return Err(NO_MEMORY);
     };
-    *xhci = hand_out(made);
-    0
+    match Box::new(alloc, KeptXhci { machine }) {
+        Ok(made) => Ok(made),
+        Err(_) => Err(NO_MEMORY),
+    }
 }

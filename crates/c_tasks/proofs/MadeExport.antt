@@ -1,0 +1,281 @@
+-- The making of a handle of logical units for C, once for every type R behind one and every name N of it in C: the code of an export that makes a
+-- box and hands it out by `hand_out_made`, and that it meets the export's contract, where what makes the box meets its own.
+use Rattle.std.proofs.Common.{◌≡◌, ℕ, ◌<◌, List, [], ◌∷◌, true, refl, sym, subst, w8, w16}
+use Rattle.std.specs.Prelude.{IfErr, IfOk}
+use mir.Syntax.{Args, Callee, Dict, Fn, a_type, dcons, dnil, method, no_args}
+use mir.Syntax.{named, erased, imm, mut, ty_int, ty_ptr, ty_ref, deref, place, copy, addr_of, seq, assign, call, return}
+use mir.Val.{Val, vint}
+use base.Fraction.{full_share}
+use base.Logic.{ent, emp, sep, id⊢}
+use base.Fml.{Lft, ftrue, flft}
+use prog.Model.{Model}
+use prog.Routine.{◌≼⁺◌}
+use prog.Wired.{Wired}
+use prog.Wp.{Closed, WpFn}
+use seplogic.Ra.Ura.{Ura}
+use contract.BorrowLft.{◌⊑◌, ⊑_static}
+use contract.Monad.{fact, fact_i}
+use contract.Running.{Running, tables}
+use types.Logic.{Logic, sem}
+use types.Kit.{‵, raw, ◌⊛◌, some, later, ◌$◌, ◌∵◌, !, qed, by, move, keep, drop, split, split3, join, group, fsplit, pick, use0, use1, await}
+use types.Run.{stop, addr, no_more, and_then, returns, enter}
+use types.ByLocal.{alloc_all, pass_all, free_all, look_at, get, through, sets, lands_as}
+use denote.Exit.{yes}
+use denote.RattleType.{RattleType, owns}
+use denote.Laws.{Is, shows}
+use denote.Param.{bounded, layout, param}
+use denote.Param.Laws.{Laws}
+use denote.Plain.{uint_Lawful, uint_Tells}
+use denote.Signature.{types_at, plain}
+use denote.Builtin.{RawPtr, RefMutOf, u8, u16, SliceRefOf}
+use denote.Ref.{mut_vals}
+use denote.Slice.{shr_slice_vals, slice_ty}
+use denote.Steps.{nothing, only, heard, peeks}
+use denote.Triple.Entry.{Vals}
+use denote.Triple.Spec.{Meets, triple_of}
+use denote.Triple.Statement.{Triple}
+use denote.Triple.Call.{calls_at}
+use denote.Triple.Clauses.{Clauses, Ended, closing, lasts, Lasts}
+use denote.Triple.Walked.{Stays, stay_dropped, Goes-dropped, gave_ref, Goes-gave_ref, walk_of}
+use denote.Triple.Table.{framed}
+use Rattle.std.proofs.raw_atomic.Walks.{proved_at, leaves}
+use Rattle.std.specs.contracts.alloc.Global as heap
+use Rattle.std.proofs.alloc.Global.TheLaws as heap_laws
+use Rattle.c_common.specs.HandedOut.{handed_if_made, handed_out, made_number}
+use Rattle.c_common.specs.contracts.hand_out_made as over
+use Rattle.c_common.specs.contracts.hand_out_made.Key.{name as #hand_out}
+use Rattle.c_common.proofs.hand_out_made.Met.{met as over_met}
+use Rattle.c_common.proofs.hand_out_made.Symbol.{code as over_code}
+use Rattle.c_common.proofs.Behind.{Known, known_laws}
+use Rattle.c_common.proofs.ExportCode.{one_local}
+use Rattle.c_common.proofs.Given.{As, glue_of, letting_go, silent}
+use Rattle.c_common.proofs.HandedOut.{Made, as_it_was, handed, made_laws, one_value}
+use Rattle.c_tasks.specs.Making.{making_fault, tells}
+use Rattle.c_tasks.specs.declared.UasTasksUnit.{UasTasksUnit}
+use Rattle.c_tasks.specs.contracts.UasTasksUnit.{the_row as unit_row}
+
+-- what is made of these logical units, of the set of this number and most blocks, of this chunk
+abbrev pub MadeOf : RattleType → Type 1
+MadeOf R = List UasTasksUnit → ℕ → ℕ → ℕ → R.Denot → Type 0
+
+-- THE CODE
+
+abbrev pub function : RattleType → Callee → Callee → Fn
+function R make over = record {
+  lifetimes = 2;
+  outlives = [];
+  ty_params = [];
+  givens = 0;
+  params = 6;
+  locals = one_local (ty_int w8) ∷ one_local (layout heap.the_row) ∷ one_local (slice_ty (ty_ref (named 0) imm (unit_row.written.ty)))
+      ∷ one_local (ty_int w8) ∷ one_local (ty_int w16) ∷ one_local (ty_int w16) ∷ one_local (ty_ref (named 1) mut ty_ptr)
+      ∷ one_local (layout (Made (As R))) ∷ one_local (ty_ref erased mut ty_ptr) ∷ [];
+  body = seq (call make (copy (place 1 []) ∷ copy (place 2 []) ∷ copy (place 3 []) ∷ copy (place 4 []) ∷ copy (place 5 []) ∷ []) (place 7 []))
+      (seq (assign (place 8 []) (addr_of (place 6 (deref ty_ptr ∷ []))))
+      (seq (call over (copy (place 7 []) ∷ copy (place 8 []) ∷ []) (place 0 [])) return));
+}
+
+-- THE CONTRACT OF WHAT MAKES THE BOX
+
+abbrev pub made_ended : RattleType → Ended
+made_ended R = record {
+  signature = record {
+    lifetimes = 1;
+    outlives = [];
+    params = plain (λ κs. heap.the_row) ∷ SliceRefOf (0 ∷ []) tt (plain (λ κs. unit_row)) (λ κs. tt)
+        ∷ plain (λ κs. u8) ∷ plain (λ κs. u16) ∷ plain (λ κs. u16) ∷ [];
+    result = plain (λ κs. Made (As R));
+  };
+  kept = (yes, (yes, (yes, (yes, (yes, tt)))));
+}
+
+-- what is made is that, else the fault is told, and it is not 0
+abbrev pub made_clauses : (R : RattleType) → MadeOf R → {M : Type 1} {𝓤 : Ura M} (𝓛 : Logic 𝓤) → Clauses 𝓤 (made_ended R)
+made_clauses R IsMade {𝓤 = 𝓤} 𝓛 κs args =
+    let units = args.1.0.now in let set = args.1.1.0 in let most = args.1.1.1.0 in let chunk = args.1.1.1.1.0 in
+    record {
+      ghost = Unit {0};
+      requires = λ ghost. emp 𝓤;
+      ensures = λ ghost m end. sep 𝓤 (fact 𝓤 (IfOk m (λ made. IsMade units set most chunk made.value)))
+          (sep 𝓤 (fact 𝓤 (tells (made_number m) (making_fault units set most chunk) ≡ true)) (fact 𝓤 (IfErr m (λ number. 0 < number))));
+    }
+
+-- THE CONTRACT OF THE EXPORT
+
+abbrev pub ended : Ended
+ended = record {
+  signature = record {
+    lifetimes = 2;
+    outlives = [];
+    params = plain (λ κs. heap.the_row) ∷ SliceRefOf (0 ∷ []) tt (plain (λ κs. unit_row)) (λ κs. tt)
+        ∷ plain (λ κs. u8) ∷ plain (λ κs. u16) ∷ plain (λ κs. u16) ∷ RefMutOf (1 ∷ []) tt (plain (λ κs. RawPtr)) (λ κs. tt) ∷ [];
+    result = plain (λ κs. u8);
+  };
+  kept = (yes, (yes, (yes, (yes, (yes, (yes, tt))))));
+}
+
+-- the fault is told, the pointer stays where there is one, and else what was made is handed out
+abbrev pub clauses : (R : RattleType) → MadeOf R → {M : Type 1} {𝓤 : Ura M} (𝓛 : Logic 𝓤) → Clauses 𝓤 ended
+clauses R IsMade {𝓤 = 𝓤} 𝓛 κs args =
+    let units = args.1.0.now in let set = args.1.1.0 in let most = args.1.1.1.0 in let chunk = args.1.1.1.1.0 in
+    record {
+      ghost = Unit {0};
+      requires = λ ghost. emp 𝓤;
+      ensures = λ ghost r end. sep 𝓤 (fact 𝓤 (tells r (making_fault units set most chunk) ≡ true))
+          (sep 𝓤 (fact 𝓤 (0 < r → end.1.1.1.1.1.0.now ≡ args.1.1.1.1.1.0.now))
+          (sem 𝓛 (handed_out (param 0 (As R)) (IsMade units set most chunk) r end.1.1.1.1.1.0.now)));
+    }
+
+-- THE WALK
+
+abbrev stayed : Stays (ended).signature.params (ended).kept
+stayed = (
+  stay_dropped (plain (λ κs. heap.the_row)) yes,
+  (
+    stay_dropped (SliceRefOf (0 ∷ []) tt (plain (λ κs. unit_row)) (λ κs. tt)) yes,
+    (
+      stay_dropped (plain (λ κs. u8)) yes,
+      (stay_dropped (plain (λ κs. u16)) yes, (stay_dropped (plain (λ κs. u16)) yes, (gave_ref (1 ∷ []) tt (plain (λ κs. RawPtr)), tt))),
+    ),
+  ),
+)
+
+pub meets : (R N : RattleType) (L : Laws (As R)) (IsMade : MadeOf R) (dR : Dict) (make hands : Callee)
+    → ((κ : Lft) → κ ⊑ R.lives) → ((κ : Lft) → κ ⊑ N.lives)
+    → {M : Type 1} (𝓤 : Ura M) (𝓛 : Logic 𝓤) (𝓜 : Model 𝓤 𝓛.H) (𝓡 : Running 𝓤 𝓛.H 𝓜)
+    → Meets 𝓛 (made_ended R).signature ((tables 𝓤 𝓛.H 𝓜 𝓡 𝓡.env).C make) (closing 𝓛 (made_ended R) (made_clauses R IsMade 𝓛))
+    → Triple 𝓤 ((tables 𝓤 𝓛.H 𝓜 𝓡 𝓡.env).C hands)
+    (triple_of 𝓛 (over.signature (As R) (As N)) (over.spec (As R) (As N) dR 𝓛 𝓜.mem 𝓡.returns))
+    → (export : Callee)
+    → Closed 𝓤 𝓛.H (tables 𝓤 𝓛.H 𝓜 𝓡 𝓡.env).C (tables 𝓤 𝓛.H 𝓜 𝓡 𝓡.env).Λ export (function R make hands)
+    → Meets 𝓛 (ended).signature ((tables 𝓤 𝓛.H 𝓜 𝓡 𝓡.env).C export) (closing 𝓛 ended (clauses R IsMade 𝓛))
+meets R N L IsMade dR make hands within name_within 𝓤 𝓛 𝓜 𝓡 known known' export closed =
+    let H = 𝓛.H in
+    let 𝓣 = tables 𝓤 H 𝓜 𝓡 𝓡.env in
+    let c = clauses R IsMade 𝓛 in
+    let fn = function R make hands in
+    let T : RattleType = As R in
+    proved_at 𝓛 ended stayed c 𝓜 𝓡 (
+      Goes-dropped 𝓛 2 (plain (λ κs. heap.the_row)) yes (λ κs x f. refl),
+      (
+        Goes-dropped 𝓛 2 (SliceRefOf (0 ∷ []) tt (plain (λ κs. unit_row)) (λ κs. tt)) yes (λ κs x f. refl),
+        (
+          Goes-dropped 𝓛 2 (plain (λ κs. u8)) yes (λ κs x f. refl),
+          (
+            Goes-dropped 𝓛 2 (plain (λ κs. u16)) yes (λ κs x f. refl),
+            (Goes-dropped 𝓛 2 (plain (λ κs. u16)) yes (λ κs x f. refl), (Goes-gave_ref 𝓛 2 1 tt (plain (λ κs. RawPtr)), tt)),
+          ),
+        ),
+      ),
+    ) export fn closed (λ z are.
+    let W = walk_of 𝓛 ended stayed c in
+    let κs = z.0.0 in let κ₀ = κs.0 in let κ₁ = κs.1.0 in
+    let qs = z.0.1 in let q₀ = qs.0 in let q₁ = qs.1.0 in
+    let a = z.0.3 in let alloc = a.0 in let units = a.1.0 in let r = a.1.1.1.1.1.0 in
+    let set = a.1.1.0 in let most = a.1.1.1.0 in let chunk = a.1.1.1.1.0 in
+    let vh : Val = only z.0.4.0 in
+    let vs₂ : List Val = vint w8 set ∷ [] in
+    let vs₃ : List Val = vint w16 most ∷ [] in
+    let vs₄ : List Val = vint w16 chunk ∷ [] in
+    let vss : Vals (ended).signature κs = (vh ∷ [], (shr_slice_vals units, (vs₂, (vs₃, (vs₄, (mut_vals r, tt)))))) in
+    let eh : z.0.4.0 ≡ vh ∷ [] = one_value z.0.4.0 (heap_laws.the_row_laws.single alloc z.0.4.0 are.0) in
+    let es : z.0.4.1.1.0 ≡ vs₂ = uint_Tells w8 set z.0.4.1.1.0 are.1.1.0 in
+    let em : z.0.4.1.1.1.0 ≡ vs₃ = uint_Tells w16 most z.0.4.1.1.1.0 are.1.1.1.0 in
+    let ec : z.0.4.1.1.1.1.0 ≡ vs₄ = uint_Tells w16 chunk z.0.4.1.1.1.1.0 are.1.1.1.1.0 in
+    let At : Vals (ended).signature κs → W.Ghost = λ vss. ((κs, qs, z.0.2, a, vss), z.1) in
+    let Goes : Vals (ended).signature κs → Type 1 =
+    λ vss. ent 𝓤 (W.pre (At vss)) (WpFn 𝓤 H 𝓣.C 𝓣.Λ fn (W.args (At vss)) (W.post (At vss))) in
+    let z' : W.Ghost = At vss in
+    subst Goes (sym (λ i. (eh i, (are.1.0.0.0 i, (es i, (em i, (ec i, (are.1.1.1.1.1.0.0 i, tt)))))))) (
+    let Is_made = IsMade units.now set most chunk in
+    let fault = making_fault units.now set most chunk in
+    let O = made_ended R in
+    let G = triple_of 𝓛 O.signature (closing 𝓛 O (made_clauses R IsMade 𝓛)) in
+    let y : G.Ghost = (
+      ((κ₀, tt), (q₀, tt), tt, (alloc, (units, (set, (most, (chunk, tt))))), (vh ∷ [], (shr_slice_vals units, (vs₂, (vs₃, (vs₄, tt)))))),
+      tt,
+    ) in
+    let O' = over.ended T (As N) dR in
+    let G' = triple_of 𝓛 O'.signature (over.spec T (As N) dR 𝓛 𝓜.mem 𝓡.returns) in
+    let static = ‵ (flft [] full_share) in
+    let kept₀ = ‵ (flft κ₀ q₀) ⊛ ‵ ftrue in
+    let toks = ‵ (flft κ₁ q₁) ⊛ static ⊛ static ⊛ ‵ ftrue in
+    let brought = ‵ (owns (types_at (ended).signature.params κs) a vss) in
+    qed 𝓛 (((‵ (flft κ₀ q₀) ⊛ ‵ (flft κ₁ q₁) ⊛ ‵ ftrue) ⊛ brought) ∷ ‵ ftrue ∷ []) ∵
+    split ! $ split ! $ move ! (1 ∷ []) $ split ! $ move ! (3 ∷ []) $ fsplit ! $ move ! (1 ∷ []) $ fsplit ! $ move ! (1 ∷ []) $ fsplit ! $
+    move ! (1 ∷ []) $ fsplit ! $ move ! (1 ∷ []) $ fsplit ! $ move ! (1 ∷ []) $ fsplit ! $
+    -- [the borrow; nothing; chunk; most; set; the units; the allocator; a token; nothing; a token; nothing]
+    keep ! (6 ∷ 5 ∷ 4 ∷ 3 ∷ 2 ∷ 1 ∷ 9 ∷ 8 ∷ 0 ∷ 7 ∷ []) $ group ! 6 $ move ! (1 ∷ 2 ∷ []) $ group ! 2 $ join ! $
+    nothing ! $ move ! (1 ∷ 0 ∷ []) $ join ! $ use1 𝓛 (raw (G.pre y)) (id⊢ 𝓤 _) $
+    enter ! 𝓣.C 𝓣.Λ fn (W.args z') (W.post z') $ alloc_all ! (λ l.
+    pass_all ! refl (
+      ((heap_laws.the_row_laws.lawful 𝓛).typed alloc (vh ∷ []) (subst (Is heap.the_row alloc) eh are.0)).0,
+      (
+        (tt, (tt, (record { fits = are.1.0.0.1.0 }, tt))),
+        (
+          ((uint_Lawful 𝓛 w8).typed set vs₂ (subst (Is u8 set) es are.1.1.0)).0,
+          (
+            ((uint_Lawful 𝓛 w16).typed most vs₃ (subst (Is u16 most) em are.1.1.1.0)).0,
+            (((uint_Lawful 𝓛 w16).typed chunk vs₄ (subst (Is u16 chunk) ec are.1.1.1.1.0)).0, ((tt, tt), tt)),
+          ),
+        ),
+      ),
+    ) $
+    calls_at ! (framed 𝓤 H 𝓜 𝓣) G known y (and_then ! (get ! refl) (and_then ! (get ! refl) (and_then ! (get ! refl)
+    (and_then ! (get ! refl) (and_then ! (get ! refl) (no_more !)))))) (λ u.
+    use1 𝓛 (later (some (λ (m : (Made T).Denot). (kept₀ ⊛ ‵ ((Made T).own_val m (u ∷ []))) ⊛ some (λ (end : Lasts O y.0.0 y.0.3).
+    ‵ (lasts O y.0.0 y.0.3 end) ⊛ raw (fact 𝓤 (IfOk m (λ made. Is_made made.value))) ⊛ raw (fact 𝓤 (tells (made_number m) fault ≡ true))
+    ⊛ raw (fact 𝓤 (IfErr m (λ number. 0 < number))))))) (id⊢ 𝓤 _) $
+    await ! tt $ pick ! (λ m. split ! $ move ! (1 ∷ []) $ pick ! (λ end. split3 ! $ drop ! $
+    heard ! (IfOk m (λ made. Is_made made.value)) (λ is. split ! $
+    heard ! (tells (made_number m) fault ≡ true) (λ told. heard ! (IfErr m (λ number. 0 < number)) (λ not_0. split ! $ move ! (1 ∷ []) $
+    peeks ! (Made T) (Is (Made T)) (shows 𝓛 (Made T)) m (u ∷ []) (λ is_m.
+    lands_as ! refl refl (((made_laws T L).lawful 𝓛).typed m _ is_m).0 $
+    sets ! (addr ! (through ! refl (stop !))) refl (tt, tt) $
+    -- [what was made; the units' token; the borrow; its token]
+    move ! (0 ∷ 3 ∷ 2 ∷ 1 ∷ []) $ use0 𝓛 static (𝓛.lfts.lft-nil full_share) $ use0 𝓛 static (𝓛.lfts.lft-nil full_share) $ nothing ! $
+    move ! (4 ∷ 1 ∷ 2 ∷ 0 ∷ []) $ group ! 4 $
+    nothing ! $ move ! (2 ∷ 3 ∷ 0 ∷ []) $ group ! 3 $ move ! (1 ∷ 0 ∷ []) $ join ! $
+    nothing ! $ use0 𝓛 (raw (fact 𝓤 ([] ⊑ N.lives))) (fact_i 𝓤 ([] ⊑ N.lives) (emp 𝓤) (name_within [])) $ join ! $
+    use0 𝓛 (raw (fact 𝓤 ([] ⊑ R.lives))) (fact_i 𝓤 ([] ⊑ R.lives) (emp 𝓤) (within [])) $ join ! $ move ! (1 ∷ 0 ∷ []) $ join ! $
+    let y' : G'.Ghost = (
+      ((κ₁, ([], ([], tt))), (q₁, (full_share, (full_share, tt))), (⊑_static κ₁, tt), (m, (r, tt)), (u ∷ [], (mut_vals r, tt))),
+      tt,
+    ) in
+    use1 𝓛 (raw (G'.pre y')) (id⊢ 𝓤 _) $
+    calls_at ! (framed 𝓤 H 𝓜 𝓣) G' known' y' (and_then ! (get ! refl) (and_then ! (get ! refl) (no_more !))) (λ v.
+    use1 𝓛 (later (some (λ (n : ℕ). (toks ⊛ ‵ (u8.own_val n (v ∷ []))) ⊛ some (λ (end : Lasts O' y'.0.0 y'.0.3). ‵ (lasts O' y'.0.0 y'.0.3 end)
+    ⊛ raw (fact 𝓤 (n ≡ made_number m)) ⊛ raw (fact 𝓤 (IfErr m (λ _. end.1.0 ≡ r.now))) ⊛ ‵ (handed_if_made (param 0 T) m end.1.0))))) (id⊢ 𝓤 _) $
+    await ! tt $ pick ! (λ n. split ! $ move ! (1 ∷ []) $ pick ! (λ end. split3 ! $ fsplit ! $ drop ! $ fsplit ! $ move ! (1 ∷ []) $ drop ! $
+    move ! (1 ∷ 2 ∷ []) $ heard ! (n ≡ made_number m) (λ answer. split ! $ heard ! (IfErr m (λ _. end.1.0 ≡ r.now)) (λ kept.
+    use1 𝓛 (‵ (handed_out (param 0 T) Is_made n end.1.0)) (handed (param 0 T) Is_made 𝓛 m n end.1.0 is not_0 answer) $
+    move ! (2 ∷ []) $ split ! $ move ! (1 ∷ []) $ peeks ! u8 (Is u8) (shows 𝓛 u8) n (v ∷ []) (λ is_n.
+    lands_as ! refl refl ((uint_Lawful 𝓛 w8).typed n _ is_n).0 $ returns ! (look_at ! 0 refl) $ free_all ! refl $
+    -- [the answer; the tokens; what is handed out; the borrow; the units' token]
+    move ! (1 ∷ []) $ split ! $ move ! (5 ∷ []) $ split ! $ keep ! (0 ∷ 2 ∷ 1 ∷ 6 ∷ 4 ∷ 5 ∷ []) $ group ! 3 $
+    nothing ! $ move ! (2 ∷ 0 ∷ []) $ group ! 2 $ nothing ! $ nothing ! $ nothing ! $ nothing ! $ nothing ! $ group ! 6 $ move ! (3 ∷ []) $
+    use0 𝓛 (raw (fact 𝓤 (0 < n → end.1.0 ≡ r.now))) (fact_i 𝓤 (0 < n → end.1.0 ≡ r.now) (emp 𝓤) (as_it_was m n answer kept)) $ join ! $
+    use0 𝓛 (raw (fact 𝓤 (tells n fault ≡ true))) (fact_i 𝓤 (tells n fault ≡ true) (emp 𝓤)
+    (subst (λ (k : ℕ). tells k fault ≡ true) (sym answer) told)) $ join ! $ keep ! (2 ∷ 1 ∷ 3 ∷ 0 ∷ []) $
+    by ! (leaves 𝓛 ended stayed c z' v n (tt, (tt, (tt, (tt, (tt, (end.1.0, tt)))))) (tt, (tt, (tt, (tt, (tt, (tt, tt)))))))))))))))))))))))
+
+-- THE EXPORT OF A CRATE
+
+abbrev pub given_types : Known → Known → Dict → Args
+given_types type name drops = bounded (a_type ∷ a_type ∷ []) (As type.row, (As name.row, tt)) (dcons drops dnil)
+
+-- The crate has a type behind the handle, made so by `make`, and let go by the `drop` under the name s.
+pub exported : (type name : Known) (IsMade : MadeOf type.row) (drops : Dict)
+    → {M : Type 1} (𝓤 : Ura M) (𝓛 : Logic 𝓤) (𝓜 : Model 𝓤 𝓛.H) (𝓡 : Running 𝓤 𝓛.H 𝓜) → Wired 𝓡.env over_code
+    → (s : Callee) → 𝓡.env s ≼⁺ 𝓡.env (method drops 0 no_args) → Meets 𝓛 (letting_go type.row) (𝓡.run (𝓡.env s)) (silent type.row yes 𝓛)
+    → (make : Callee)
+    → Meets 𝓛 (made_ended type.row).signature ((tables 𝓤 𝓛.H 𝓜 𝓡 𝓡.env).C make) (closing 𝓛 (made_ended type.row) (made_clauses type.row IsMade 𝓛))
+    → (export : Callee)
+    → Closed 𝓤 𝓛.H (tables 𝓤 𝓛.H 𝓜 𝓡 𝓡.env).C (tables 𝓤 𝓛.H 𝓜 𝓡 𝓡.env).Λ export
+    (function type.row make (#hand_out (given_types type name drops)))
+    → Meets 𝓛 (ended).signature ((tables 𝓤 𝓛.H 𝓜 𝓡 𝓡.env).C export) (closing 𝓛 ended (clauses type.row IsMade 𝓛))
+exported type name IsMade drops 𝓤 𝓛 𝓜 𝓡 wired s above dropped make made export closed =
+    let glue = glue_of type.row yes drops 𝓤 𝓛 𝓜 𝓡 s above dropped in
+    meets type.row name.row (known_laws type) IsMade drops make (#hand_out (given_types type name drops)) type.within name.within
+    𝓤 𝓛 𝓜 𝓡 made
+    (over_met 𝓤 𝓛 𝓜 𝓡 wired (As type.row) (As name.row) (known_laws type) (known_laws name) drops glue) export closed

@@ -1,4 +1,7 @@
--- The registers of the whole controller, what a call makes of all of it, and the TRBs of its command ring.
+-- The registers of the whole controller, what a call makes of all of it, its command ring and its event ring, and what a turn leaves.
 pub mod Access
 pub mod Effects
 pub mod Commands
+pub mod Interrupter
+pub mod Ring
+pub mod Turns

@@ -1,7 +1,11 @@
 //! Interrupter 0: its event ring, by its segment table and ERDP (xHCI 1.2, 4.9.4, 4.17 and 6.5).
-ghost use Rattle.std.specs.Prelude.{◌≡◌, ◌||◌, ◌&&◌, ◌==◌, not, is_some, min, IfSome, Ok, Some, None, true, false};
-ghost use Rattle.guest_rings.specs.Events.{EventEnd};
+ghost use Rattle.std.specs.Prelude.{◌≡◌, ◌+◌, ◌<◌, ◌≤◌, ◌||◌, ◌&&◌, ◌==◌, not, is_ok, is_some, min, unwrap_or, IfSome, OnErr, Ok, Some, None, true, false};
+ghost use Rattle.std.specs.Result.{result_ok};
+ghost use Rattle.guest_pipes.specs.Step.{has_place};
+ghost use Rattle.guest_rings.specs.Events.{EventEnd, free_by};
 ghost use Rattle.xhci_machine.specs.Effects.{no_event_ring};
+ghost use Rattle.xhci_machine.specs.Interrupter.{IsInSegment, dequeued_at, event_posted, full_told, likeness, loaded, pointer_taken, ring_taken, seen_by, segment_of};
+ghost use Rattle.xhci_machine.specs.Interrupter.{table_seen, taken, tells_full};
 
 use byteorder::{ByteOrder, LittleEndian};
 use guest_memory::{GuestMemory, Outside};
@@ -26,10 +30,10 @@ pub(crate) struct Interrupts {
 
 /// The event ring of the segment table's one entry, or None where the table has no entry. Refused where the entry isn't there or is no
 /// segment.
-fn load<M: GuestMemory>(
-    memory: &M,
-    interrupter: &Interrupter,
-) -> Result<Option<EventRing>, Outside> {
+#[tactic(auto, unfolding(crate::specs::Interrupter::loaded))]
+fn load<M: GuestMemory>(memory: &M, interrupter: &Interrupter) -> Result<Option<EventRing>, Outside>
+    ensures { result_ok result ≡ loaded (M.contents memory.now) interrupter.now }
+{
     if interrupter.table_size == 0 {
         return Ok(None);
     }
@@ -39,7 +43,10 @@ fn load<M: GuestMemory>(
     segment(entry - entry % 64, LittleEndian::read_u16(&bytes[8..]))
 }
 
-fn segment(base: u64, places: u16) -> Result<Option<EventRing>, Outside> {
+/// A new ring in a segment. Refused where it isn't one.
+fn segment(base: u64, places: u16) -> Result<Option<EventRing>, Outside>
+    ensures { result_ok result ≡ segment_of base places }
+{
     if places < FEWEST_PLACES || places > MOST_PLACES {
         return Err(Outside);
     }
@@ -50,7 +57,10 @@ fn segment(base: u64, places: u16) -> Result<Option<EventRing>, Outside> {
 }
 
 /// The consumer's dequeue pointer is this now. Refused where it is outside the segment.
-fn dequeue(ring: &mut EventRing, pointer: u64) -> Result<(), Outside> {
+fn dequeue(ring: &mut EventRing, pointer: u64) -> Result<(), Outside>
+    ensures ring { ring.new ≡ unwrap_or (dequeued_at ring.old pointer) ring.old }
+    ensures done { is_ok result ≡ is_some (dequeued_at ring.old pointer) }
+{
     match ring.place_at(pointer) {
         Some(place) => {
             ring.dequeue(place);
@@ -60,12 +70,17 @@ fn dequeue(ring: &mut EventRing, pointer: u64) -> Result<(), Outside> {
     }
 }
 
-/// Posts an event. Refused where its place isn't there.
+/// Posts an event. Refused where its place isn't there, and then nothing changes.
+#[tactic(auto, unfolding(crate::specs::Interrupter::event_posted))]
 pub(crate) fn post<M: GuestMemory>(
     memory: &mut M,
     events: &mut EventRing,
     event: &Event,
 ) -> Result<(), Outside>
+    ensures done { is_ok result ≡ has_place (M.contents memory.old) events.old }
+    ensures posted { (M.contents memory.new, events.new) ≡ event_posted (M.contents memory.old) events.old event.now }
+    ensures outside { OnErr result (M.contents memory.new ≡ M.contents memory.old) }
+    ensures as_before { OnErr result (events.new ≡ events.old) }
     ensures same_loan { M.loan memory.new ≡ M.loan memory.old }
 {
     if !memory.has(events.enqueue_pointer(), 16) {
@@ -87,7 +102,9 @@ pub(crate) enum Seen {
 }
 
 /// The event ring that is loaded at the next step.
-fn see_table<M: GuestMemory>(memory: &M, interrupter: &Interrupter) -> Seen {
+fn see_table<M: GuestMemory>(memory: &M, interrupter: &Interrupter) -> Seen
+    ensures { result ≡ table_seen (M.contents memory.now) interrupter.now }
+{
     if interrupter.table_size == 0 {
         return Seen::Nothing;
     }
@@ -107,16 +124,37 @@ fn see_table<M: GuestMemory>(memory: &M, interrupter: &Interrupter) -> Seen {
     }
 }
 
-/// How many places of a ring are free where its consumer's dequeue place is this, up to 2.
-fn free_by(ring: &EventRing, place: u16) -> u16 {
-    let end = ring.enqueue_pointer();
-    let (next, second) = match ring.place_at(end.wrapping_add(16)) {
+/// The place so far ahead of a ring's next one; None behind the segment's end.
+#[tactic(auto, using(crate::proofs::Free::place_ahead, crate::proofs::Free::place_end))]
+fn place_ahead(ring: &EventRing, count: u64) -> Option<u16>
+    requires { count ≤ 2 }
+    ensures inside { IsInSegment ring.now → ring.now.place + count < ring.now.places → result ≡ Some (ring.now.place + count) }
+    ensures end { IsInSegment ring.now → ring.now.place + count ≡ ring.now.places → result ≡ None }
+{
+    ring.place_at(ring.enqueue_pointer().wrapping_add(16 * count))
+}
+
+/// The place behind a ring's next one, and the one behind that.
+fn places_behind(ring: &EventRing) -> (u16, u16)
+    ensures last { IsInSegment ring.now → ring.now.place + 1 ≡ ring.now.places → result ≡ (0, 1) }
+    ensures behind_end { IsInSegment ring.now → ring.now.place + 2 ≡ ring.now.places → result ≡ (ring.now.place + 1, 0) }
+    ensures inside { IsInSegment ring.now → ring.now.place + 2 < ring.now.places → result ≡ (ring.now.place + 1, ring.now.place + 2) }
+{
+    match place_ahead(ring, 1) {
         None => (0, 1),
-        Some(next) => match ring.place_at(end.wrapping_add(32)) {
+        Some(next) => match place_ahead(ring, 2) {
             None => (next, 0),
             Some(second) => (next, second),
         },
-    };
+    }
+}
+
+/// How many places of a ring are free where its consumer's dequeue place is this, up to 2.
+fn free_by(ring: &EventRing, place: u16) -> u16
+    requires { place < ring.now.places }
+    ensures { IsInSegment ring.now → result ≡ min (free_by ring.now place) 2 }
+{
+    let (next, second) = places_behind(ring);
     if place == next {
         0
     } else if place == second {
@@ -128,7 +166,8 @@ fn free_by(ring: &EventRing, place: u16) -> u16 {
 
 /// A ring with this one's next place, of which so many, up to 2, are free. Where that would go past 2^64, it begins some places before.
 fn see<M: GuestMemory>(memory: &M, ring: &EventRing, free: u16) -> Seen
-    ensures { (seen : EventEnd) → result ≡ Seen.Ring seen → seen.free ≡ min free 2 }
+    ensures seen { result ≡ likeness (M.contents memory.now) ring.now free }
+    ensures free { (seen : EventEnd) → result ≡ Seen.Ring seen → seen.free ≡ min free 2 }
 {
     let places = free.min(2) + 1;
     let last = u64::MAX - 16 * u64::from(places) + 1;
@@ -177,6 +216,7 @@ impl Interrupts {
         registers: &mut Registers,
     ) -> Result<Option<EventRing>, Outside>
         ensures kept { self.old.dequeued ≡ false → IfSome self.old.ring (λ ring. result ≡ Ok (Some ring)) }
+        ensures taken { (result_ok result, (self.new, registers.new)) ≡ taken (M.contents memory.now) self.old registers.old }
     {
         match self.take_ring(memory, &registers.interrupter)? {
             None => Ok(None),
@@ -196,6 +236,7 @@ impl Interrupts {
     ) -> Result<Option<EventRing>, Outside>
         ensures kept { IfSome self.old.ring (λ ring. result ≡ Ok (Some ring)) }
         ensures rest { IfSome self.old.ring (λ ring. self.new ≡ record self.old { ring = None }) }
+        ensures taken { (result_ok result, self.new) ≡ ring_taken (M.contents memory.now) interrupter.now self.old self.old.ring }
     {
         match self.ring.take() {
             Some(ring) => Ok(Some(ring)),
@@ -208,7 +249,11 @@ impl Interrupts {
     }
 
     /// Takes ERDP. Where its write cleared EHB while events are behind it, the interrupt is raised again (4.17.2).
-    fn dequeue(&mut self, ring: &mut EventRing, registers: &mut Registers) -> Result<(), Outside> {
+    fn dequeue(&mut self, ring: &mut EventRing, registers: &mut Registers) -> Result<(), Outside>
+        ensures noted { (ring.new, (self.new, registers.new))
+            ≡ unwrap_or (pointer_taken ring.old self.old registers.old) (ring.old, (self.old, registers.old)) }
+        ensures done { is_ok result ≡ is_some (pointer_taken ring.old self.old registers.old) }
+    {
         let pointer = registers.interrupter.dequeue;
         dequeue(ring, pointer)?;
         if self.cleared_busy && ring.enqueue_pointer() / 16 != pointer / 16 {
@@ -224,6 +269,8 @@ impl Interrupts {
     pub fn look<M: GuestMemory>(&self, memory: &M, interrupter: &Interrupter) -> Seen
         ensures free { self.now.dequeued ≡ false → IfSome self.now.ring (λ ring.
             (seen : EventEnd) → result ≡ Seen.Ring seen → seen.free ≡ min ring.free 2) }
+        ensures seen { self.now.dequeued ≡ false → result ≡ seen_by (M.contents memory.now) self.now interrupter.now self.now.ring }
+        ensures dequeued { IfSome self.now.ring IsInSegment → result ≡ seen_by (M.contents memory.now) self.now interrupter.now self.now.ring }
     {
         match &self.ring {
             None => see_table(memory, interrupter),
@@ -261,6 +308,8 @@ impl Interrupts {
     ) -> Result<(), Outside>
         ensures same_loan { M.loan memory.new ≡ M.loan memory.old }
         ensures told { self.new ≡ record self.old { told_full = self.old.told_full || events.old.free == 1 } }
+        ensures full { (M.contents memory.new, events.new) ≡ full_told (tells_full self.old events.old) (M.contents memory.old) events.old }
+        ensures done { is_ok result ≡ (not (tells_full self.old events.old) || has_place (M.contents memory.old) events.old) }
     {
         if self.told_full || events.free() != 1 {
             return Ok(());

@@ -1,7 +1,12 @@
 //! The command ring (xHCI 1.2, 4.6 and 4.9.3).
-ghost use Rattle.std.specs.Prelude.{◌≡◌, true, false, None};
+ghost use Rattle.std.specs.Prelude.{◌≡◌, true, false, is_ok, Some, None, OnErr, option_map, if◌then◌else◌};
+ghost use Rattle.std.specs.Result.{result_ok};
 ghost use Rattle.guest_pipes.specs.Step.{has_place};
+ghost use Rattle.guest_rings.specs.Ends.{behind};
 ghost use Rattle.xhci_machine.specs.Effects.{idle_ring};
+ghost use Rattle.xhci_machine.specs.Interrupter.{event_posted};
+ghost use Rattle.xhci_machine.specs.Ring.{changed, code_number, command_changed, command_cursor, control_changed, ended, has_command, on_slot_done};
+ghost use Rattle.xhci_machine.specs.Ring.{pipe_changed, pointer_home, slot_told, stood_at, stop_told};
 
 use crate::Machine;
 use crate::command::{Command, read_command};
@@ -67,7 +72,9 @@ impl CommandRing {
     }
 }
 
-fn number_of(code: Code) -> u8 {
+fn number_of(code: Code) -> u8
+    ensures { result ≡ code_number code }
+{
     match code {
         Code::Success => SUCCESS,
         Code::NoSlotsAvailable => 9,
@@ -78,7 +85,9 @@ fn number_of(code: Code) -> u8 {
 }
 
 /// The slot that the event of a command on a slot names: the one that was given out, or the command's.
-fn slot_told(slot: u8, command: SlotCommand, code: Code) -> u8 {
+fn slot_told(slot: u8, command: SlotCommand, code: Code) -> u8
+    ensures { result ≡ slot_told slot command code }
+{
     match (command, code) {
         (SlotCommand::Enable, Code::Success) => SLOT,
         (SlotCommand::Enable, _) => 0,
@@ -87,7 +96,9 @@ fn slot_told(slot: u8, command: SlotCommand, code: Code) -> u8 {
 }
 
 /// Where the dequeue pointer of an endpoint is in the device context at an address (6.2.3).
-pub(crate) fn pointer_home(context: u64, endpoint: u8) -> u64 {
+pub(crate) fn pointer_home(context: u64, endpoint: u8) -> u64
+    ensures { result ≡ pointer_home context endpoint }
+{
     context
         .wrapping_add(32 * u64::from(endpoint))
         .wrapping_add(8)
@@ -95,12 +106,16 @@ pub(crate) fn pointer_home(context: u64, endpoint: u8) -> u64 {
 
 impl Machine {
     /// Whether the command ring's stop is to be told, or it is to be looked at.
-    pub(crate) fn has_command(&self) -> bool {
+    pub(crate) fn has_command(&self) -> bool
+        ensures { result ≡ has_command self.now }
+    {
         self.commands.owes_stop || self.registers.command_ring.runs && self.commands.rung
     }
 
     /// Where the next command is.
-    pub(crate) fn command_cursor(&self) -> Cursor {
+    pub(crate) fn command_cursor(&self) -> Cursor
+        ensures { result ≡ command_cursor self.now }
+    {
         Cursor {
             place: self.registers.command_ring.pointer,
             cycle: self.registers.command_ring.cycle,
@@ -134,12 +149,16 @@ impl Machine {
         }
     }
 
-    /// Tells that the command ring was stopped.
+    /// Tells that the command ring was stopped. Refused where the event's place isn't there.
     fn tell_stop<M: GuestMemory>(
         &mut self,
         memory: &mut M,
         events: &mut EventRing,
     ) -> Result<Acted, Outside>
+        ensures posted { (M.contents memory.new, events.new)
+            ≡ event_posted (M.contents memory.old) events.old (Event.Command self.old.registers.command_ring.pointer 24 0) }
+        ensures told { self.new ≡ stop_told self.old }
+        ensures acted { result_ok result ≡ (if has_place (M.contents memory.old) events.old then Some Acted.Worked else None) }
         ensures same_loan { M.loan memory.new ≡ M.loan memory.old }
     {
         self.commands.owes_stop = false;
@@ -191,7 +210,8 @@ impl Machine {
         Ok(Acted::Worked)
     }
 
-    /// Posts the event of a command that has ended, and goes behind it.
+    /// Posts the event of a command that has ended, and goes behind it. Refused where the event's place isn't there, and then nothing
+    /// changes.
     fn end_command<M: GuestMemory>(
         &mut self,
         memory: &mut M,
@@ -199,6 +219,10 @@ impl Machine {
         cursor: Cursor,
         ended: Ended,
     ) -> Result<(), Outside>
+        ensures posted { (M.contents memory.new, events.new)
+            ≡ event_posted (M.contents memory.old) events.old (Event.Command cursor.place ended.code ended.slot) }
+        ensures stood { self.new ≡ (if has_place (M.contents memory.old) events.old then stood_at self.old (behind cursor) else self.old) }
+        ensures done { is_ok result ≡ has_place (M.contents memory.old) events.old }
         ensures same_loan { M.loan memory.new ≡ M.loan memory.old }
     {
         complete(memory, events, cursor, ended.code, ended.slot)?;
@@ -206,18 +230,25 @@ impl Machine {
         Ok(())
     }
 
-    fn stand_at(&mut self, cursor: Cursor) {
+    fn stand_at(&mut self, cursor: Cursor)
+        ensures { self.new ≡ stood_at self.old cursor }
+    {
         self.registers.command_ring.pointer = cursor.place;
         self.registers.command_ring.cycle = cursor.cycle;
     }
 
-    /// Executes a command on the slot.
+    /// Executes a command on the slot. Refused where memory that it needs isn't there, and then nothing changes.
+    #[tactic(auto, unfolding(crate::specs::Ring::on_slot_done))]
     fn on_slot<M: GuestMemory>(
         &mut self,
         memory: &mut M,
         slot: u8,
         command: SlotCommand,
     ) -> Result<Ended, Outside>
+        ensures done { on_slot_done (M.contents memory.old) self.old slot command
+            ≡ option_map (λ ended. (M.contents memory.new, (self.new, ended))) (result_ok result) }
+        ensures outside { OnErr result (M.contents memory.new ≡ M.contents memory.old) }
+        ensures as_before { OnErr result (self.new ≡ self.old) }
         ensures same_loan { M.loan memory.new ≡ M.loan memory.old }
     {
         if slot != SLOT && !matches!(command, SlotCommand::Enable) {
@@ -230,25 +261,50 @@ impl Machine {
     }
 
     /// The endpoints as a command on the slot left them; their contexts have their states already.
-    fn change(&mut self, changes: &Changes) {
-        let context = self.slot.context;
-        match changes.control {
-            Change::Kept => (),
-            Change::Disabled => self.control.disable(),
-            Change::Set { .. } => self.control.configure(pointer_home(context, 1)),
-        }
-        match changes.command {
-            Change::Kept => (),
-            Change::Disabled => self.transfers.disable_command(),
-            Change::Set { .. } => self.transfers.configure_command(pointer_home(context, 2)),
-        }
+    #[tactic(auto, unfolding(crate::specs::Ring::changed))]
+    fn change(&mut self, changes: &Changes)
+        ensures { self.new ≡ changed self.old changes.now }
+    {
+        self.change_control(changes.control);
+        self.change_command(changes.command);
         self.change_pipe(StreamPipe::Status, changes.status);
         self.change_pipe(StreamPipe::DataOut, changes.data_out);
         self.change_pipe(StreamPipe::DataIn, changes.data_in);
         self.told = self.states();
     }
 
-    fn change_pipe(&mut self, name: StreamPipe, change: Change) {
+    #[tactic(auto, unfolding(crate::specs::Ring::control_changed))]
+    fn change_control(&mut self, change: Change)
+        ensures { self.new ≡ control_changed self.old change }
+    {
+        match change {
+            Change::Kept => (),
+            Change::Disabled => self.control.disable(),
+            Change::Set { .. } => {
+                let home = pointer_home(self.slot.context, 1);
+                self.control.configure(home);
+            }
+        }
+    }
+
+    #[tactic(auto, unfolding(crate::specs::Ring::command_changed))]
+    fn change_command(&mut self, change: Change)
+        ensures { self.new ≡ command_changed self.old change }
+    {
+        match change {
+            Change::Kept => (),
+            Change::Disabled => self.transfers.disable_command(),
+            Change::Set { .. } => {
+                let home = pointer_home(self.slot.context, 2);
+                self.transfers.configure_command(home);
+            }
+        }
+    }
+
+    #[tactic(auto, unfolding(crate::specs::Ring::pipe_changed))]
+    fn change_pipe(&mut self, name: StreamPipe, change: Change)
+        ensures { self.new ≡ pipe_changed self.old name change }
+    {
         match change {
             Change::Kept => (),
             Change::Disabled => self.transfers.disable(name),
@@ -260,11 +316,13 @@ impl Machine {
     }
 }
 
-pub(crate) fn end_with(code: u8, slot: u8) -> Ended {
+pub(crate) fn end_with(code: u8, slot: u8) -> Ended
+    ensures { result ≡ ended code slot }
+{
     Ended { code, slot }
 }
 
-/// Posts the event of a command.
+/// Posts the event of a command. Refused where its place isn't there, and then nothing changes.
 fn complete<M: GuestMemory>(
     memory: &mut M,
     events: &mut EventRing,
@@ -272,6 +330,8 @@ fn complete<M: GuestMemory>(
     code: u8,
     slot: u8,
 ) -> Result<(), Outside>
+    ensures posted { (M.contents memory.new, events.new) ≡ event_posted (M.contents memory.old) events.old (Event.Command cursor.place code slot) }
+    ensures done { is_ok result ≡ has_place (M.contents memory.old) events.old }
     ensures same_loan { M.loan memory.new ≡ M.loan memory.old }
 {
     let event = Event::Command {

@@ -1,16 +1,17 @@
 //! The steps, in turns.
-ghost use Rattle.std.specs.Prelude.{◌≡◌, ◌<◌, ◌≤◌, false};
+ghost use Rattle.std.specs.Prelude.{◌≡◌, ◌<◌, ◌≤◌, ◌-◌, ◌==◌, ◌&&◌, is_ok, true, false, if◌then◌else◌};
+ghost use Rattle.guest_pipes.specs.Step.{has_place};
+ghost use Rattle.guest_rings.specs.Events.{has_room};
+ghost use Rattle.xhci_machine.specs.Turns.{interrupted, left_after, noted, port_turned, settled, tells_port, told_of_port};
 
 use crate::Machine;
 use crate::interrupts::post;
-use crate::states::{States, context_state};
 use guest_memory::{GuestMemory, Outside};
-use guest_pipes::{Acted, EndpointState};
+use guest_pipes::Acted;
 use guest_rings::{Event, EventRing};
 use guest_tags::UasDevice;
 use guest_transfers::StreamPipe;
 use uas_tasks::Wants;
-use xhci_contexts::Number;
 
 /// The root hub port of the disk.
 const DISK_PORT: u8 = 2;
@@ -32,11 +33,15 @@ struct Turn {
 }
 
 impl Turn {
-    fn is_over(&self) -> bool {
+    fn is_over(&self) -> bool
+        ensures { result ≡ (self.now.left == 0) }
+    {
         self.left == 0
     }
 
-    fn count(&mut self) {
+    fn count(&mut self)
+        ensures { self.new.left ≡ self.old.left - 1 }
+    {
         self.left = self.left.saturating_sub(1);
     }
 }
@@ -138,57 +143,34 @@ fn taken_of(budget: u32, left: u32, more: bool) -> Worked
 }
 
 impl Machine {
-    /// The endpoints' states.
-    pub(crate) fn states(&self) -> States {
-        States {
-            control: self.control.state(),
-            command: self.transfers.command().state,
-            status: self.transfers.pipe(StreamPipe::Status).state(),
-            data_out: self.transfers.pipe(StreamPipe::DataOut).state(),
-            data_in: self.transfers.pipe(StreamPipe::DataIn).state(),
-        }
-    }
-
-    /// Tells what a step left: an interrupt where an event asked for one, and endpoints' states in their contexts.
+    /// Tells what a step left: an interrupt where an event asked for one, and endpoints' states in their contexts. Refused where such a
+    /// context isn't there.
+    #[tactic(auto, unfolding(crate::specs::Turns::settled))]
     fn settle<M: GuestMemory>(
         &mut self,
         memory: &mut M,
         events: &mut EventRing,
     ) -> Result<(), Outside>
+        ensures settled { (record { memory = M.contents memory.new; events = events.new; machine = self.new }, is_ok result)
+            ≡ settled (record { memory = M.contents memory.old; events = events.old; machine = self.old }) }
         ensures same_loan { M.loan memory.new ≡ M.loan memory.old }
+    {
+        self.raise_asked(events);
+        self.tell_states(memory)
+    }
+
+    /// Raises an interrupt where an event asked for one.
+    fn raise_asked(&mut self, events: &mut EventRing)
+        ensures machine { self.new ≡ interrupted events.old.asks self.old }
+        ensures events { events.new ≡ record events.old { asks = false } }
     {
         if events.take_asks() {
             self.registers.raise();
         }
-        let (was, now) = (self.told, self.states());
-        if was == now {
-            return Ok(());
-        }
-        self.told = now;
-        self.tell_state(memory, Number::ControlPipe, was.control, now.control)?;
-        self.tell_state(memory, Number::CommandPipe, was.command, now.command)?;
-        self.tell_state(memory, Number::StatusPipe, was.status, now.status)?;
-        self.tell_state(memory, Number::DataOutPipe, was.data_out, now.data_out)?;
-        self.tell_state(memory, Number::DataInPipe, was.data_in, now.data_in)
-    }
-
-    fn tell_state<M: GuestMemory>(
-        &self,
-        memory: &mut M,
-        number: Number,
-        was: EndpointState,
-        now: EndpointState,
-    ) -> Result<(), Outside>
-        ensures same_loan { M.loan memory.new ≡ M.loan memory.old }
-    {
-        if was == now {
-            Ok(())
-        } else {
-            self.slot.tell(memory, number, context_state(now))
-        }
     }
 
     /// Counts what a step did, and tells what it left.
+    #[tactic(auto, unfolding(crate::specs::Turns::noted))]
     fn note<M: GuestMemory>(
         &mut self,
         memory: &mut M,
@@ -196,6 +178,9 @@ impl Machine {
         turn: &mut Turn,
         acted: Acted,
     ) -> Result<(), Outside>
+        ensures noted { (record { memory = M.contents memory.new; events = events.new; machine = self.new }, is_ok result)
+            ≡ noted (record { memory = M.contents memory.old; events = events.old; machine = self.old }) acted }
+        ensures left { turn.new.left ≡ left_after acted turn.old.left }
         ensures same_loan { M.loan memory.new ≡ M.loan memory.old }
     {
         match acted {
@@ -213,12 +198,34 @@ impl Machine {
         events: &mut EventRing,
         turn: &mut Turn,
     ) -> Result<(), Outside>
+        ensures turned { (record { memory = M.contents memory.new; events = events.new; machine = self.new }, is_ok result)
+            ≡ (if turn.old.left == 0 then (record { memory = M.contents memory.old; events = events.old; machine = self.old }, true)
+            else port_turned (record { memory = M.contents memory.old; events = events.old; machine = self.old })) }
+        ensures left { turn.new.left ≡ (if tells_port (record { memory = M.contents memory.old; events = events.old; machine = self.old })
+            then turn.old.left - 1 else turn.old.left) }
         ensures same_loan { M.loan memory.new ≡ M.loan memory.old }
     {
         if turn.is_over() {
             return Ok(());
         }
         self.registers.detect();
+        self.tell_port(memory, events, turn)
+    }
+
+    /// Tells of a change of the disk's port. Refused where the event's place isn't there, and then nothing changes.
+    #[tactic(auto, unfolding(crate::specs::Turns::told_of_port))]
+    fn tell_port<M: GuestMemory>(
+        &mut self,
+        memory: &mut M,
+        events: &mut EventRing,
+        turn: &mut Turn,
+    ) -> Result<(), Outside>
+        ensures told { (record { memory = M.contents memory.new; events = events.new; machine = self.new }, is_ok result)
+            ≡ told_of_port (record { memory = M.contents memory.old; events = events.old; machine = self.old }) }
+        ensures left { turn.new.left ≡ (if self.old.registers.port.owes_event && (has_room events.old && has_place (M.contents memory.old) events.old)
+            then turn.old.left - 1 else turn.old.left) }
+        ensures same_loan { M.loan memory.new ≡ M.loan memory.old }
+    {
         if !self.registers.port.owes_event {
             return Ok(());
         }

@@ -1,0 +1,146 @@
+-- Interrupter 0: the event ring of its segment table, the place of its consumer, and Event Ring Full Error (xHCI 1.2, 4.9.4, 4.17, 5.5.2 and
+-- 6.5). An answer None: memory isn't there, or an address or a size isn't one.
+use Rattle.std.specs.Prelude.{ℕ, ◌<◌, ◌≤◌, ◌+◌, ◌-◌, ◌*◌, ◌/◌, ◌%◌, ◌^◌, ◌==◌, nat_le, nat_lt, min, Bool, true, false, not, ◌&&◌, ◌||◌, if◌then◌else◌}
+use Rattle.std.specs.Prelude.{List, drop, Option, Some, None, option_map}
+use Rattle.byteorder.specs.Endian.{little_number}
+use Rattle.guest_memory.specs.Bytes.{Memory, ◌>>=◌, bytes_from, is_there, written}
+use Rattle.guest_rings.specs.declared.event.Event.{Event}
+use Rattle.guest_rings.specs.declared.event.Event.TheVariants.{RingFull}
+use Rattle.guest_rings.specs.Events.{EventEnd, enqueue_pointer, enqueued, event_bytes, free_by, has_room, place_at}
+use Rattle.guest_pipes.specs.Step.{has_place}
+use Rattle.guest_pipes.specs.Wanted.{place_range}
+use Rattle.xhci_registers.specs.declared.Interrupter.{Interrupter}
+use Rattle.xhci_registers.specs.declared.Registers.{Registers}
+use Rattle.xhci_registers.specs.Signals.{raised}
+use Rattle.xhci_machine.specs.declared.interrupts.Interrupts.{Interrupts}
+use Rattle.xhci_machine.specs.declared.interrupts.Seen.{Seen}
+use Rattle.xhci_machine.specs.declared.interrupts.Seen.TheVariants.{Lacks, Nothing, Ring}
+
+-- AN EVENT
+
+-- an event is written where the producer stands; nothing changes where that isn't there
+unfoldable pub event_posted : Memory → EventEnd → Event → Memory × EventEnd
+event_posted memory events event =
+    if has_place memory events then (written memory (enqueue_pointer events) (event_bytes event events.cycle), enqueued events false)
+    else (memory, events)
+
+-- Event Ring Full Error takes the last place, unless it was told already
+abbrev pub tells_full : Interrupts → EventEnd → Bool
+tells_full interrupts events = not interrupts.told_full && events.free == 1
+
+abbrev pub full_told : Bool → Memory → EventEnd → Memory × EventEnd
+full_told true memory events = event_posted memory events RingFull
+full_told false memory events = (memory, events)
+
+-- THE SEGMENT TABLE
+
+-- a ring that begins, of so many places
+abbrev pub new_ring : ℕ → ℕ → EventEnd
+new_ring base places = record { base = base; places = places; place = 0; cycle = true; free = places - 1; asks = false }
+
+-- a segment has 16 to 4,096 places, which end before 2 ^ 64 (6.5)
+abbrev pub segment_of : ℕ → ℕ → Option (Option EventEnd)
+segment_of base places =
+    if nat_lt places 16 || nat_lt 4096 places then None
+    else if nat_lt (base + 16 * places) (2 ^ 64) then Some (Some (new_ring base places)) else None
+
+-- an entry has the base, whose bits 5:0 aren't read, and then the count of places
+abbrev pub entry_ring : List ℕ → Option (Option EventEnd)
+entry_ring bytes = segment_of (little_number 8 bytes - little_number 8 bytes % 64) (little_number 2 (drop 8 bytes))
+
+-- the event ring of the table's one entry; none where the table has no entry
+unfoldable pub loaded : Memory → Interrupter → Option (Option EventEnd)
+loaded memory interrupter =
+    if interrupter.table_size == 0 then Some None else (bytes_from memory interrupter.table 16 >>= entry_ring)
+
+-- ERDP
+
+-- the ring whose consumer stands at this place
+abbrev pub dequeued_to : EventEnd → ℕ → EventEnd
+dequeued_to ring place = record ring { free = free_by ring place }
+
+-- and at this address, which is in the segment (5.5.2.3.3)
+abbrev pub dequeued_at : EventEnd → ℕ → Option EventEnd
+dequeued_at ring pointer = option_map (dequeued_to ring) (place_at ring pointer)
+
+-- where the write of ERDP cleared EHB while events are behind it, the interrupt is raised again (4.17.2)
+abbrev pub raised_again : Interrupts → EventEnd → Registers → Registers
+raised_again interrupts ring registers =
+    if interrupts.cleared_busy && not (enqueue_pointer ring / 16 == registers.interrupter.dequeue / 16) then raised registers else registers
+
+-- ERDP is taken; Event Ring Full Error is owed again once there is room
+abbrev pub dequeue_noted : Interrupts → EventEnd → Interrupts
+dequeue_noted interrupts ring =
+    record interrupts { dequeued = false; cleared_busy = false; told_full = interrupts.told_full && not (has_room ring) }
+
+-- the ring, and what is kept beside it
+abbrev pub pointer_noted : Interrupts → Registers → EventEnd → EventEnd × (Interrupts × Registers)
+pointer_noted interrupts registers ring = (ring, (dequeue_noted interrupts ring, raised_again interrupts ring registers))
+
+abbrev pub pointer_taken : EventEnd → Interrupts → Registers → Option (EventEnd × (Interrupts × Registers))
+pointer_taken ring interrupts registers =
+    option_map (pointer_noted interrupts registers) (dequeued_at ring registers.interrupter.dequeue)
+
+-- A STEP'S EVENT RING
+
+-- the ring that is kept; or else the table's, whose consumer is where ERDP says
+abbrev pub ring_taken : Memory → Interrupter → Interrupts → Option EventEnd → Option (Option EventEnd) × Interrupts
+ring_taken memory interrupter interrupts None =
+    (loaded memory interrupter, record interrupts { ring = None; dequeued = true; told_full = false })
+ring_taken memory interrupter interrupts (Some ring) = (Some (Some ring), record interrupts { ring = None })
+
+abbrev pub ring_noted : Interrupts → Registers → Option (EventEnd × (Interrupts × Registers)) → Option (Option EventEnd) × (Interrupts × Registers)
+ring_noted interrupts registers None = (None, (interrupts, registers))
+ring_noted interrupts registers (Some noted) = (Some (Some noted.0), noted.1)
+
+abbrev pub with_pointer : Registers → Option (Option EventEnd) × Interrupts → Option (Option EventEnd) × (Interrupts × Registers)
+with_pointer registers (None, interrupts) = (None, (interrupts, registers))
+with_pointer registers (Some None, interrupts) = (Some None, (interrupts, registers))
+with_pointer registers (Some (Some ring), interrupts) =
+    if interrupts.dequeued then ring_noted interrupts registers (pointer_taken ring interrupts registers)
+    else (Some (Some ring), (interrupts, registers))
+
+-- the step's event ring, and what is kept beside it until the ring comes back
+abbrev pub taken : Memory → Interrupts → Registers → Option (Option EventEnd) × (Interrupts × Registers)
+taken memory interrupts registers = with_pointer registers (ring_taken memory registers.interrupter interrupts interrupts.ring)
+
+-- A LOOK AT IT
+
+-- the producer stands in the segment, which has at most 4,096 places and ends by 2 ^ 64
+pub record IsInSegment (ring : EventEnd) : Type 0 where
+  pub place : ring.place < ring.places
+  pub most : ring.places ≤ 4096
+  pub ends : ring.base + 16 * ring.places ≤ 2 ^ 64
+
+-- a ring with this one's next place, of which so many, up to 2, are free; where that would go past 2 ^ 64, it begins some places before
+abbrev pub likeness : Memory → EventEnd → ℕ → Seen
+likeness memory ring free =
+    if nat_le (enqueue_pointer ring) (2 ^ 64 - 16 * (min free 2 + 1)) then Ring (new_ring (enqueue_pointer ring) (min free 2 + 1))
+    else if has_place memory ring then Ring (new_ring (2 ^ 64 - 16 * (min free 2 + 1)) (min free 2 + 1))
+    else Lacks (place_range ring)
+
+abbrev pub pointer_seen : Option EventEnd → Seen
+pointer_seen None = Nothing
+pointer_seen (Some ring) = Ring ring
+
+abbrev pub ring_seen : ℕ → Option (Option EventEnd) → Seen
+ring_seen pointer None = Nothing
+ring_seen pointer (Some None) = Nothing
+ring_seen pointer (Some (Some ring)) = pointer_seen (dequeued_at ring pointer)
+
+-- the table's, as it is loaded at the next step
+abbrev pub table_seen : Memory → Interrupter → Seen
+table_seen memory interrupter =
+    if interrupter.table_size == 0 then Nothing
+    else if is_there memory interrupter.table 16 then ring_seen interrupter.dequeue (loaded memory interrupter)
+    else Lacks (record { at = interrupter.table; count = 16 })
+
+abbrev pub place_seen : Memory → EventEnd → Option ℕ → Seen
+place_seen memory ring None = Nothing
+place_seen memory ring (Some place) = likeness memory ring (min (free_by ring place) 2)
+
+-- the ring that is kept, with its consumer where ERDP says if that was written; or else the table's
+abbrev pub seen_by : Memory → Interrupts → Interrupter → Option EventEnd → Seen
+seen_by memory interrupts interrupter None = table_seen memory interrupter
+seen_by memory interrupts interrupter (Some ring) =
+    if interrupts.dequeued then place_seen memory ring (place_at ring interrupter.dequeue) else likeness memory ring ring.free

@@ -1,11 +1,16 @@
 -- How the run `work` ends: what is printed, and the exit status.
-use Rattle.std.specs.Prelude.{◌≡◌, ℕ, ◌≤◌, ◌⊎◌, ◌&&◌, Bool, false, IsTrue, if◌then◌else◌, List, [], ◌++◌, length, map, replicate, Option}
+use Rattle.std.specs.Prelude.{◌≡◌, ℕ, ◌+◌, ◌-◌, ◌*◌, ◌^◌, ◌≤◌, ◌⊎◌, ◌&&◌, min, Bool, false, IsTrue, if◌then◌else◌, List, [], ◌++◌, length, map}
+use Rattle.std.specs.Prelude.{replicate, Option, None, Some}
 use Rattle.std.specs.Io.KnownBytes.{Appends, Keeps}
 use Rattle.block_unit.specs.BlockMaps.{BlockMaps, fresh}
 use Rattle.scsi_cmd.specs.declared.Reply.{Reply}
 use Rattle.uas_log.specs.declared.Log.{Log}
 use Rattle.uas_log.specs.Booking.{IsReplay}
+use Rattle.kept_log.specs.declared.Why.{Why}
+use Rattle.kept_log.specs.declared.Why.TheVariants as why
 use Rattle.uas_work.specs.Booked.{first_unit}
+use Rattle.uas_work.specs.declared.Ended.{Ended}
+use Rattle.uas_work.specs.declared.Ended.TheVariants as ended
 use Rattle.uas_replay.specs.declared.status.RunFault.TheVariants.{Image, ImageFile, Script, ScriptFile, NoMemory}
 use Rattle.uas_replay.specs.Runs.{status_of as run_status_of}
 use Rattle.work_run.specs.declared.faults.WorkFault.{WorkFault}
@@ -16,6 +21,10 @@ use Rattle.work_run.specs.Tallies.{all_whole, tallies_of, work_text}
 -- so many units of 64 zeroed blocks, none of them bad
 abbrev pub work_units : ℕ → List BlockMaps
 work_units clients = replicate clients (fresh 64 [])
+
+-- one step more than those of all rounds, 16 each, or the most that a log may hold. By hand: 2 clients and 3 rounds have room for 97
+abbrev pub step_limit : ℕ → ℕ → ℕ
+step_limit clients rounds = min (16 * clients * rounds + 1) (2 ^ 32 - 1)
 
 -- 0 where every client wrote, read and found equal each of its rounds, and every audit is true
 abbrev pub audited_status : ℕ → List (List Reply) → List Bool → ℕ
@@ -54,6 +63,22 @@ abbrev pub status_of : WorkFault → ℕ
 status_of LogFull = 4
 status_of LogFile = 3
 status_of (Run fault) = run_status_of fault
+
+-- the fault of threads that ended so; that the gate stopped them is told by the gate
+abbrev pub fault_of : Ended → Option WorkFault
+fault_of ended.Done = None
+fault_of ended.LogFull = Some LogFull
+fault_of ended.NoMemory = Some (Run NoMemory)
+fault_of ended.Stopped = None
+fault_of ended.NoThread = Some (Run NoMemory)
+
+-- why the log of such threads ended, as its file has it
+abbrev pub why_of : Ended → Why
+why_of ended.Done = why.Complete
+why_of ended.LogFull = why.LogFull
+why_of ended.NoMemory = why.NoMemory
+why_of ended.Stopped = why.LogFile
+why_of ended.NoThread = why.NoMemory
 
 -- A run gives up for want of memory or at a full log, with nothing printed; or at a fault of standard output, where that can fail.
 abbrev pub GivesUp : Bool → Option (List ℕ) → Option (List ℕ) → WorkFault → Type 0

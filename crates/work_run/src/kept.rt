@@ -1,10 +1,10 @@
 //! The run `work` whose log is kept in a file while it grows: whatever ends the program, the file has a beginning of the log.
 
-ghost use Rattle.std.specs.Prelude.{◌≡◌, ℕ, ◌≤◌, ◌⊎◌, Bool, List, Option, IsTrue, false, true, map, IfErr, IfOk, IfSome};
+ghost use Rattle.std.specs.Prelude.{◌≡◌, ℕ, ◌≤◌, ◌⊎◌, Bool, List, Option, None, IsTrue, false, true, map, IfErr, IfOk, IfSome};
 ghost use Rattle.std.specs.Io.KnownBytes.{Keeps};
 ghost use Rattle.byte_io.specs.Disks.{AreClients};
 ghost use Rattle.uas_work.specs.Booked.{first_unit};
-ghost use Rattle.work_run.specs.WorkEnds.{KeptGivesUp, Told, work_units};
+ghost use Rattle.work_run.specs.WorkEnds.{KeptGivesUp, Told, fault_of, why_of, work_units};
 
 use crate::Load;
 use crate::faults::WorkFault;
@@ -98,6 +98,7 @@ fn ran_kept<R: Threads + Wait + Clock + Sync, K: KeptFiles>(
     kept: Kept<'_>,
 ) -> Result<Finished, WorkFault>
     requires { AreClients load.clients }
+    ensures ended { IfOk result (λ finished. fault_of finished.ended ≡ None) }
     ensures units { IfOk result (λ finished. finished.booked.log.units ≡ map first_unit (work_units load.clients)) }
     ensures fault { IfErr result (λ fault. (can_fail : Bool) → (text : Option (List ℕ)) → KeptGivesUp can_fail text text fault) }
 {
@@ -116,7 +117,9 @@ fn keeper_of<K: KeptFiles>(
     booked: &Booked,
     files: &mut K,
     kept: Kept<'_>,
-) -> Result<Keeper<K::File>, KeepStop> {
+) -> Result<Keeper<K::File>, KeepStop>
+    ensures { IfOk result (λ keeper. keeper.writer.every ≡ kept.entry.every) }
+{
     let file = files.create(kept.file)?;
     Ok(Keeper::new(alloc, booked.log(), kept.every, file)?)
 }
@@ -130,6 +133,7 @@ fn ran_with<R: Threads + Wait + Clock + Sync, F: KeptFile + Drop + Send>(
     keeper: Keeper<F>,
 ) -> Result<Finished, WorkFault>
     requires { booked.log.units ≡ map first_unit (work_units load.clients) }
+    ensures ended { IfOk result (λ finished. fault_of finished.ended ≡ None) }
     ensures units { IfOk result (λ finished. finished.booked.log.units ≡ map first_unit (work_units load.clients)) }
     ensures fault { IfErr result (λ fault. (can_fail : Bool) → (text : Option (List ℕ)) → KeptGivesUp can_fail text text fault) }
 {
@@ -152,7 +156,8 @@ fn ended_fault<R, F: KeptFile + Drop>(
     keeping: Keeping<'_, R, F>,
     finished: &Finished,
 ) -> Option<WorkFault>
-    ensures { IfSome result (λ fault. (can_fail : Bool) → (text : Option (List ℕ)) → KeptGivesUp can_fail text text fault) }
+    ensures none { result ≡ None → fault_of finished.now.ended ≡ None }
+    ensures fault { IfSome result (λ fault. (can_fail : Bool) → (text : Option (List ℕ)) → KeptGivesUp can_fail text text fault) }
 {
     match end_log(alloc, keeping, finished) {
         Ok(()) => fault_of(finished.ended),
@@ -171,7 +176,9 @@ fn end_log<R, F: KeptFile + Drop>(
 }
 
 /// Why the log ended.
-fn why_of(ended: Ended) -> Why {
+fn why_of(ended: Ended) -> Why
+    ensures { result ≡ why_of ended }
+{
     match ended {
         Ended::Done => Why::Complete,
         Ended::LogFull => Why::LogFull,

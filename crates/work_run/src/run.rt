@@ -1,9 +1,9 @@
 //! The run `work`: the threads, what they left, and what is told of it.
 
-ghost use Rattle.std.specs.Prelude.{◌≡◌, ℕ, ◌+◌, ◌*◌, ◌^◌, ◌<◌, ◌≤◌, Bool, List, Option, false, map, IfOk, IfErr, IfSome};
+ghost use Rattle.std.specs.Prelude.{◌≡◌, ℕ, ◌^◌, ◌<◌, ◌≤◌, Bool, List, Option, None, false, map, IfOk, IfErr, IfSome};
 ghost use Rattle.byte_io.specs.Disks.{AreClients};
 ghost use Rattle.uas_work.specs.Booked.{first_unit};
-ghost use Rattle.work_run.specs.WorkEnds.{GivesUp, KeptGivesUp, Told, WorkEnds, work_units};
+ghost use Rattle.work_run.specs.WorkEnds.{GivesUp, KeptGivesUp, Told, WorkEnds, fault_of, step_limit, work_units};
 
 use crate::Load;
 use crate::faults::WorkFault;
@@ -124,6 +124,7 @@ pub(crate) fn ran<R: Threads + Wait + Sync>(
     load: Load,
 ) -> Result<Finished, WorkFault>
     requires { AreClients load.clients }
+    ensures ended { IfOk result (λ finished. fault_of finished.ended ≡ None) }
     ensures units { IfOk result (λ finished. finished.booked.log.units ≡ map first_unit (work_units load.clients)) }
     ensures fault { IfErr result (λ fault. (can_fail : Bool) → (text : Option (List ℕ)) → GivesUp can_fail text text fault) }
 {
@@ -144,6 +145,7 @@ pub(crate) fn ran<R: Threads + Wait + Sync>(
 
 /// The fault of a run that ended so, which printed nothing.
 pub(crate) fn fault_of(ended: Ended) -> Option<WorkFault>
+    ensures fault { result ≡ fault_of ended }
     ensures gives_up { IfSome result (λ fault. (can_fail : Bool) → (text : Option (List ℕ)) → GivesUp can_fail text text fault) }
     ensures kept { IfSome result (λ fault. (can_fail : Bool) → (text : Option (List ℕ)) → KeptGivesUp can_fail text text fault) }
 {
@@ -175,7 +177,7 @@ fn unstarted(failed: (AllocError, Booked)) -> AllocError {
 
 /// Two pumps and a controller beside the clients.
 fn plan_of(load: Load) -> Plan
-    ensures { 1 ≤ result.controllers }
+    ensures { result ≡ record { rounds = load.rounds; pumps = PumpCount.Two; controllers = 1 } }
 {
     Plan {
         rounds: load.rounds,
@@ -187,7 +189,8 @@ fn plan_of(load: Load) -> Plan
 /// The bus of so many zeroed units, whose log has room for the steps of all rounds.
 pub(crate) fn booked(alloc: Global, load: Load) -> Result<Booked, AllocError>
     requires { AreClients load.clients }
-    ensures { IfOk result (λ booked. booked.log.units ≡ map first_unit (work_units load.clients)) }
+    ensures units { IfOk result (λ booked. booked.log.units ≡ map first_unit (work_units load.clients)) }
+    ensures room { IfOk result (λ booked. booked.limit ≡ step_limit load.clients load.rounds) }
 {
     Booked::new(alloc, work_units(alloc, load.clients)?, step_limit(load))
 }
@@ -207,7 +210,7 @@ fn work_units(alloc: Global, clients: usize) -> Result<Vec<Unit>, AllocError>
 fn step_limit(load: Load) -> usize
     requires { AreClients load.clients }
     ensures fits { result < 2 ^ 32 }
-    ensures enough { 16 * load.clients * load.rounds + 1 < 2 ^ 32 → result ≡ 16 * load.clients * load.rounds + 1 }
+    ensures steps { result ≡ step_limit load.clients load.rounds }
 {
     let steps = ROUND_STEPS * load.clients as u64 * u64::from(load.rounds) + 1;
     steps.min(u64::from(u32::MAX)) as usize

@@ -1,22 +1,13 @@
 -- Requests that were answered, and one more.
-use Rattle.std.proofs.Common.{◌≡◌, ℕ, Bool, List, [], ◌∷◌, ◌++◌, Option, refl, sym, ap, subst, ◌∙◌, append_assoc, append-nil}
+use Rattle.std.proofs.Common.{◌≡◌, ℕ, Bool, List, [], ◌∷◌, ◌++◌, Option, refl, sym, subst}
 use Rattle.std.specs.Io.KnownBytes.{Appends, Consumes}
 use Rattle.std.proofs.KnownBytes.{Appends-nil, Appends-trans, Consumes-nil, Consumes-trans}
 use Rattle.nbd.specs.declared.transmission.Request.{Request}
 use Rattle.nbd.specs.Transmission.{request_text}
+use Rattle.serve_run.proofs.Transcripts.{replies_text-then, requests_text-then}
 use Rattle.serve_run.specs.Transcript.{Answered, asked_text, replies_text, requests_text, told_text}
 use Rattle.file_serve.specs.Filed.{Exports, Filed, IsAnswered}
 use Rattle.file_serve.specs.Sessions.{Answers, Turns}
-
-requests_text-then : (answers : List Answered) (a : Answered) → requests_text (answers ++ (a ∷ [])) ≡ requests_text answers ++ asked_text a
-requests_text-then [] a = append-nil (asked_text a)
-requests_text-then (b ∷ others) a =
-    ap (λ (t : List ℕ). asked_text b ++ t) (requests_text-then others a) ∙ sym (append_assoc (asked_text b) (requests_text others) (asked_text a))
-
-replies_text-then : (answers : List Answered) (a : Answered) → replies_text (answers ++ (a ∷ [])) ≡ replies_text answers ++ told_text a
-replies_text-then [] a = append-nil (told_text a)
-replies_text-then (b ∷ others) a =
-    ap (λ (t : List ℕ). told_text b ++ t) (replies_text-then others a) ∙ sym (append_assoc (told_text b) (replies_text others) (told_text a))
 
 -- no request changes nothing
 Exports-none : (can_fail tells : Bool) (size : ℕ) (file : Filed) → Exports can_fail tells size file [] file

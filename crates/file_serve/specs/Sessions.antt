@@ -1,8 +1,9 @@
 -- What a session with one client does: the bytes that it reads of the client and writes to it, and what becomes of the file.
-use Rattle.std.specs.Prelude.{◌≡◌, ℕ, ◌⊎◌, Bool, IsTrue, List, ◌++◌, length, Option}
+use Rattle.std.specs.Prelude.{◌≡◌, ℕ, Bool, true, false, IsTrue, List, ◌++◌, length, Option}
 use Rattle.std.specs.Io.KnownBytes.{Appends, Consumes}
 use Rattle.nbd.specs.declared.transmission.Request.{Request}
-use Rattle.serve_run.specs.Sessions.{IsLeaving, Talks}
+use Rattle.serve_run.specs.Handshake.{Shaken}
+use Rattle.serve_run.specs.Sessions.{IsLeaving}
 use Rattle.serve_run.specs.Transcript.{Answered, replies_text, requests_text, told_text}
 use Rattle.file_serve.specs.Filed.{Exports, Filed, IsAnswered}
 
@@ -44,13 +45,18 @@ pub record Left (old new : Filed) (left left_new written written_new : Option (L
   pub read : left_new ≡ left
   pub sent : written_new ≡ written
 
--- The bytes of the handshake were read and written, and then those of the requests and of their replies, if the client didn't leave before.
+-- Behind a handshake that began a transmission the client's requests were answered until it left.
+abbrev pub Went : Bool → (can_fail tells : Bool) → ℕ → (old new : Filed) → (left left_new written written_new : Option (List ℕ)) → Type 0
+Went true can_fail tells size old new left left_new written written_new = Transmitted can_fail tells size old new left left_new written written_new
+Went false can_fail tells size old new left left_new written written_new = Left old new left left_new written written_new
+
+-- A session, from the handshake on.
 pub record Talked (can_fail tells : Bool) (size : ℕ) (old new : Filed) (left left_new written written_new : Option (List ℕ)) : Type 0 where
+  pub begins : Bool
   pub left_greeted : Option (List ℕ)
   pub written_greeted : Option (List ℕ)
-  pub greeted : Talks left left_greeted written written_greeted
-  pub went : Transmitted can_fail tells size old new left_greeted left_new written_greeted written_new
-      ⊎ Left old new left_greeted left_new written_greeted written_new
+  pub shaken : Shaken size begins left left_greeted written written_greeted
+  pub went : Went begins can_fail tells size old new left_greeted left_new written_greeted written_new
 
 -- A file was served, with its own length as the export's: it holds what the session left in it, and all of that is safe.
 pub record Served (can_fail tells : Bool) (old new : Filed) (left left_new written written_new : Option (List ℕ)) : Type 0 where

@@ -12,7 +12,6 @@ use Rattle.serve_run.specs.declared.handshake.Next.{Next}
 use Rattle.serve_run.specs.declared.handshake.Next.TheVariants as next
 use Rattle.serve_run.specs.Handshake.{AreAnswered, Asked, EndsWith, IsAsked, OptionAnswered, ReadsHead, Shaken, answers_text, asked_text, lacks_zeros}
 use Rattle.serve_run.specs.Handshake.{may_take, next_behind, offered, options_text, told_text}
-use Rattle.serve_run.specs.Sessions.{Talks}
 
 -- AN OPTION
 
@@ -172,11 +171,4 @@ shaken_none size l m w x read end sent = record {
   ends = inl (refl, end);
   read = read;
   sent = subst (Appends w x) (sym (append-nil (greeting_text offered))) sent;
-}
-
--- some bytes were read and written
-pub shaken_talks : (size : ℕ) (begins : Bool) (l m w x : Option (List ℕ)) → Shaken size begins l m w x → Talks l m w x
-shaken_talks size begins l m w x s = record {
-  hears = record { bytes = s.flags ++ options_text (s.options ++ s.last); read = s.read };
-  says = record { bytes = greeting_text offered ++ answers_text size (lacks_zeros s.flags) (s.options ++ s.last); sent = s.sent };
 }

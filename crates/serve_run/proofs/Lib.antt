@@ -4,5 +4,5 @@ mod Faults
 mod Handshakes
 mod Served
 mod Serving
-mod Talking
-mod Transcripts
+pub mod Talking
+pub mod Transcripts

@@ -1,52 +1,42 @@
 -- A unit that was served.
-use Rattle.std.proofs.Common.{◌≡◌, ◌∙◌, ℕ, Bool, List, [], Option, None, Some, refl, sym, subst, inl, inr, append-nil}
-use Rattle.std.specs.Prelude.{IsTrue, IfSome}
-use Rattle.std.specs.Io.KnownBytes.{Appends, Consumes}
-use Rattle.std.proofs.KnownBytes.{Appends-trans, Consumes-trans}
+use Rattle.std.proofs.Common.{◌≡◌, ◌∙◌, ℕ, Bool, true, false, List, Option, None, Some, Result, Ok, refl, sym, ap, subst}
+use Rattle.std.specs.Prelude.{IsTrue, IfOk, IfSome}
 use Rattle.block_unit.specs.BlockMaps.{BlockMaps, imaged}
-use Rattle.disk_server.specs.Serving.{Serving, medium_of}
-use Rattle.serve_run.proofs.Transcripts.{Exports-none}
-use Rattle.serve_run.specs.Sessions.{Finished, Served, Talks, begun}
-use Rattle.serve_run.specs.Transcript.{replies_text}
-
--- a server begins with its unit's medium
-medium-begun : (unit : BlockMaps) → medium_of (begun unit).machine ≡ unit.medium
-unfolding begun
-medium-begun unit = refl
+use Rattle.disk_server.specs.Serving.{Serving, medium_of, size_of}
+use Rattle.serve_run.proofs.Talking.{on_ok_of}
+use Rattle.serve_run.specs.declared.fault.ServeFault.{ServeFault}
+use Rattle.serve_run.specs.Handshake.{Shaken}
+use Rattle.serve_run.specs.Sessions.{Finished, Served, begun}
 
 -- the client left in the handshake
 pub served_left : (can_fail tells : Bool) (unit : BlockMaps) (holds : List ℕ) (l ln w wn : Option (List ℕ))
-    → (IsTrue tells → holds ≡ unit.medium) → Talks l ln w wn → Served can_fail unit tells holds l ln w wn
-served_left can_fail tells unit holds l ln w wn held talks = record {
-  answers = [];
-  last = begun unit;
-  exports = Exports-none can_fail (begun unit);
-  heard = talks.hears.bytes;
-  ending = [];
-  read = subst (Consumes l ln) (sym (append-nil talks.hears.bytes)) talks.hears.read;
-  said = talks.says.bytes;
-  sent = subst (Appends w wn) (sym (append-nil talks.says.bytes)) talks.says.sent;
-  left_behind = begun unit;
-  flushed = inr (refl, refl);
-  held = λ t. held t ∙ sym (medium-begun unit);
+    → (IsTrue tells → holds ≡ unit.medium) → Shaken (size_of (begun unit)) false l ln w wn → Served can_fail unit tells holds l ln w wn
+served_left can_fail tells unit holds l ln w wn held shaken = record {
+  begins = false;
+  left_behind = ln;
+  written_behind = wn;
+  shaken = shaken;
+  is = (refl, refl, held);
 }
 
 -- its requests were answered, and all was flushed
-pub served_whole : (can_fail tells : Bool) (unit : BlockMaps) (new : Serving) (holds : List ℕ) (l m ln w x wn : Option (List ℕ)) → Talks l m w x
-    → Finished can_fail (begun unit) new m ln x wn → (IsTrue tells → holds ≡ medium_of new.machine) → Served can_fail unit tells holds l ln w wn
-served_whole can_fail tells unit new holds l m ln w x wn talks done held = record {
-  answers = done.talk.answers;
-  last = done.last;
-  exports = done.talk.exports;
-  heard = talks.hears.bytes;
-  ending = done.talk.ending;
-  read = Consumes-trans l m ln talks.hears.bytes _ talks.hears.read done.talk.read;
-  said = talks.says.bytes;
-  sent = Appends-trans w x wn talks.says.bytes (replies_text done.talk.answers) talks.says.sent done.talk.sent;
-  left_behind = new;
-  flushed = inl done.flushed;
-  held = held;
+pub served_whole : (can_fail tells : Bool) (unit : BlockMaps) (new : Serving) (holds : List ℕ) (l m ln w x wn : Option (List ℕ))
+    → Shaken (size_of (begun unit)) true l m w x → Finished can_fail (begun unit) new m ln x wn → (IsTrue tells → holds ≡ medium_of new.machine)
+    → Served can_fail unit tells holds l ln w wn
+served_whole can_fail tells unit new holds l m ln w x wn shaken done held = record {
+  begins = true;
+  left_behind = m;
+  written_behind = x;
+  shaken = shaken;
+  is = (new, done, held);
 }
+
+-- the handshake's export has the size of the unit's server
+pub of_begun : (unit : BlockMaps) (server : Serving) (size : ℕ) (r : Result Bool ServeFault) (begins : Bool) (l ln w wn : Option (List ℕ))
+    → server ≡ begun unit → size ≡ size_of server → r ≡ Ok begins → IfOk r (λ b. Shaken size b l ln w wn)
+    → Shaken (size_of (begun unit)) begins l ln w wn
+of_begun unit server size r begins l ln w wn is sized e shaken =
+    subst (λ (n : ℕ). Shaken n begins l ln w wn) (sized ∙ ap size_of is) (on_ok_of (λ b. Shaken size b l ln w wn) r begins e shaken)
 
 -- of the unit that the image's bytes make, and of the file as it was and is
 pub file_served : {A : Type 0} (file : Option (List ℕ)) (old new : Option A) (x y : A) (unit : BlockMaps) (bad : List ℕ) (P : BlockMaps → A → A → Type 0)

@@ -1,7 +1,10 @@
 -- What holds of a call by what it answered.
-use Rattle.std.proofs.Common.{◌≡◌, true, Option, None, Some, Result, Ok, Err}
-use Rattle.std.specs.Prelude.{IfErr, IfSome, OnOk, is_some}
+use Rattle.std.proofs.Common.{◌≡◌, true, subst, Option, None, Some, Result, Ok, Err}
+use Rattle.std.specs.Prelude.{IfErr, IfOk, IfSome, OnOk, is_some}
 use Rattle.std.proofs.lemmas.Bool.{false≢true}
+
+pub on_ok_of : {T E : Type 0} (P : T → Type 0) (r : Result T E) (x : T) → r ≡ Ok x → IfOk r P → P x
+on_ok_of {T = T} {E = E} P r x e p = subst (λ (s : Result T E). IfOk s P) e p
 
 pub on_ok : {T E P Q : Type 0} (r : Result T E) → (P → Q) → OnOk r P → OnOk r Q
 on_ok (Ok x) f p = f p

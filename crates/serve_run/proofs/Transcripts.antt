@@ -8,12 +8,12 @@ use Rattle.disk_server.specs.Serving.{Serving}
 use Rattle.serve_run.specs.Sessions.{Answers, Done, Leaves, Transmitted, Turns, Untold}
 use Rattle.serve_run.specs.Transcript.{Answered, Exports, IsAnswered, after_answer, asked_text, replies_text, requests_text, told_text}
 
-requests_text-then : (answers : List Answered) (a : Answered) → requests_text (answers ++ (a ∷ [])) ≡ requests_text answers ++ asked_text a
+pub requests_text-then : (answers : List Answered) (a : Answered) → requests_text (answers ++ (a ∷ [])) ≡ requests_text answers ++ asked_text a
 requests_text-then [] a = append-nil (asked_text a)
 requests_text-then (b ∷ others) a =
     ap (λ (t : List ℕ). asked_text b ++ t) (requests_text-then others a) ∙ sym (append_assoc (asked_text b) (requests_text others) (asked_text a))
 
-replies_text-then : (answers : List Answered) (a : Answered) → replies_text (answers ++ (a ∷ [])) ≡ replies_text answers ++ told_text a
+pub replies_text-then : (answers : List Answered) (a : Answered) → replies_text (answers ++ (a ∷ [])) ≡ replies_text answers ++ told_text a
 replies_text-then [] a = append-nil (told_text a)
 replies_text-then (b ∷ others) a =
     ap (λ (t : List ℕ). told_text b ++ t) (replies_text-then others a) ∙ sym (append_assoc (told_text b) (replies_text others) (told_text a))

@@ -1,5 +1,5 @@
 -- What one call of a session does: the bytes that it reads of the client and writes to it, and what becomes of the server.
-use Rattle.std.specs.Prelude.{◌≡◌, ℕ, ◌⊎◌, ◌≤◌, Bool, IsTrue, List, [], ◌++◌, length, Option, None}
+use Rattle.std.specs.Prelude.{◌≡◌, ℕ, ◌⊎◌, ◌≤◌, Bool, true, false, IsTrue, List, [], ◌++◌, length, Option, None}
 use Rattle.std.specs.Io.KnownBytes.{Appends, Consumes, IsAtEnd}
 use Rattle.block_unit.specs.BlockMaps.{BlockMaps}
 use Rattle.nbd.specs.declared.transmission.Command.TheVariants.{Disconnect}
@@ -7,23 +7,9 @@ use Rattle.nbd.specs.declared.transmission.ErrorNumber.{ErrorNumber}
 use Rattle.nbd.specs.declared.transmission.ErrorNumber.TheVariants as error
 use Rattle.nbd.specs.declared.transmission.Request.{Request}
 use Rattle.nbd.specs.Transmission.{request_text}
-use Rattle.disk_server.specs.Serving.{IsFlushTold, Serving, after_saving, medium_of, opening_serving, synced}
+use Rattle.disk_server.specs.Serving.{IsFlushTold, Serving, after_saving, medium_of, opening_serving, size_of, synced}
+use Rattle.serve_run.specs.Handshake.{Shaken}
 use Rattle.serve_run.specs.Transcript.{Answered, Exports, IsAnswered, after_answer, replies_text, requests_text, told_text}
-
--- some bytes were read
-pub record Hears (left left_new : Option (List ℕ)) : Type 0 where
-  pub bytes : List ℕ
-  pub read : Consumes left left_new bytes
-
--- some bytes were written
-pub record Says (written written_new : Option (List ℕ)) : Type 0 where
-  pub bytes : List ℕ
-  pub sent : Appends written written_new bytes
-
--- both
-pub record Talks (left left_new written written_new : Option (List ℕ)) : Type 0 where
-  pub hears : Hears left left_new
-  pub says : Says written written_new
 
 -- a request that was read is answered: what it brought is read, and its reply is written
 pub record Answers (can_fail : Bool) (request : Request) (old new : Serving) (left left_new written written_new : Option (List ℕ)) : Type 0 where
@@ -86,21 +72,22 @@ pub record Finished (can_fail : Bool) (old new : Serving) (left left_new written
 unfoldable pub begun : BlockMaps → Serving
 begun unit = opening_serving unit
 
--- A unit was served: behind the bytes of the handshake, `heard` and `said`, stand those of the requests and of their replies. The file
--- holds the medium as it is once all was flushed; of a client that left in the handshake, as it was.
+-- Behind a handshake that began a transmission the requests of the client were answered until it left, all was flushed, and the file holds the
+-- medium. Behind one that didn't nothing was read or written, and the file holds what it did.
+abbrev pub IsServed : Bool → Bool → BlockMaps → Bool → List ℕ → (left left_new written written_new : Option (List ℕ)) → Type 0
+IsServed true can_fail unit tells holds left left_new written written_new =
+    (new : Serving) × Finished can_fail (begun unit) new left left_new written written_new × (IsTrue tells → holds ≡ medium_of new.machine)
+IsServed false can_fail unit tells holds left left_new written written_new =
+    (left_new ≡ left) × (written_new ≡ written) × (IsTrue tells → holds ≡ unit.medium)
+
+-- A unit was served, from the handshake on.
 pub record Served (can_fail : Bool) (unit : BlockMaps) (tells : Bool) (holds : List ℕ)
     (left left_new written written_new : Option (List ℕ)) : Type 0 where
-  pub answers : List Answered
-  pub last : Serving
-  pub exports : Exports can_fail (begun unit) answers last
-  pub heard : List ℕ
-  pub ending : List ℕ
-  pub read : Consumes left left_new (heard ++ (requests_text answers ++ ending))
-  pub said : List ℕ
-  pub sent : Appends written written_new (said ++ replies_text answers)
-  pub left_behind : Serving
-  pub flushed : (left_behind.machine ≡ (synced last).serving.machine) ⊎ ((answers ≡ []) × (left_behind.machine ≡ last.machine))
-  pub held : IsTrue tells → holds ≡ medium_of left_behind.machine
+  pub begins : Bool
+  pub left_behind : Option (List ℕ)
+  pub written_behind : Option (List ℕ)
+  pub shaken : Shaken (size_of (begun unit)) begins left left_behind written written_behind
+  pub is : IsServed begins can_fail unit tells holds left_behind left_new written_behind written_new
 
 -- Behind what it has done the server flushed: where that was done, the file holds the medium.
 pub record Flushed (can_fail tells : Bool) (holds : List ℕ) (old new : Serving) (left written : Option (List ℕ)) : Type 0 where
@@ -115,6 +102,6 @@ pub record Flushed (can_fail tells : Bool) (holds : List ℕ) (old new : Serving
 pub record Broken (can_fail : Bool) (unit : BlockMaps) (tells : Bool) (holds : List ℕ) (left written : Option (List ℕ)) : Type 0 where
   pub left_behind : Option (List ℕ)
   pub written_behind : Option (List ℕ)
-  pub talks : Talks left left_behind written written_behind
+  pub shaken : Shaken (size_of (begun unit)) true left left_behind written written_behind
   pub new : Serving
   pub flushed : Flushed can_fail tells holds (begun unit) new left_behind written_behind

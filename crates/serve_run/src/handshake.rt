@@ -6,7 +6,6 @@ ghost use Rattle.std.specs.Io.KnownBytes.{Appends};
 ghost use Rattle.serve_run.specs.Handshake.{OptionAnswered, ReadsHead, Shaken, Tested};
 ghost use Rattle.serve_run.specs.Handshake.{export_information, export_of, informed, is_well_formed, is_whole_ask, listed};
 ghost use Rattle.serve_run.specs.Handshake.{next_of, replied, sizes_information, told_export, told_option};
-ghost use Rattle.serve_run.specs.Sessions.{Talks};
 
 use crate::fault::ServeFault;
 use crate::link::{drop_rest, read_message, read_rest, send};
@@ -56,8 +55,7 @@ pub fn shake<S: Source, O: Sink>(
     output: &mut O,
     size: u64,
 ) -> Result<bool, ServeFault>
-    ensures talks { OnOk result (Talks (S.left input.old) (S.left input.new) (O.written output.old) (O.written output.new)) }
-    ensures shaken { IfOk result (λ begins. Shaken size begins (S.left input.old) (S.left input.new) (O.written output.old) (O.written output.new)) }
+    ensures { IfOk result (λ begins. Shaken size begins (S.left input.old) (S.left input.new) (O.written output.old) (O.written output.new)) }
 {
     send(output, &greeting(ServerFlags(OFFERED)))?;
     let mut taken = [0; 4];

@@ -12,7 +12,8 @@ pub returns-then-ne-clause-answered : goal.returns-then-ne-clause-answered
 returns-then-ne-clause-answered g c = λ e.
     let none : c.refuse.result ≡ None = cc in
     let is : c.refusal_of-refusal.result ≡ refusal_of (size_of c.args.server.now) c.args.request.now =
-    c.refusal_of-refusal.ensures ∙ ap (λ (n : ℕ). refusal_of n c.args.request.now) c.size.ensures.size in
+    ◌∙◌ {b = refusal_of c.size.result c.args.request.now} c.refusal_of-refusal.ensures
+    (ap (λ (n : ℕ). refusal_of n c.args.request.now) c.size.ensures.size) in
     let refused : is_done c.refusal_of-refusal.result ≡ false = search (rules, tests) in
     refusal_answers _ c.args.request.now c.refusal_of-refusal.result c.args.server.now _ _ _ _ is refused (c.refuse.ensures.read none)
     (c.refuse.ensures.sent none)

@@ -5,3 +5,4 @@ pub mod Commands
 pub mod Interrupter
 pub mod Ring
 pub mod Turns
+pub mod Steps

@@ -81,7 +81,8 @@ interrupted false m = m
 
 abbrev pub with_told : Machine → EventEnd → Memory × Bool → World × Bool
 with_told m events after =
-    (record { memory = after.0; events = record events { asks = false }; machine = record (interrupted events.asks m) { told = states_of m } }, after.1)
+    let left = record (interrupted events.asks m) { told = states_of m } in
+    (record { memory = after.0; events = record events { asks = false }; machine = left }, after.1)
 
 unfoldable pub settled : World → World × Bool
 settled w = with_told w.machine w.events (states_told w.memory w.machine.slot w.machine.told (states_of w.machine))

@@ -1,5 +1,5 @@
 //! The command ring (xHCI 1.2, 4.6 and 4.9.3).
-ghost use Rattle.std.specs.Prelude.{◌≡◌, true, false, is_ok, Some, None, OnErr, option_map, if◌then◌else◌};
+ghost use Rattle.std.specs.Prelude.{◌≡◌, true, false, is_ok, IfSome, Some, None, OnErr, option_map, if◌then◌else◌};
 ghost use Rattle.std.specs.Result.{result_ok};
 ghost use Rattle.guest_pipes.specs.Step.{has_place};
 ghost use Rattle.guest_rings.specs.Ends.{behind};
@@ -7,13 +7,14 @@ ghost use Rattle.xhci_machine.specs.Effects.{idle_ring};
 ghost use Rattle.xhci_machine.specs.Interrupter.{event_posted};
 ghost use Rattle.xhci_machine.specs.Ring.{changed, code_number, command_changed, command_cursor, control_changed, ended, has_command, on_slot_done};
 ghost use Rattle.xhci_machine.specs.Ring.{pipe_changed, pointer_home, slot_told, stood_at, stop_told};
+ghost use Rattle.xhci_machine.specs.Steps.{command_ended, command_taken, commands_stepped, front_taken, link_followed, slot_command_taken};
 
 use crate::Machine;
 use crate::command::{Command, read_command};
 use crate::interrupts::post;
 use guest_memory::{GuestMemory, Outside};
 use guest_pipes::{Acted, room_gate};
-use guest_rings::{Cursor, Event, EventRing, Words, fetch};
+use guest_rings::{Cursor, Event, EventRing, fetch};
 use guest_transfers::StreamPipe;
 use xhci_slots::{Change, Changes, Code, SlotCommand};
 
@@ -122,20 +123,36 @@ impl Machine {
         }
     }
 
-    /// Takes the command in front, where there is one.
+    /// Takes the command in front, where there is one. Refused where memory that it needs isn't there.
+    #[tactic(auto, unfolding(crate::specs::Steps::commands_stepped))]
     pub(crate) fn step_commands<M: GuestMemory>(
         &mut self,
         memory: &mut M,
         events: &mut EventRing,
     ) -> Result<Acted, Outside>
+        ensures stepped { IfSome (commands_stepped (record { memory = M.contents memory.old; events = events.old; machine = self.old }))
+            (λ after. (record { memory = M.contents memory.new; events = events.new; machine = self.new }, result_ok result) ≡ after) }
         ensures same_loan { M.loan memory.new ≡ M.loan memory.old }
     {
         if !self.has_command() {
             return Ok(Acted::Idle);
         }
-        if let Some(acted) = room_gate(memory, events)? {
-            return Ok(acted);
+        match room_gate(memory, events)? {
+            Some(acted) => Ok(acted),
+            None => self.take_front(memory, events),
         }
+    }
+
+    #[tactic(auto, unfolding(crate::specs::Steps::front_taken))]
+    fn take_front<M: GuestMemory>(
+        &mut self,
+        memory: &mut M,
+        events: &mut EventRing,
+    ) -> Result<Acted, Outside>
+        ensures taken { IfSome (front_taken (record { memory = M.contents memory.old; events = events.old; machine = self.old }))
+            (λ after. (record { memory = M.contents memory.new; events = events.new; machine = self.new }, result_ok result) ≡ after) }
+        ensures same_loan { M.loan memory.new ≡ M.loan memory.old }
+    {
         if self.commands.owes_stop {
             return self.tell_stop(memory, events);
         }
@@ -145,7 +162,7 @@ impl Machine {
                 self.commands.rung = false;
                 Ok(Acted::Emptied)
             }
-            Some(words) => self.take_command(memory, events, cursor, words),
+            Some(words) => self.take_command(memory, events, cursor, read_command(words)),
         }
     }
 
@@ -176,21 +193,18 @@ impl Machine {
         memory: &mut M,
         events: &mut EventRing,
         cursor: Cursor,
-        words: Words,
+        command: Command,
     ) -> Result<Acted, Outside>
+        ensures taken { IfSome (command_taken (record { memory = M.contents memory.old; events = events.old; machine = self.old }) cursor command)
+            (λ after. (record { memory = M.contents memory.new; events = events.new; machine = self.new }, result_ok result) ≡ after) }
         ensures same_loan { M.loan memory.new ≡ M.loan memory.old }
     {
-        match read_command(words) {
+        match command {
             Command::Link {
                 pointer,
                 toggle,
                 ioc,
-            } => {
-                if ioc {
-                    complete(memory, events, cursor, SUCCESS, 0)?;
-                }
-                self.stand_at(cursor.follow(pointer, toggle));
-            }
+            } => self.follow(memory, events, cursor, cursor.follow(pointer, toggle), ioc)?,
             Command::OnEndpoint {
                 slot,
                 endpoint,
@@ -201,8 +215,7 @@ impl Machine {
                 }
             }
             Command::OnSlot { slot, command } => {
-                let ended = self.on_slot(memory, slot, command)?;
-                self.end_command(memory, events, cursor, ended)?;
+                self.take_on_slot(memory, events, cursor, slot, command)?;
             }
             Command::NoOp => self.end_command(memory, events, cursor, end_with(SUCCESS, 0))?,
             Command::Foreign => self.end_command(memory, events, cursor, end_with(TRB_ERROR, 0))?,
@@ -210,8 +223,47 @@ impl Machine {
         Ok(Acted::Worked)
     }
 
+    /// Follows a Link; with IOC it posts Success.
+    #[tactic(auto, unfolding(crate::specs::Steps::link_followed))]
+    fn follow<M: GuestMemory>(
+        &mut self,
+        memory: &mut M,
+        events: &mut EventRing,
+        cursor: Cursor,
+        to: Cursor,
+        ioc: bool,
+    ) -> Result<(), Outside>
+        ensures followed { (record { memory = M.contents memory.new; events = events.new; machine = self.new }, is_ok result)
+            ≡ link_followed (record { memory = M.contents memory.old; events = events.old; machine = self.old }) cursor to ioc }
+        ensures same_loan { M.loan memory.new ≡ M.loan memory.old }
+    {
+        if ioc {
+            complete(memory, events, cursor, SUCCESS, 0)?;
+        }
+        self.stand_at(to);
+        Ok(())
+    }
+
+    #[tactic(auto, unfolding(crate::specs::Steps::slot_command_taken))]
+    fn take_on_slot<M: GuestMemory>(
+        &mut self,
+        memory: &mut M,
+        events: &mut EventRing,
+        cursor: Cursor,
+        slot: u8,
+        command: SlotCommand,
+    ) -> Result<(), Outside>
+        ensures taken { (record { memory = M.contents memory.new; events = events.new; machine = self.new }, is_ok result)
+            ≡ slot_command_taken (record { memory = M.contents memory.old; events = events.old; machine = self.old }) cursor slot command }
+        ensures same_loan { M.loan memory.new ≡ M.loan memory.old }
+    {
+        let ended = self.on_slot(memory, slot, command)?;
+        self.end_command(memory, events, cursor, ended)
+    }
+
     /// Posts the event of a command that has ended, and goes behind it. Refused where the event's place isn't there, and then nothing
     /// changes.
+    #[tactic(auto, unfolding(crate::specs::Steps::command_ended))]
     fn end_command<M: GuestMemory>(
         &mut self,
         memory: &mut M,
@@ -221,6 +273,8 @@ impl Machine {
     ) -> Result<(), Outside>
         ensures posted { (M.contents memory.new, events.new)
             ≡ event_posted (M.contents memory.old) events.old (Event.Command cursor.place ended.code ended.slot) }
+        ensures ended { (record { memory = M.contents memory.new; events = events.new; machine = self.new }, is_ok result)
+            ≡ command_ended (record { memory = M.contents memory.old; events = events.old; machine = self.old }) cursor ended }
         ensures stood { self.new ≡ (if has_place (M.contents memory.old) events.old then stood_at self.old (behind cursor) else self.old) }
         ensures done { is_ok result ≡ has_place (M.contents memory.old) events.old }
         ensures same_loan { M.loan memory.new ≡ M.loan memory.old }
@@ -332,6 +386,8 @@ fn complete<M: GuestMemory>(
 ) -> Result<(), Outside>
     ensures posted { (M.contents memory.new, events.new) ≡ event_posted (M.contents memory.old) events.old (Event.Command cursor.place code slot) }
     ensures done { is_ok result ≡ has_place (M.contents memory.old) events.old }
+    ensures outside { OnErr result (M.contents memory.new ≡ M.contents memory.old) }
+    ensures as_before { OnErr result (events.new ≡ events.old) }
     ensures same_loan { M.loan memory.new ≡ M.loan memory.old }
 {
     let event = Event::Command {

@@ -1,10 +1,14 @@
 -- Which tags are active, and which of them have a request that is to be asked.
-use Rattle.std.specs.Prelude.{ℕ, Bool, true, false, ◌&&◌}
+use Rattle.std.specs.Prelude.{◌≡◌, ℕ, Bool, true, false, ◌&&◌}
 use Rattle.marks.specs.Marks.{is_marked}
 use Rattle.uas_tasks.specs.declared.Wants.{Wants}
 use Rattle.uas_tasks.specs.declared.Wants.TheVariants.{Absent, Asks, Waits, Gives, Takes, Ends}
 use Rattle.uas_tasks.specs.Machine.{wanted}
 use Rattle.guest_tasks.specs.declared.GuestTasks.{GuestTasks}
+
+-- no tag is active
+abbrev pub IsIdle : GuestTasks → Type 0
+IsIdle device = (tag : ℕ) → is_marked device.active tag ≡ false
 
 abbrev pub is_asking : Wants → Bool
 is_asking Absent = false

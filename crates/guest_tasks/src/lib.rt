@@ -14,7 +14,7 @@ ghost use Rattle.uas_iu.specs.Units.{IsTextOf, unit_text};
 ghost use Rattle.uas_target.specs.Fields.{tag_in};
 ghost use Rattle.uas_tasks.specs.Machine.{Machine, answer_on, answered, next_of, opening, quiet, powered_machine, received, tasks_ended, wanted};
 ghost use Rattle.guest_tags.specs.Devices.{IsChunk, Kind};
-ghost use Rattle.guest_tasks.specs.Active.{asks_on, is_asking};
+ghost use Rattle.guest_tasks.specs.Active.{IsIdle, asks_on, is_asking};
 ghost use Rattle.guest_tasks.specs.Tasks.{end_of, end_of_status, gives_of, phase_of, received_as, received_told, takes_of, tasks_kind, text_of};
 
 use arrayvec::ArrayVec;
@@ -119,7 +119,7 @@ impl GuestTasks {
     /// A device behind the pipes, without an active tag.
     pub fn new(tasks: Tasks) -> GuestTasks
         ensures tasks { result.tasks ≡ tasks }
-        ensures active { (place : ℕ) → is_marked result.active place ≡ false }
+        ensures active { IsIdle result }
     {
         GuestTasks {
             tasks,

@@ -1,6 +1,6 @@
 //! Register accesses, and what they ask for beyond the registers.
 ghost use Rattle.std.specs.Prelude.{◌≡◌, ℕ, ◌<◌, ◌≤◌, ◌%◌, IfOk, IfSome, IfNone, option_copied, true, false};
-ghost use Rattle.guest_tasks.specs.Active.{asks_on};
+ghost use Rattle.guest_tasks.specs.Active.{IsIdle, asks_on};
 ghost use Rattle.uas_tasks.specs.Machine.{answered, bytes_out, next_of};
 ghost use Rattle.xhci_registers.specs.Signals.{is_asserted, messaged};
 ghost use Rattle.xhci_registers.specs.Words.{read_of};
@@ -31,6 +31,7 @@ impl Machine {
     pub fn new(alloc: Global, tasks: Tasks) -> Result<Machine, AllocError>
         ensures registers { IfOk result (λ machine. machine.registers ≡ reset_registers true) }
         ensures device { IfOk result (λ machine. machine.device.tasks ≡ tasks) }
+        ensures idle { IfOk result (λ machine. IsIdle machine.device) }
         ensures all { IfOk result (λ machine. machine ≡ opened machine.device) }
     {
         Ok(Machine {

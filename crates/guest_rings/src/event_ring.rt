@@ -8,8 +8,9 @@ use guest_memory::GuestMemory;
 use std::marker::Model;
 
 /// An event ring's segment, where its producer stands, how many places are free, and whether an event since the last
-/// [`EventRing::take_asks`] asked for an interrupt.
-#[derive(Debug, Drop)]
+/// [`EventRing::take_asks`] asked for an interrupt. A clone is for looking ahead: of two producers of one segment each would write over the
+/// other's events.
+#[derive(Clone, Debug, Drop)]
 pub struct EventRing {
     base: u64,
     places: u16,

@@ -1,14 +1,15 @@
 -- Interrupter 0: the event ring of its segment table, the place of its consumer, and Event Ring Full Error (xHCI 1.2, 4.9.4, 4.17, 5.5.2 and
 -- 6.5). An answer None: memory isn't there, or an address or a size isn't one.
-use Rattle.std.specs.Prelude.{ℕ, ◌<◌, ◌≤◌, ◌+◌, ◌-◌, ◌*◌, ◌/◌, ◌%◌, ◌^◌, ◌==◌, nat_le, nat_lt, min, Bool, true, false, not, ◌&&◌, ◌||◌, if◌then◌else◌}
-use Rattle.std.specs.Prelude.{List, drop, Option, Some, None, option_map}
+use Rattle.std.specs.Prelude.{ℕ, ◌+◌, ◌-◌, ◌*◌, ◌/◌, ◌%◌, ◌^◌, ◌==◌, nat_lt, Bool, true, false, not, ◌&&◌, ◌||◌, if◌then◌else◌}
+use Rattle.std.specs.Prelude.{List, drop, Option, Some, None, is_some, option_map}
 use Rattle.byteorder.specs.Endian.{little_number}
-use Rattle.guest_memory.specs.Bytes.{Memory, ◌>>=◌, bytes_from, is_there, written}
+use Rattle.guest_memory.specs.Bytes.{Memory, ◌>>=◌, bytes_from, written}
 use Rattle.guest_rings.specs.declared.event.Event.{Event}
 use Rattle.guest_rings.specs.declared.event.Event.TheVariants.{RingFull}
 use Rattle.guest_rings.specs.Events.{EventEnd, enqueue_pointer, enqueued, event_bytes, free_by, has_room, place_at}
 use Rattle.guest_pipes.specs.Step.{has_place}
-use Rattle.guest_pipes.specs.Wanted.{place_range}
+use Rattle.guest_rings.specs.declared.wanting.Range.{Range}
+use Rattle.guest_rings.specs.Wanted.{missing}
 use Rattle.xhci_registers.specs.declared.Interrupter.{Interrupter}
 use Rattle.xhci_registers.specs.declared.Registers.{Registers}
 use Rattle.xhci_registers.specs.Signals.{raised}
@@ -104,43 +105,22 @@ with_pointer registers (Some (Some ring), interrupts) =
 abbrev pub taken : Memory → Interrupts → Registers → Option (Option EventEnd) × (Interrupts × Registers)
 taken memory interrupts registers = with_pointer registers (ring_taken memory registers.interrupter interrupts interrupts.ring)
 
--- A LOOK AT IT
+-- A LOOK AHEAD
 
--- the producer stands in the segment, which has at most 4,096 places and ends by 2 ^ 64
-pub record IsInSegment (ring : EventEnd) : Type 0 where
-  pub place : ring.place < ring.places
-  pub most : ring.places ≤ 4096
-  pub ends : ring.base + 16 * ring.places ≤ 2 ^ 64
+-- the table's entry, where it is to be read and isn't there
+abbrev pub missing_entry : Memory → Interrupts → Interrupter → Option Range
+missing_entry memory interrupts interrupter =
+    if is_some interrupts.ring || interrupter.table_size == 0 then None else missing memory (record { at = interrupter.table; count = 16 }) None
 
--- a ring with this one's next place, of which so many, up to 2, are free; where that would go past 2 ^ 64, it begins some places before
-abbrev pub likeness : Memory → EventEnd → ℕ → Seen
-likeness memory ring free =
-    if nat_le (enqueue_pointer ring) (2 ^ 64 - 16 * (min free 2 + 1)) then Ring (new_ring (enqueue_pointer ring) (min free 2 + 1))
-    else if has_place memory ring then Ring (new_ring (2 ^ 64 - 16 * (min free 2 + 1)) (min free 2 + 1))
-    else Lacks (place_range ring)
+-- the ring that a step takes; nothing where there is none, or the step fails by it
+abbrev pub seen_taken : Option (Option EventEnd) → Seen
+seen_taken None = Nothing
+seen_taken (Some None) = Nothing
+seen_taken (Some (Some ring)) = Ring ring
 
-abbrev pub pointer_seen : Option EventEnd → Seen
-pointer_seen None = Nothing
-pointer_seen (Some ring) = Ring ring
+abbrev pub seen_unless : Option Range → Option (Option EventEnd) → Seen
+seen_unless None ring = seen_taken ring
+seen_unless (Some range) ring = Lacks range
 
-abbrev pub ring_seen : ℕ → Option (Option EventEnd) → Seen
-ring_seen pointer None = Nothing
-ring_seen pointer (Some None) = Nothing
-ring_seen pointer (Some (Some ring)) = pointer_seen (dequeued_at ring pointer)
-
--- the table's, as it is loaded at the next step
-abbrev pub table_seen : Memory → Interrupter → Seen
-table_seen memory interrupter =
-    if interrupter.table_size == 0 then Nothing
-    else if is_there memory interrupter.table 16 then ring_seen interrupter.dequeue (loaded memory interrupter)
-    else Lacks (record { at = interrupter.table; count = 16 })
-
-abbrev pub place_seen : Memory → EventEnd → Option ℕ → Seen
-place_seen memory ring None = Nothing
-place_seen memory ring (Some place) = likeness memory ring (min (free_by ring place) 2)
-
--- the ring that is kept, with its consumer where ERDP says if that was written; or else the table's
-abbrev pub seen_by : Memory → Interrupts → Interrupter → Option EventEnd → Seen
-seen_by memory interrupts interrupter None = table_seen memory interrupter
-seen_by memory interrupts interrupter (Some ring) =
-    if interrupts.dequeued then place_seen memory ring (place_at ring interrupter.dequeue) else likeness memory ring ring.free
+abbrev pub seen : Memory → Interrupts → Registers → Seen
+seen memory interrupts registers = seen_unless (missing_entry memory interrupts registers.interrupter) (taken memory interrupts registers).0

@@ -1,15 +1,13 @@
 //! Interrupter 0: its event ring, by its segment table and ERDP (xHCI 1.2, 4.9.4, 4.17 and 6.5).
-ghost use Rattle.std.specs.Prelude.{◌≡◌, ◌+◌, ◌<◌, ◌≤◌, ◌||◌, ◌&&◌, ◌==◌, not, is_ok, is_some, min, unwrap_or, IfSome, OnErr, Ok, Some, None, true, false};
+ghost use Rattle.std.specs.Prelude.{◌≡◌, ◌||◌, ◌&&◌, ◌==◌, not, is_ok, is_some, unwrap_or, IfSome, OnErr, Ok, Some, None, true, false};
 ghost use Rattle.std.specs.Result.{result_ok};
 ghost use Rattle.guest_pipes.specs.Step.{has_place};
-ghost use Rattle.guest_rings.specs.Events.{EventEnd, free_by};
 ghost use Rattle.xhci_machine.specs.Effects.{no_event_ring};
-ghost use Rattle.xhci_machine.specs.Interrupter.{IsInSegment, dequeued_at, event_posted, full_told, likeness, loaded, pointer_taken, ring_taken, seen_by, segment_of};
-ghost use Rattle.xhci_machine.specs.Interrupter.{table_seen, taken, tells_full};
+ghost use Rattle.xhci_machine.specs.Interrupter.{dequeued_at, event_posted, full_told, loaded, missing_entry, pointer_taken, ring_taken, seen, segment_of};
+ghost use Rattle.xhci_machine.specs.Interrupter.{taken, tells_full};
 
 use byteorder::{ByteOrder, LittleEndian};
 use guest_memory::{GuestMemory, Outside};
-use guest_pipes::place_range;
 use guest_rings::{Event, EventRing, Range};
 use xhci_registers::{Interrupter, Registers};
 
@@ -20,7 +18,7 @@ const MOST_PLACES: u16 = 4096;
 
 /// The event ring, once its table was read; whether ERDP was written since, and cleared EHB by that; and whether Event Ring Full Error
 /// was posted since there was room.
-#[derive(Debug, Drop)]
+#[derive(Clone, Debug, Drop)]
 pub(crate) struct Interrupts {
     ring: Option<EventRing>,
     dequeued: bool,
@@ -93,92 +91,12 @@ pub(crate) fn post<M: GuestMemory>(
 /// The event ring as the next step finds it.
 #[derive(Drop)]
 pub(crate) enum Seen {
-    /// A byte of this range isn't there.
+    /// A byte of the segment table's entry isn't there.
     Lacks(Range),
     /// There is none, or the step fails by it.
     Nothing,
-    /// One of its likeness, to be looked at alone: its next place, and up to 2 how many are free.
+    /// One to be looked at alone.
     Ring(EventRing),
-}
-
-/// The event ring that is loaded at the next step.
-fn see_table<M: GuestMemory>(memory: &M, interrupter: &Interrupter) -> Seen
-    ensures { result ≡ table_seen (M.contents memory.now) interrupter.now }
-{
-    if interrupter.table_size == 0 {
-        return Seen::Nothing;
-    }
-    let entry = Range {
-        at: interrupter.table,
-        count: 16,
-    };
-    if let Some(range) = entry.missing(memory) {
-        return Seen::Lacks(range);
-    }
-    let Ok(Some(mut ring)) = load(memory, interrupter) else {
-        return Seen::Nothing;
-    };
-    match dequeue(&mut ring, interrupter.dequeue) {
-        Ok(()) => Seen::Ring(ring),
-        Err(Outside) => Seen::Nothing,
-    }
-}
-
-/// The place so far ahead of a ring's next one; None behind the segment's end.
-#[tactic(auto, using(crate::proofs::Free::place_ahead, crate::proofs::Free::place_end))]
-fn place_ahead(ring: &EventRing, count: u64) -> Option<u16>
-    requires { count ≤ 2 }
-    ensures inside { IsInSegment ring.now → ring.now.place + count < ring.now.places → result ≡ Some (ring.now.place + count) }
-    ensures end { IsInSegment ring.now → ring.now.place + count ≡ ring.now.places → result ≡ None }
-{
-    ring.place_at(ring.enqueue_pointer().wrapping_add(16 * count))
-}
-
-/// The place behind a ring's next one, and the one behind that.
-fn places_behind(ring: &EventRing) -> (u16, u16)
-    ensures last { IsInSegment ring.now → ring.now.place + 1 ≡ ring.now.places → result ≡ (0, 1) }
-    ensures behind_end { IsInSegment ring.now → ring.now.place + 2 ≡ ring.now.places → result ≡ (ring.now.place + 1, 0) }
-    ensures inside { IsInSegment ring.now → ring.now.place + 2 < ring.now.places → result ≡ (ring.now.place + 1, ring.now.place + 2) }
-{
-    match place_ahead(ring, 1) {
-        None => (0, 1),
-        Some(next) => match place_ahead(ring, 2) {
-            None => (next, 0),
-            Some(second) => (next, second),
-        },
-    }
-}
-
-/// How many places of a ring are free where its consumer's dequeue place is this, up to 2.
-fn free_by(ring: &EventRing, place: u16) -> u16
-    requires { place < ring.now.places }
-    ensures { IsInSegment ring.now → result ≡ min (free_by ring.now place) 2 }
-{
-    let (next, second) = places_behind(ring);
-    if place == next {
-        0
-    } else if place == second {
-        1
-    } else {
-        2
-    }
-}
-
-/// A ring with this one's next place, of which so many, up to 2, are free. Where that would go past 2^64, it begins some places before.
-fn see<M: GuestMemory>(memory: &M, ring: &EventRing, free: u16) -> Seen
-    ensures seen { result ≡ likeness (M.contents memory.now) ring.now free }
-    ensures free { (seen : EventEnd) → result ≡ Seen.Ring seen → seen.free ≡ min free 2 }
-{
-    let places = free.min(2) + 1;
-    let last = u64::MAX - 16 * u64::from(places) + 1;
-    let next = place_range(ring);
-    if next.at <= last {
-        return Seen::Ring(EventRing::new(next.at, places));
-    }
-    match next.missing(memory) {
-        Some(range) => Seen::Lacks(range),
-        None => Seen::Ring(EventRing::new(last, places)),
-    }
 }
 
 impl Interrupts {
@@ -265,25 +183,32 @@ impl Interrupts {
         Ok(())
     }
 
-    /// The event ring as [`Interrupts::take`] finds it.
-    pub fn look<M: GuestMemory>(&self, memory: &M, interrupter: &Interrupter) -> Seen
-        ensures free { self.now.dequeued ≡ false → IfSome self.now.ring (λ ring.
-            (seen : EventEnd) → result ≡ Seen.Ring seen → seen.free ≡ min ring.free 2) }
-        ensures seen { self.now.dequeued ≡ false → result ≡ seen_by (M.contents memory.now) self.now interrupter.now self.now.ring }
-        ensures dequeued { IfSome self.now.ring IsInSegment → result ≡ seen_by (M.contents memory.now) self.now interrupter.now self.now.ring }
+    /// The event ring as [`Interrupts::take`] would find it.
+    pub fn look<M: GuestMemory>(&self, memory: &M, registers: &Registers) -> Seen
+        ensures { result ≡ seen (M.contents memory.now) self.now registers.now }
     {
-        match &self.ring {
-            None => see_table(memory, interrupter),
-            Some(ring) => {
-                if !self.dequeued {
-                    return see(memory, ring, ring.free());
-                }
-                match ring.place_at(interrupter.dequeue) {
-                    Some(place) => see(memory, ring, free_by(ring, place)),
-                    None => Seen::Nothing,
-                }
-            }
+        if let Some(range) = self.missing_entry(memory, &registers.interrupter) {
+            return Seen::Lacks(range);
         }
+        let (mut ahead, mut registers) = (self.clone(), *registers);
+        match ahead.take(memory, &mut registers) {
+            Ok(Some(ring)) => Seen::Ring(ring),
+            Ok(None) | Err(Outside) => Seen::Nothing,
+        }
+    }
+
+    /// The entry of the segment table, where it is to be read and a byte of it isn't there.
+    fn missing_entry<M: GuestMemory>(&self, memory: &M, interrupter: &Interrupter) -> Option<Range>
+        ensures { result ≡ missing_entry (M.contents memory.now) self.now interrupter.now }
+    {
+        if self.ring.is_some() || interrupter.table_size == 0 {
+            return None;
+        }
+        let entry = Range {
+            at: interrupter.table,
+            count: 16,
+        };
+        entry.missing(memory)
     }
 
     /// Whether Event Ring Full Error is to be posted in such a ring once a step finds no room there.

@@ -69,7 +69,7 @@ impl Machine {
     }
 
     fn look<M: GuestMemory>(&self, memory: &M) -> Result<(), End> {
-        match self.interrupts.look(memory, &self.registers.interrupter) {
+        match self.interrupts.look(memory, &self.registers) {
             Seen::Lacks(range) => Err(End::Lacks(range)),
             Seen::Nothing => Ok(()),
             Seen::Ring(events) => self.look_round(memory, &events),

@@ -1,4 +1,4 @@
--- The rings show the shared machine: what it has waiting stands in them, in order, and nothing else does.
+-- The rings show the shared machine: what it has waiting stands in them, in order, and nothing else does. The buffers show its units and vectors.
 use Rattle.std.specs.Prelude.{◌≡◌, ℕ, suc, ◌*◌, ◌<◌, ◌≤◌, ◌==◌, if◌then◌else◌, List, [], ◌∷◌, drop, length, map, Option, None, Some}
 use Rattle.xhci_trb.specs.declared.Trb.{Trb}
 use Rattle.cycle_ring.specs.Ring.{cycle_of, pointer_of}
@@ -14,6 +14,8 @@ use Rattle.stream_array.specs.Contexts.{Contexts, entry_of}
 use Rattle.uas_profile.specs.Pipes.{HasStreams}
 use Rattle.stream_array.specs.Map.{HasRing}
 use Rattle.stream_array.specs.Rings.{LinesState, ShowsRings, ring_of, stream_ring}
+use Rattle.frame_store.specs.declared.TagBuffers.{TagBuffers}
+use Rattle.frame_store.specs.Buffers.{held_for}
 use Rattle.uas_profile.specs.declared.Place.{Place}
 use Rattle.uas_profile.specs.declared.TdState.{TdState}
 use Rattle.uas_profile.specs.declared.TdState.TheVariants.{Pending, Seen, LeftOver, Retired}
@@ -30,7 +32,7 @@ use Rattle.shared_machine.specs.declared.RetirementStage.TheVariants.{StopAsked,
 use Rattle.shared_machine.specs.Td.{Entry}
 use Rattle.shared_machine.specs.Shared.{Shared, request_direction}
 use Rattle.machine_invariant.specs.Matched.{request_bytes, under}
-use Rattle.bus_core.specs.Cells.{data_in_td, data_out_td}
+use Rattle.bus_core.specs.Cells.{HasAnswerIn, HasUnitIn, data_in_td, data_out_td, lent_for}
 use Rattle.bus_core.specs.Fits.{AreUnused, command_item, last_pointer}
 
 -- EVENTS
@@ -129,6 +131,25 @@ pub record ShowsShared (state : Shared) (lines : LinesState) : Type 0 where
   pub events : map told_in lines.events.pending ≡ tells_of lines 0 state.events
   pub places : (place : Place) → place.client < length state.parts → place.slot < TAGS → ShowsPlace lines place (under state.parts place)
   pub unused : (stream : ℕ) → TAGS * length state.parts < stream → AreUnused lines stream
+
+-- BUFFERS
+
+-- The buffers of an entry's tag: its unit in the command buffer, its answer at the front of the status buffer once it was sent, and the vector
+-- that a command lent.
+pub record ShowsEntry (place : Place) (entry : Entry) (held : TagBuffers) : Type 0 where
+  pub unit : HasUnitIn place.client (tag_of place) entry.task.request held.command
+  pub answer : HasAnswerIn entry.task.phase (tag_of place) held.status
+  pub lent : held.lent ≡ lent_for entry.task.request entry.task.buffer
+
+-- where no entry stands no vector is lent
+abbrev pub ShowsHeld : Place → Option Entry → TagBuffers → Type 0
+ShowsHeld place None held = held.lent ≡ None
+ShowsHeld place (Some entry) held = ShowsEntry place entry held
+
+-- the buffers of each place's tag
+abbrev pub ShowsFrames : Shared → List TagBuffers → Type 0
+ShowsFrames state frames = (place : Place) → place.client < length state.parts → place.slot < TAGS
+    → ShowsHeld place (under state.parts place) (held_for frames (tag_of place))
 
 -- CONTEXTS
 

@@ -14,9 +14,11 @@
 //! What is promised: [`Bus::step`] is the shared machine's step (`shared_step` in shared_machine specs/Shared.antt), so it acts
 //! exactly where it is due; [`Bus::run`] is the shared machine's replay, and each client's replies and unit after it
 //! are those of the solo machine for the client's own labels (the headline, `IsIsolated` in isolation specs/Isolation.antt).
-//! [`Bus::lines`] shows it: the rings have exactly what the shared machine has waiting (`ShowsShared` in specs/Shows.antt). No
-//! step takes memory, and none scans a list. It stands on uas_host, xhci_ctl, uas_target, stream_array and frame_store: its
-//! code goes by their contracts, and its proofs also cite lemmas of theirs and of the crates below them.
+//! [`Bus::lines`] shows it: the rings have exactly what the shared machine has waiting (`ShowsShared` in specs/Shows.antt), and
+//! [`Bus::frames`] the units, answers and vectors of what stands (`ShowsFrames`). No step takes memory, and none scans a list.
+//!
+//! It stands on uas_host, xhci_ctl, uas_target, stream_array and frame_store: its code goes by their contracts, and its proofs
+//! also cite lemmas of theirs and of the crates below them.
 //!
 //! A [`RingBus`] is the same bus with its rings in sight. Its value is the whole world, host, controller, device, rings and
 //! buffers, and [`RingBus::step`] says beside the shared machine's step which world comes after it (`world_after` in

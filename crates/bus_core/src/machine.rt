@@ -7,7 +7,7 @@ ghost use Rattle.shared_machine.specs.Bus.{HasTicket};
 ghost use Rattle.shared_machine.specs.Drain.{AreNotLeftOver, AreQuiet};
 ghost use Rattle.shared_machine.specs.Shared.{due, opening, shared_step};
 ghost use Rattle.bus_core.specs.Decoded.{decoded};
-ghost use Rattle.bus_core.specs.Shows.{AreNeverFull, PointAhead, ShowsShared};
+ghost use Rattle.bus_core.specs.Shows.{AreNeverFull, PointAhead, ShowsFrames, ShowsShared};
 ghost use Rattle.bus_core.specs.WholeStep.{world_after};
 ghost use Rattle.bus_core.specs.WorldSteps.{opening_world};
 
@@ -84,6 +84,8 @@ impl RingBus {
     pub fn frames(&self) -> &Frames
         ensures frames { result.now ≡ self.now.frames }
         ensures whole { IsWhole result.now }
+        // They show what stands at each place: its unit, its answer once it was sent, and its vector.
+        ensures shows { ShowsFrames (decoded self.now) result.now }
     {
         stand(&self.host, &self.lines, &self.frames);
         &self.frames

@@ -9,7 +9,7 @@ ghost use Rattle.shared_machine.specs.Shared.{due, opening, shared_step};
 ghost use Rattle.isolation.specs.Refusals.{IsRefusedAsOwn};
 ghost use Rattle.isolation.specs.StepIsolation.{IsIsolatedStep};
 ghost use Rattle.machine_invariant.specs.Reach.{EndsAsNoted, KeepsOthers};
-ghost use Rattle.bus_core.specs.Shows.{AreNeverFull, PointAhead, ShowsShared};
+ghost use Rattle.bus_core.specs.Shows.{AreNeverFull, PointAhead, ShowsFrames, ShowsShared};
 
 use crate::{Bus, Outcome, RingBus, Step};
 use block_unit::Unit;
@@ -66,6 +66,8 @@ impl Bus {
     #[inline(always)]
     pub fn frames(&self) -> &Frames
         ensures whole { IsWhole result.now }
+        // They show what stands at each place: its unit, its answer once it was sent, and its vector.
+        ensures shows { ShowsFrames self.now result.now }
     {
         self.rings.frames()
     }

@@ -11,7 +11,7 @@ ghost use Rattle.uas_replay.specs.Walks.{acted, issued_in, issued_run, machine_o
 ghost use Rattle.stream_array.specs.Rings.{IsLines, IsOpeningLines};
 ghost use Rattle.shared_machine.specs.Bus.{HasTicket};
 ghost use Rattle.shared_machine.specs.Drain.{AreNotLeftOver, AreQuiet};
-ghost use Rattle.bus_core.specs.Shows.{ShowsShared};
+ghost use Rattle.bus_core.specs.Shows.{ShowsFrames, ShowsShared};
 ghost use Rattle.frame_store.specs.Buffers.{IsWhole};
 
 mod notes;
@@ -171,9 +171,11 @@ impl ScriptRun {
     }
 
     /// The buffers of the bus.
+    #[tactic(auto, unfolding(crate::specs::Walks::machine_of))]
     pub fn buffers(&self) -> &Frames
         ensures buffers { result.now ≡ self.now.world.frames }
         ensures whole { IsWhole result.now }
+        ensures shows { ShowsFrames self.now.telling.machine result.now }
     {
         self.bus.frames()
     }

@@ -1,4 +1,4 @@
--- The rings of a world that fits a state show it.
+-- The rings and buffers of a world that fits a state show it.
 use Rattle.std.proofs.Common.{◌≡◌, ℕ, zero, suc, ◌<◌, Bool, true, false, cond, List, [], ◌∷◌, ◌++◌, drop, map, length, Option, Some, None, refl, arith, ap, sym}
 use Rattle.std.proofs.Common.{◌∙◌}
 use Rattle.std.specs.Prelude.{slice_get, ◌==◌}
@@ -14,7 +14,7 @@ use Rattle.uas_profile.specs.declared.Pipe.TheVariants.{Command, Status, DataIn,
 use Rattle.uas_profile.specs.declared.TheConstants.{TAGS, COMMAND_RING_PLACES, SLOT, SUCCESS, SHORT_PACKET}
 use Rattle.xhci_ctl.specs.Steps.{endpoint_of}
 use Rattle.stream_array.specs.Rings.{LinesState, stream_ring}
-use Rattle.scsi_cmd.specs.Held.{held_at}
+use Rattle.frame_store.specs.Buffers.{held_for}
 use Rattle.uas_profile.specs.declared.Place.{Place}
 use Rattle.uas_profile.specs.declared.TdState.{TdState}
 use Rattle.uas_profile.specs.declared.TdState.TheVariants.{Pending, Seen, LeftOver, Retired}
@@ -29,10 +29,11 @@ use Rattle.shared_machine.specs.Td.{Entry}
 use Rattle.shared_machine.specs.Part.{Part}
 use Rattle.shared_machine.specs.Shared.{Shared}
 use Rattle.machine_invariant.specs.Matched.{carried_places, held_in}
+use Rattle.machine_invariant.specs.Ordered.{under}
 use Rattle.bus_core.specs.World.{World, cell_at}
 use Rattle.bus_core.specs.Cells.{FitsHeld, HoldsTrbs, HoldsIn, HoldsData}
 use Rattle.bus_core.specs.Fits.{command_item, event_texts, Fits, HoldsCommand, HoldsCommandOf, last_pointer}
-use Rattle.bus_core.specs.Shows.{PointAhead, ShowsPlace, ShowsShared, commands_at, commands_of, data_tells, engine_tells, left_in, left_of}
+use Rattle.bus_core.specs.Shows.{PointAhead, ShowsFrames, ShowsHeld, ShowsPlace, ShowsShared, commands_at, commands_of, data_tells, engine_tells, left_in, left_of}
 use Rattle.bus_core.specs.Shows.{pending_in, tells, tells_of, told_in}
 use Rattle.bus_core.proofs.common.Framing.{IsFound, found}
 use Rattle.uas_host.specs.Retirement.{stop_trb, move_trb}
@@ -93,18 +94,23 @@ shown-place world client count place (Some entry) fits = record {
   data_out = left-data (stream_ring world.lines.data_out (tag_of place)) _ _ fits.data_out;
 }
 
-shown-at : (state : Shared) (world : World) (place : Place) (found_part : Option Part) → Fits state world
-    → slice_get state.parts place.client ≡ found_part → place.client < length state.parts
-    → place.slot < TAGS → ShowsPlace world.lines place (option_map_or (held_in place) found_part None)
-shown-at state world place None fits is there within = absurd (missing state.parts place.client there is)
+shown-held : (world : World) (count : ℕ) (place : Place) (held : Option Entry) → FitsHeld place.client count place held (cell_at world place)
+    → ShowsHeld place held (held_for world.frames (tag_of place))
+shown-held world count place None fits = fits.lent
+shown-held world count place (Some entry) fits = record { unit = fits.unit; answer = fits.answer; lent = fits.lent }
+
+fits-at : (state : Shared) (world : World) (place : Place) (found_part : Option Part) → Fits state world
+    → slice_get state.parts place.client ≡ found_part → place.client < length state.parts → place.slot < TAGS
+    → (count : ℕ) × FitsHeld place.client count place (option_map_or (held_in place) found_part None) (cell_at world place)
+fits-at state world place None fits is there within = absurd (missing state.parts place.client there is)
   where
     missing : (parts : List Part) (at : ℕ) → at < length parts → slice_get parts at ≡ None → ⊥
     missing [] at there is = omega arith
     missing (part ∷ rest) zero there is = none-some part (sym is)
     missing (part ∷ rest) (suc at) there is = missing rest at (omega arith) is
-shown-at state world place (Some part) fits is there within =
+fits-at state world place (Some part) fits is there within =
     let at : IsFound world place.client part = found world state.parts place.client part fits.clients is in
-    shown-place world place.client part.unit.count place (held_at part.entries place.slot) (at.fits.cells place.slot within)
+    (part.unit.count, at.fits.cells place.slot within)
 
 -- THE CONTROLLER'S COMMAND RING
 
@@ -129,9 +135,16 @@ shown state world fits = record {
       ∙ drop-carried (carried_places state.events) state.messages;
   commands = shown-commands world.lines state.retirement fits.engine.commands;
   events = ap (map told_in) fits.queues.texts ∙ told-texts world 0 state.events;
-  places = λ place there within. shown-at state world place (slice_get state.parts place.client) fits refl there within;
+  places = λ place there within.
+      let at = fits-at state world place (slice_get state.parts place.client) fits refl there within in
+      shown-place world place.client at.0 place (under state.parts place) at.1;
   unused = fits.unused;
 }
+
+pub frames-shown : (state : Shared) (world : World) → Fits state world → ShowsFrames state world.frames
+frames-shown state world fits = λ place there within.
+    let at = fits-at state world place (slice_get state.parts place.client) fits refl there within in
+    shown-held world at.0 place (under state.parts place) at.1
 
 -- CONTEXTS
 

@@ -3,3 +3,4 @@ pub mod Control
 pub mod Held
 pub mod Parts
 pub mod Pumps
+pub mod Rounds

@@ -1,4 +1,7 @@
 //! What a client does in a round: a WRITE of eight blocks, and a READ of the same.
+ghost use Rattle.std.specs.Prelude.{◌≡◌, IfOk};
+ghost use Rattle.uas_work.specs.Rounds.{round_command, round_fill, round_op};
+
 use scsi_cmd::{Buffer, Command, Op};
 use std::alloc::{AllocError, Global};
 use uas_profile::BLOCK_BYTES;
@@ -22,16 +25,35 @@ pub(crate) fn command(
     client: u8,
     round: u32,
     half: Half,
-) -> Result<Command, AllocError> {
+) -> Result<Command, AllocError>
+    ensures { IfOk result (λ command. command ≡ round_command client round half) }
+{
+    let bytes = BLOCK_BYTES * usize::from(ROUND_BLOCKS);
+    let filled = vec![in alloc; fill(client, round, half); bytes]?;
+    Ok(Command {
+        op: op(round, half),
+        buffer: Buffer::from_vec(filled),
+    })
+}
+
+fn op(round: u32, half: Half) -> Op
+    ensures { result ≡ round_op round half }
+{
     let lba = u32::from(ROUND_BLOCKS) * (round % ROUNDS_AROUND);
     let count = ROUND_BLOCKS;
-    let bytes = BLOCK_BYTES * usize::from(ROUND_BLOCKS);
-    let fill = ((16 * u64::from(client) + u64::from(round)) % 256) as u8;
     let fua = false;
-    let (op, byte) = match half {
-        Half::Write => (Op::Write { lba, count, fua }, fill),
-        Half::Read => (Op::Read { lba, count, fua }, 0),
-    };
-    let buffer = Buffer::from_vec(vec![in alloc; byte; bytes]?);
-    Ok(Command { op, buffer })
+    match half {
+        Half::Write => Op::Write { lba, count, fua },
+        Half::Read => Op::Read { lba, count, fua },
+    }
+}
+
+/// What the buffer is filled with at first: the bytes that are written, or zeros for those that are read.
+fn fill(client: u8, round: u32, half: Half) -> u8
+    ensures { result ≡ round_fill client round half }
+{
+    match half {
+        Half::Write => ((16 * u64::from(client) + u64::from(round)) % 256) as u8,
+        Half::Read => 0,
+    }
 }

@@ -8,9 +8,8 @@ use guest_memory::GuestMemory;
 use std::marker::Model;
 
 /// An event ring's segment, where its producer stands, how many places are free, and whether an event since the last
-/// [`EventRing::take_asks`] asked for an interrupt. A clone is for looking ahead: of two producers of one segment each would write over the
-/// other's events.
-#[derive(Clone, Debug, Drop)]
+/// [`EventRing::take_asks`] asked for an interrupt.
+#[derive(Debug, Drop)]
 pub struct EventRing {
     base: u64,
     places: u16,
@@ -47,6 +46,20 @@ impl EventRing {
             cycle: true,
             free: places - 1,
             asks: false,
+        }
+    }
+
+    /// The ring as it is, to look ahead with: of two producers of one segment each would write over the other's events.
+    pub fn snapshot(&self) -> EventRing
+        ensures { result ≡ self.now }
+    {
+        EventRing {
+            base: self.base,
+            places: self.places,
+            place: self.place,
+            cycle: self.cycle,
+            free: self.free,
+            asks: self.asks,
         }
     }
 

@@ -5,4 +5,6 @@ pub mod Commands
 pub mod Interrupter
 pub mod Ring
 pub mod Turns
+pub mod Orders
 pub mod Steps
+pub mod Rounds

@@ -14,9 +14,11 @@ use Rattle.xhci_slots.specs.declared.SlotCommand.{SlotCommand}
 use Rattle.xhci_machine.specs.declared.Machine.{Machine}
 use Rattle.xhci_machine.specs.declared.command.Command.{Command}
 use Rattle.xhci_machine.specs.declared.command.Command.TheVariants.{Link, NoOp, OnSlot, OnEndpoint, Foreign}
+use Rattle.xhci_machine.specs.declared.command.Order.{Order}
 use Rattle.xhci_machine.specs.declared.ring.Ended.{Ended}
 use Rattle.xhci_machine.specs.Commands.{command_in}
 use Rattle.xhci_machine.specs.Interrupter.{event_posted}
+use Rattle.xhci_machine.specs.Orders.{order_done}
 use Rattle.xhci_machine.specs.Ring.{command_cursor, ended, has_command, on_slot_done, stood_at, stop_told}
 use Rattle.xhci_machine.specs.Turns.{World, with_events}
 
@@ -53,13 +55,21 @@ abbrev pub worked_if : World × Bool → World × Option Acted
 worked_if (w, false) = (w, None)
 worked_if (w, true) = (w, Some Worked)
 
--- None of a command on an endpoint
-abbrev pub command_taken : World → Cursor → Command → Option (World × Option Acted)
-command_taken w cursor (Link pointer toggle ioc) = Some (worked_if (link_followed w cursor (followed cursor pointer toggle) ioc))
-command_taken w cursor NoOp = Some (worked_if (command_ended w cursor (ended 1 0)))
-command_taken w cursor (OnSlot slot command) = Some (worked_if (slot_command_taken w cursor slot command))
-command_taken w cursor (OnEndpoint slot endpoint order) = None
-command_taken w cursor Foreign = Some (worked_if (command_ended w cursor (ended 5 0)))
+-- a command on an endpoint, which isn't over where it tells of a ring
+abbrev pub endpoint_ended : Cursor → World × Option (Option Ended) → World × Bool
+endpoint_ended cursor (w, None) = (w, false)
+endpoint_ended cursor (w, Some None) = (w, true)
+endpoint_ended cursor (w, Some (Some how)) = command_ended w cursor how
+
+unfoldable pub endpoint_command_taken : World → Cursor → ℕ → ℕ → Order → World × Bool
+endpoint_command_taken w cursor slot endpoint order = endpoint_ended cursor (order_done w slot endpoint order)
+
+abbrev pub command_taken : World → Cursor → Command → World × Option Acted
+command_taken w cursor (Link pointer toggle ioc) = worked_if (link_followed w cursor (followed cursor pointer toggle) ioc)
+command_taken w cursor NoOp = worked_if (command_ended w cursor (ended 1 0))
+command_taken w cursor (OnSlot slot command) = worked_if (slot_command_taken w cursor slot command)
+command_taken w cursor (OnEndpoint slot endpoint order) = worked_if (endpoint_command_taken w cursor slot endpoint order)
+command_taken w cursor Foreign = worked_if (command_ended w cursor (ended 5 0))
 
 -- A STEP
 
@@ -73,22 +83,21 @@ stop_posted w = (
 abbrev pub unrung : World → World
 unrung w = record w { machine = record w.machine { commands = record w.machine.commands { rung = false } } }
 
-abbrev pub taken_by : World → Cursor → Option Words → Option (World × Option Acted)
-taken_by w cursor None = Some (unrung w, Some Emptied)
+abbrev pub taken_by : World → Cursor → Option Words → World × Option Acted
+taken_by w cursor None = (unrung w, Some Emptied)
 taken_by w cursor (Some words) = command_taken w cursor (command_in words)
 
-abbrev pub fetched_taken : World → Option (Option Words) → Option (World × Option Acted)
-fetched_taken w None = Some (w, None)
+abbrev pub fetched_taken : World → Option (Option Words) → World × Option Acted
+fetched_taken w None = (w, None)
 fetched_taken w (Some words) = taken_by w (command_cursor w.machine) words
 
-unfoldable pub front_taken : World → Option (World × Option Acted)
-front_taken w = if w.machine.commands.owes_stop then Some (stop_posted w) else fetched_taken w (fetched w.memory (command_cursor w.machine))
+unfoldable pub front_taken : World → World × Option Acted
+front_taken w = if w.machine.commands.owes_stop then stop_posted w else fetched_taken w (fetched w.memory (command_cursor w.machine))
 
-abbrev pub through : World → Option (Option Acted) → Option (World × Option Acted)
-through w None = Some (w, None)
+abbrev pub through : World → Option (Option Acted) → World × Option Acted
+through w None = (w, None)
 through w (Some None) = front_taken w
-through w (Some (Some acted)) = Some (w, Some acted)
+through w (Some (Some acted)) = (w, Some acted)
 
--- None of a command on an endpoint
-unfoldable pub commands_stepped : World → Option (World × Option Acted)
-commands_stepped w = if not (has_command w.machine) then Some (w, Some Idle) else through w (room_gate w.memory w.events)
+unfoldable pub commands_stepped : World → World × Option Acted
+commands_stepped w = if not (has_command w.machine) then (w, Some Idle) else through w (room_gate w.memory w.events)

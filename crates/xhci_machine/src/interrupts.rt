@@ -18,7 +18,7 @@ const MOST_PLACES: u16 = 4096;
 
 /// The event ring, once its table was read; whether ERDP was written since, and cleared EHB by that; and whether Event Ring Full Error
 /// was posted since there was room.
-#[derive(Clone, Debug, Drop)]
+#[derive(Debug, Drop)]
 pub(crate) struct Interrupts {
     ring: Option<EventRing>,
     dequeued: bool,
@@ -183,6 +183,21 @@ impl Interrupts {
         Ok(())
     }
 
+    /// What is kept as it is, to look ahead with.
+    fn snapshot(&self) -> Interrupts
+        ensures { result ≡ self.now }
+    {
+        Interrupts {
+            ring: match &self.ring {
+                Some(ring) => Some(ring.snapshot()),
+                None => None,
+            },
+            dequeued: self.dequeued,
+            cleared_busy: self.cleared_busy,
+            told_full: self.told_full,
+        }
+    }
+
     /// The event ring as [`Interrupts::take`] would find it.
     pub fn look<M: GuestMemory>(&self, memory: &M, registers: &Registers) -> Seen
         ensures { result ≡ seen (M.contents memory.now) self.now registers.now }
@@ -190,7 +205,7 @@ impl Interrupts {
         if let Some(range) = self.missing_entry(memory, &registers.interrupter) {
             return Seen::Lacks(range);
         }
-        let (mut ahead, mut registers) = (self.clone(), *registers);
+        let (mut ahead, mut registers) = (self.snapshot(), *registers);
         match ahead.take(memory, &mut registers) {
             Ok(Some(ring)) => Seen::Ring(ring),
             Ok(None) | Err(Outside) => Seen::Nothing,

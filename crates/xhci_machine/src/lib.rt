@@ -33,11 +33,14 @@
 #![tactic(auto)]
 
 mod access;
+mod changes;
 mod command;
 mod interrupts;
 mod orders;
 mod ring;
 mod states;
+mod steps;
+mod turns;
 mod wanting;
 mod work;
 

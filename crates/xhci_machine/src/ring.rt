@@ -1,22 +1,21 @@
 //! The command ring (xHCI 1.2, 4.6 and 4.9.3).
-ghost use Rattle.std.specs.Prelude.{◌≡◌, true, false, is_ok, IfSome, Some, None, OnErr, option_map, if◌then◌else◌};
+ghost use Rattle.std.specs.Prelude.{◌≡◌, true, false, is_ok, Some, None, OnErr, option_map, if◌then◌else◌};
 ghost use Rattle.std.specs.Result.{result_ok};
 ghost use Rattle.guest_pipes.specs.Step.{has_place};
 ghost use Rattle.guest_rings.specs.Ends.{behind};
 ghost use Rattle.xhci_machine.specs.Effects.{idle_ring};
 ghost use Rattle.xhci_machine.specs.Interrupter.{event_posted};
-ghost use Rattle.xhci_machine.specs.Ring.{changed, code_number, command_changed, command_cursor, control_changed, ended, has_command, on_slot_done};
-ghost use Rattle.xhci_machine.specs.Ring.{pipe_changed, pointer_home, slot_told, stood_at, stop_told};
-ghost use Rattle.xhci_machine.specs.Steps.{command_ended, command_taken, commands_stepped, front_taken, link_followed, slot_command_taken};
+ghost use Rattle.xhci_machine.specs.Ring.{code_number, command_cursor, ended, has_command, on_slot_done};
+ghost use Rattle.xhci_machine.specs.Ring.{pointer_home, slot_told, stood_at, stop_told};
+ghost use Rattle.xhci_machine.specs.Steps.{command_ended, command_taken, commands_stepped, endpoint_command_taken, front_taken, link_followed, slot_command_taken};
 
 use crate::Machine;
-use crate::command::{Command, read_command};
+use crate::command::{Command, Order, read_command};
 use crate::interrupts::post;
 use guest_memory::{GuestMemory, Outside};
 use guest_pipes::{Acted, room_gate};
 use guest_rings::{Cursor, Event, EventRing, fetch};
-use guest_transfers::StreamPipe;
-use xhci_slots::{Change, Changes, Code, SlotCommand};
+use xhci_slots::{Code, SlotCommand};
 
 /// The one slot.
 pub(crate) const SLOT: u8 = 1;
@@ -130,8 +129,8 @@ impl Machine {
         memory: &mut M,
         events: &mut EventRing,
     ) -> Result<Acted, Outside>
-        ensures stepped { IfSome (commands_stepped (record { memory = M.contents memory.old; events = events.old; machine = self.old }))
-            (λ after. (record { memory = M.contents memory.new; events = events.new; machine = self.new }, result_ok result) ≡ after) }
+        ensures stepped { (record { memory = M.contents memory.new; events = events.new; machine = self.new }, result_ok result)
+            ≡ commands_stepped (record { memory = M.contents memory.old; events = events.old; machine = self.old }) }
         ensures same_loan { M.loan memory.new ≡ M.loan memory.old }
     {
         if !self.has_command() {
@@ -149,8 +148,8 @@ impl Machine {
         memory: &mut M,
         events: &mut EventRing,
     ) -> Result<Acted, Outside>
-        ensures taken { IfSome (front_taken (record { memory = M.contents memory.old; events = events.old; machine = self.old }))
-            (λ after. (record { memory = M.contents memory.new; events = events.new; machine = self.new }, result_ok result) ≡ after) }
+        ensures taken { (record { memory = M.contents memory.new; events = events.new; machine = self.new }, result_ok result)
+            ≡ front_taken (record { memory = M.contents memory.old; events = events.old; machine = self.old }) }
         ensures same_loan { M.loan memory.new ≡ M.loan memory.old }
     {
         if self.commands.owes_stop {
@@ -195,8 +194,8 @@ impl Machine {
         cursor: Cursor,
         command: Command,
     ) -> Result<Acted, Outside>
-        ensures taken { IfSome (command_taken (record { memory = M.contents memory.old; events = events.old; machine = self.old }) cursor command)
-            (λ after. (record { memory = M.contents memory.new; events = events.new; machine = self.new }, result_ok result) ≡ after) }
+        ensures taken { (record { memory = M.contents memory.new; events = events.new; machine = self.new }, result_ok result)
+            ≡ command_taken (record { memory = M.contents memory.old; events = events.old; machine = self.old }) cursor command }
         ensures same_loan { M.loan memory.new ≡ M.loan memory.old }
     {
         match command {
@@ -209,11 +208,7 @@ impl Machine {
                 slot,
                 endpoint,
                 order,
-            } => {
-                if let Some(ended) = self.order(memory, events, slot, endpoint, order)? {
-                    self.end_command(memory, events, cursor, ended)?;
-                }
-            }
+            } => self.take_on_endpoint(memory, events, cursor, slot, endpoint, order)?,
             Command::OnSlot { slot, command } => {
                 self.take_on_slot(memory, events, cursor, slot, command)?;
             }
@@ -259,6 +254,26 @@ impl Machine {
     {
         let ended = self.on_slot(memory, slot, command)?;
         self.end_command(memory, events, cursor, ended)
+    }
+
+    #[tactic(auto, unfolding(crate::specs::Steps::endpoint_command_taken))]
+    fn take_on_endpoint<M: GuestMemory>(
+        &mut self,
+        memory: &mut M,
+        events: &mut EventRing,
+        cursor: Cursor,
+        slot: u8,
+        endpoint: u8,
+        order: Order,
+    ) -> Result<(), Outside>
+        ensures taken { (record { memory = M.contents memory.new; events = events.new; machine = self.new }, is_ok result)
+            ≡ endpoint_command_taken (record { memory = M.contents memory.old; events = events.old; machine = self.old }) cursor slot endpoint order }
+        ensures same_loan { M.loan memory.new ≡ M.loan memory.old }
+    {
+        match self.order(memory, events, slot, endpoint, order)? {
+            Some(ended) => self.end_command(memory, events, cursor, ended),
+            None => Ok(()),
+        }
     }
 
     /// Posts the event of a command that has ended, and goes behind it. Refused where the event's place isn't there, and then nothing
@@ -312,61 +327,6 @@ impl Machine {
         let done = self.slot.execute(memory, array, command)?;
         self.change(&done.changes);
         Ok(end_with(number_of(done.code), slot_told(slot, command, done.code)))
-    }
-
-    /// The endpoints as a command on the slot left them; their contexts have their states already.
-    #[tactic(auto, unfolding(crate::specs::Ring::changed))]
-    fn change(&mut self, changes: &Changes)
-        ensures { self.new ≡ changed self.old changes.now }
-    {
-        self.change_control(changes.control);
-        self.change_command(changes.command);
-        self.change_pipe(StreamPipe::Status, changes.status);
-        self.change_pipe(StreamPipe::DataOut, changes.data_out);
-        self.change_pipe(StreamPipe::DataIn, changes.data_in);
-        self.told = self.states();
-    }
-
-    #[tactic(auto, unfolding(crate::specs::Ring::control_changed))]
-    fn change_control(&mut self, change: Change)
-        ensures { self.new ≡ control_changed self.old change }
-    {
-        match change {
-            Change::Kept => (),
-            Change::Disabled => self.control.disable(),
-            Change::Set { .. } => {
-                let home = pointer_home(self.slot.context, 1);
-                self.control.configure(home);
-            }
-        }
-    }
-
-    #[tactic(auto, unfolding(crate::specs::Ring::command_changed))]
-    fn change_command(&mut self, change: Change)
-        ensures { self.new ≡ command_changed self.old change }
-    {
-        match change {
-            Change::Kept => (),
-            Change::Disabled => self.transfers.disable_command(),
-            Change::Set { .. } => {
-                let home = pointer_home(self.slot.context, 2);
-                self.transfers.configure_command(home);
-            }
-        }
-    }
-
-    #[tactic(auto, unfolding(crate::specs::Ring::pipe_changed))]
-    fn change_pipe(&mut self, name: StreamPipe, change: Change)
-        ensures { self.new ≡ pipe_changed self.old name change }
-    {
-        match change {
-            Change::Kept => (),
-            Change::Disabled => self.transfers.disable(name),
-            Change::Set { pointer, entries } => {
-                self.transfers
-                    .configure(name, pointer, entries.min(256) as u16);
-            }
-        }
     }
 }
 

@@ -14,7 +14,7 @@ use crate::command::{Command, Order, read_command};
 use crate::interrupts::Seen;
 use crate::orders::{Endpoint, STREAMS, endpoint_of};
 use crate::ring::{SLOT, pointer_home};
-use crate::work::TAGS;
+use crate::turns::TAGS;
 use guest_memory::{GuestMemory, Outside};
 use guest_pipes::{Consumer, EndpointState, place_range};
 use guest_rings::{EventRing, Home, Range, fetch, look_wants};

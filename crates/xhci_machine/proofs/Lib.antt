@@ -1,3 +1,4 @@
 pub mod Begun
-pub mod Noted
 pub mod Same
+pub mod Tags
+pub mod Working

@@ -8,3 +8,4 @@ pub mod Turns
 pub mod Orders
 pub mod Steps
 pub mod Rounds
+pub mod Worked

@@ -1,35 +1,40 @@
 -- The steps that a round takes in turns, beside the port's and the command ring's: endpoint 0, the command pipe, doorbells of streams that
 -- aren't there, and a tag's data and status. None of what a step did, and the Bool false: memory isn't there, and nothing behind that is done.
-use Rattle.std.specs.Prelude.{ℕ, ◌==◌, Bool, true, false, List, if◌then◌else◌, Option, Some, None}
+use Rattle.std.specs.Prelude.{ℕ, ◌-◌, ◌==◌, Bool, true, false, List, if◌then◌else◌, Option, Some, None}
 use Rattle.guest_memory.specs.Bytes.{Memory}
 use Rattle.guest_pipes.specs.declared.acted.Acted.{Acted}
 use Rattle.guest_rings.specs.Events.{EventEnd}
 use Rattle.guest_tasks.specs.Tasks.{tasks_kind}
 use Rattle.guest_transfers.specs.declared.control.StreamPipe.{StreamPipe}
+use Rattle.guest_transfers.specs.declared.control.StreamPipe.TheVariants.{Status, DataOut, DataIn}
 use Rattle.guest_transfers.specs.Orders.{data_stepped, invalid_on, tags_cleared}
 use Rattle.guest_transfers.specs.State.{TransfersState, TransfersWorld}
 use Rattle.guest_transfers.specs.Steps.{command_stepped, status_stepped}
 use Rattle.uas_tasks.specs.Machine.{Machine as Tasks, tasks_ended}
 use Rattle.xhci_control.specs.declared.pipe.Served.{Served}
 use Rattle.xhci_control.specs.Steps.{ControlWorld, stepped}
-use Rattle.xhci_machine.specs.Turns.{World, left_after, noted}
+use Rattle.xhci_machine.specs.Steps.{commands_stepped}
+use Rattle.xhci_machine.specs.Turns.{World, left_after, noted, port_turned, settled, tells_port}
 
 -- A TURN
 
-abbrev pub noted_by : World × Option Acted → World × Bool
-noted_by (w, None) = (w, false)
-noted_by (w, Some acted) = noted w acted
+-- the world, how many steps are left of the budget, and whether memory was there
+abbrev pub Turning : Type 0
+Turning = (World × ℕ) × Bool
 
-abbrev pub left_by : Option Acted → ℕ → ℕ
-left_by None left = left
-left_by (Some acted) left = left_after acted left
+-- what a step did is noted, and counts
+abbrev pub noted_in : ℕ → World × Option Acted → Turning
+noted_in left (w, None) = ((w, left), false)
+noted_in left (w, Some acted) = (((noted w acted).0, left_after acted left), (noted w acted).1)
 
--- what a step did is noted and counts; there is none once so many are left of the budget: 0
-abbrev pub turned : ℕ → World → World × Option Acted → World × Bool
-turned left w step = if left == 0 then (w, true) else noted_by step
+-- there is no step once none is left
+abbrev pub turned : ℕ → World → World × Option Acted → Turning
+turned left w step = if left == 0 then ((w, 0), true) else noted_in left step
 
-abbrev pub left_of : ℕ → World × Option Acted → ℕ
-left_of left step = if left == 0 then 0 else left_by step.1 left
+-- the port's turn is a step where it tells something
+abbrev pub port_in : ℕ → World → Turning
+port_in left w =
+    if left == 0 then ((w, 0), true) else (((port_turned w).0, (if tells_port w then left - 1 else left)), (port_turned w).1)
 
 -- ENDPOINT 0
 
@@ -89,3 +94,37 @@ data_of w tag active = with_transfers w active (data_stepped tasks_kind (transfe
 
 unfoldable pub status_of : World → ℕ → List ℕ → World × Option Acted
 status_of w tag active = with_transfers w active (status_stepped tasks_kind (transfers_world w) tag)
+
+-- A ROUND, UP TO THE TAGS: each turn comes while memory is there
+
+abbrev pub then_port : Turning → Turning
+then_port (at, false) = (at, false)
+then_port (at, true) = port_in at.1 at.0
+
+abbrev pub then_commands : Turning → Turning
+then_commands (at, false) = (at, false)
+then_commands (at, true) = turned at.1 at.0 (commands_stepped at.0)
+
+abbrev pub then_control : Turning → Turning
+then_control (at, false) = (at, false)
+then_control (at, true) = turned at.1 at.0 (control_stepped at.0)
+
+abbrev pub then_invalid : StreamPipe → Turning → Turning
+then_invalid name (at, false) = (at, false)
+then_invalid name (at, true) = turned at.1 at.0 (invalid_stepped at.0 name)
+
+-- the command pipe, and then doorbells of streams that aren't there
+unfoldable pub pipes_turned : List ℕ → ℕ → World → Turning
+pipes_turned active left w =
+    then_invalid DataIn (then_invalid DataOut (then_invalid Status (turned left w (command_pipe_stepped w active))))
+
+abbrev pub then_pipes : List ℕ → Turning → Turning
+then_pipes active (at, false) = (at, false)
+then_pipes active (at, true) = pipes_turned active at.1 at.0
+
+-- what is still to be told is told first
+abbrev pub settled_in : ℕ → World → Turning
+settled_in left w = (((settled w).0, left), (settled w).1)
+
+unfoldable pub front_turned : List ℕ → ℕ → World → Turning
+front_turned active left w = then_pipes active (then_control (then_commands (then_port (settled_in left w))))

@@ -25,9 +25,11 @@
 //! what it asks for beyond the registers, and so are a reset, the plug, MFINDEX and a message an equation each. The next request is that of
 //! the first active tag that asks; an answer of the backend is `answered` of uas_tasks; neither changes anything else. A TRB of the command
 //! ring is `command_in`, and a step there `commands_stepped`. A step's event ring is `taken` of what is kept and the registers, and `seen`
-//! ahead; an event of the controller's own is `event_posted`, and what a step left `settled`. Each turn of a round, of port, command ring,
-//! endpoint 0, command pipe and a tag's data and status, is `turned` of its step. How [`Machine::work`] joins the turns, which tags are active
-//! there, and how [`Machine::wants`] joins what they lack, is tested. Of a range that is wanted it is proved alone that a byte isn't there.
+//! ahead; an event of the controller's own is `event_posted`, and what a step left `settled`.
+//!
+//! What a call of [`Machine::work`] makes of memory and of the whole machine is `IsWorked` (specs/Worked): rounds of turns in their order, each
+//! turn an equation. Which tags are active after a step is left open there, and tested. So is how [`Machine::wants`] joins what the turns
+//! lack: of a range that is wanted it is proved alone that a byte isn't there.
 //!
 //! It stands on `xhci_registers`, `xhci_slots`, `xhci_control`, `guest_transfers` and `guest_tasks`.
 #![tactic(auto)]

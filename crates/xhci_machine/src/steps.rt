@@ -53,6 +53,7 @@ impl Machine {
     ) -> Result<Acted, Outside>
         ensures stepped { (record { memory = M.contents memory.new; events = events.new; machine = self.new }, result_ok result)
             ≡ invalid_stepped (record { memory = M.contents memory.old; events = events.old; machine = self.old }) name }
+        ensures device { self.new.device ≡ self.old.device }
         ensures same_loan { M.loan memory.new ≡ M.loan memory.old }
     {
         self.transfers.step_invalid(memory, events, name)

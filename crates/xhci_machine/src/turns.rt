@@ -1,9 +1,10 @@
 //! The turns of a round, each of at most one step.
-ghost use Rattle.std.specs.Prelude.{◌≡◌, ◌<◌, ◌≤◌, ◌-◌, ◌==◌, ◌&&◌, is_ok, true, false, if◌then◌else◌};
+ghost use Rattle.std.specs.Prelude.{◌≡◌, ℕ, List, ◌<◌, ◌≤◌, ◌-◌, ◌==◌, ◌&&◌, is_ok, true, false, if◌then◌else◌};
 ghost use Rattle.guest_pipes.specs.Step.{has_place};
 ghost use Rattle.guest_rings.specs.Events.{has_room};
-ghost use Rattle.xhci_machine.specs.Rounds.{command_pipe_stepped, control_stepped, data_of, invalid_stepped, left_of, status_of, turned};
+ghost use Rattle.xhci_machine.specs.Rounds.{command_pipe_stepped, control_stepped, data_of, front_turned, invalid_stepped, pipes_turned, port_in, status_of, turned};
 ghost use Rattle.xhci_machine.specs.Steps.{commands_stepped};
+ghost use Rattle.xhci_machine.specs.Worked.{TagsTurned, busy_turned, gone_dropped, is_busy, is_gone, tag_turned};
 ghost use Rattle.xhci_machine.specs.Turns.{interrupted, left_after, noted, port_turned, settled, tells_port, told_of_port};
 
 use crate::Machine;
@@ -45,13 +46,14 @@ impl Machine {
     /// Tells what a step left: an interrupt where an event asked for one, and endpoints' states in their contexts. Refused where such a
     /// context isn't there.
     #[tactic(auto, unfolding(crate::specs::Turns::settled))]
-    pub(crate) fn settle<M: GuestMemory>(
+    fn settle<M: GuestMemory>(
         &mut self,
         memory: &mut M,
         events: &mut EventRing,
     ) -> Result<(), Outside>
         ensures settled { (record { memory = M.contents memory.new; events = events.new; machine = self.new }, is_ok result)
             ≡ settled (record { memory = M.contents memory.old; events = events.old; machine = self.old }) }
+        ensures device { self.new.device ≡ self.old.device }
         ensures same_loan { M.loan memory.new ≡ M.loan memory.old }
     {
         self.raise_asked(events);
@@ -61,6 +63,7 @@ impl Machine {
     /// Raises an interrupt where an event asked for one.
     fn raise_asked(&mut self, events: &mut EventRing)
         ensures machine { self.new ≡ interrupted events.old.asks self.old }
+        ensures device { self.new.device ≡ self.old.device }
         ensures events { events.new ≡ record events.old { asks = false } }
     {
         if events.take_asks() {
@@ -80,6 +83,7 @@ impl Machine {
         ensures noted { (record { memory = M.contents memory.new; events = events.new; machine = self.new }, is_ok result)
             ≡ noted (record { memory = M.contents memory.old; events = events.old; machine = self.old }) acted }
         ensures left { turn.new.left ≡ left_after acted turn.old.left }
+        ensures device { self.new.device ≡ self.old.device }
         ensures same_loan { M.loan memory.new ≡ M.loan memory.old }
     {
         match acted {
@@ -91,17 +95,14 @@ impl Machine {
     }
 
     /// Detects the disk, or tells of a change of its port.
-    pub(crate) fn turn_port<M: GuestMemory>(
+    fn turn_port<M: GuestMemory>(
         &mut self,
         memory: &mut M,
         events: &mut EventRing,
         turn: &mut Turn,
     ) -> Result<(), Outside>
-        ensures turned { (record { memory = M.contents memory.new; events = events.new; machine = self.new }, is_ok result)
-            ≡ (if turn.old.left == 0 then (record { memory = M.contents memory.old; events = events.old; machine = self.old }, true)
-            else port_turned (record { memory = M.contents memory.old; events = events.old; machine = self.old })) }
-        ensures left { turn.new.left ≡ (if tells_port (record { memory = M.contents memory.old; events = events.old; machine = self.old })
-            then turn.old.left - 1 else turn.old.left) }
+        ensures turned { ((record { memory = M.contents memory.new; events = events.new; machine = self.new }, turn.new.left), is_ok result)
+            ≡ port_in turn.old.left (record { memory = M.contents memory.old; events = events.old; machine = self.old }) }
         ensures same_loan { M.loan memory.new ≡ M.loan memory.old }
     {
         if turn.is_over() {
@@ -136,16 +137,14 @@ impl Machine {
         self.note(memory, events, turn, Acted::Worked)
     }
 
-    pub(crate) fn turn_commands<M: GuestMemory>(
+    fn turn_commands<M: GuestMemory>(
         &mut self,
         memory: &mut M,
         events: &mut EventRing,
         turn: &mut Turn,
     ) -> Result<(), Outside>
-        ensures turned { (record { memory = M.contents memory.new; events = events.new; machine = self.new }, is_ok result)
+        ensures turned { ((record { memory = M.contents memory.new; events = events.new; machine = self.new }, turn.new.left), is_ok result)
             ≡ turned turn.old.left (record { memory = M.contents memory.old; events = events.old; machine = self.old })
-            (commands_stepped (record { memory = M.contents memory.old; events = events.old; machine = self.old })) }
-        ensures left { turn.new.left ≡ left_of turn.old.left
             (commands_stepped (record { memory = M.contents memory.old; events = events.old; machine = self.old })) }
         ensures same_loan { M.loan memory.new ≡ M.loan memory.old }
     {
@@ -156,16 +155,14 @@ impl Machine {
         self.note(memory, events, turn, acted)
     }
 
-    pub(crate) fn turn_control<M: GuestMemory>(
+    fn turn_control<M: GuestMemory>(
         &mut self,
         memory: &mut M,
         events: &mut EventRing,
         turn: &mut Turn,
     ) -> Result<(), Outside>
-        ensures turned { (record { memory = M.contents memory.new; events = events.new; machine = self.new }, is_ok result)
+        ensures turned { ((record { memory = M.contents memory.new; events = events.new; machine = self.new }, turn.new.left), is_ok result)
             ≡ turned turn.old.left (record { memory = M.contents memory.old; events = events.old; machine = self.old })
-            (control_stepped (record { memory = M.contents memory.old; events = events.old; machine = self.old })) }
-        ensures left { turn.new.left ≡ left_of turn.old.left
             (control_stepped (record { memory = M.contents memory.old; events = events.old; machine = self.old })) }
         ensures same_loan { M.loan memory.new ≡ M.loan memory.old }
     {
@@ -176,16 +173,14 @@ impl Machine {
         self.note(memory, events, turn, acted)
     }
 
-    pub(crate) fn turn_command_pipe<M: GuestMemory>(
+    fn turn_command_pipe<M: GuestMemory>(
         &mut self,
         memory: &mut M,
         events: &mut EventRing,
         turn: &mut Turn,
     ) -> Result<(), Outside>
-        ensures turned { (record { memory = M.contents memory.new; events = events.new; machine = self.new }, is_ok result)
+        ensures turned { ((record { memory = M.contents memory.new; events = events.new; machine = self.new }, turn.new.left), is_ok result)
             ≡ turned turn.old.left (record { memory = M.contents memory.old; events = events.old; machine = self.old })
-            (command_pipe_stepped (record { memory = M.contents memory.old; events = events.old; machine = self.old }) self.new.device.active) }
-        ensures left { turn.new.left ≡ left_of turn.old.left
             (command_pipe_stepped (record { memory = M.contents memory.old; events = events.old; machine = self.old }) self.new.device.active) }
         ensures same_loan { M.loan memory.new ≡ M.loan memory.old }
     {
@@ -197,18 +192,17 @@ impl Machine {
     }
 
     /// A doorbell of a stream that isn't there.
-    pub(crate) fn turn_invalid<M: GuestMemory>(
+    fn turn_invalid<M: GuestMemory>(
         &mut self,
         memory: &mut M,
         events: &mut EventRing,
         turn: &mut Turn,
         name: StreamPipe,
     ) -> Result<(), Outside>
-        ensures turned { (record { memory = M.contents memory.new; events = events.new; machine = self.new }, is_ok result)
+        ensures turned { ((record { memory = M.contents memory.new; events = events.new; machine = self.new }, turn.new.left), is_ok result)
             ≡ turned turn.old.left (record { memory = M.contents memory.old; events = events.old; machine = self.old })
             (invalid_stepped (record { memory = M.contents memory.old; events = events.old; machine = self.old }) name) }
-        ensures left { turn.new.left ≡ left_of turn.old.left
-            (invalid_stepped (record { memory = M.contents memory.old; events = events.old; machine = self.old }) name) }
+        ensures device { self.new.device ≡ self.old.device }
         ensures same_loan { M.loan memory.new ≡ M.loan memory.old }
     {
         if turn.is_over() {
@@ -226,10 +220,8 @@ impl Machine {
         tag: u16,
     ) -> Result<(), Outside>
         requires { tag < 241 }
-        ensures turned { (record { memory = M.contents memory.new; events = events.new; machine = self.new }, is_ok result)
+        ensures turned { ((record { memory = M.contents memory.new; events = events.new; machine = self.new }, turn.new.left), is_ok result)
             ≡ turned turn.old.left (record { memory = M.contents memory.old; events = events.old; machine = self.old })
-            (data_of (record { memory = M.contents memory.old; events = events.old; machine = self.old }) tag self.new.device.active) }
-        ensures left { turn.new.left ≡ left_of turn.old.left
             (data_of (record { memory = M.contents memory.old; events = events.old; machine = self.old }) tag self.new.device.active) }
         ensures same_loan { M.loan memory.new ≡ M.loan memory.old }
     {
@@ -248,10 +240,8 @@ impl Machine {
         tag: u16,
     ) -> Result<(), Outside>
         requires { tag < 241 }
-        ensures turned { (record { memory = M.contents memory.new; events = events.new; machine = self.new }, is_ok result)
+        ensures turned { ((record { memory = M.contents memory.new; events = events.new; machine = self.new }, turn.new.left), is_ok result)
             ≡ turned turn.old.left (record { memory = M.contents memory.old; events = events.old; machine = self.old })
-            (status_of (record { memory = M.contents memory.old; events = events.old; machine = self.old }) tag self.new.device.active) }
-        ensures left { turn.new.left ≡ left_of turn.old.left
             (status_of (record { memory = M.contents memory.old; events = events.old; machine = self.old }) tag self.new.device.active) }
         ensures same_loan { M.loan memory.new ≡ M.loan memory.old }
     {
@@ -262,28 +252,67 @@ impl Machine {
         self.note(memory, events, turn, acted)
     }
 
+    /// The command pipe, and then doorbells of streams that aren't there.
+    #[tactic(auto, unfolding(crate::specs::Rounds::pipes_turned))]
+    fn turn_pipes<M: GuestMemory>(
+        &mut self,
+        memory: &mut M,
+        events: &mut EventRing,
+        turn: &mut Turn,
+    ) -> Result<(), Outside>
+        ensures turned { ((record { memory = M.contents memory.new; events = events.new; machine = self.new }, turn.new.left), is_ok result)
+            ≡ pipes_turned self.new.device.active turn.old.left (record { memory = M.contents memory.old; events = events.old; machine = self.old }) }
+        ensures same_loan { M.loan memory.new ≡ M.loan memory.old }
+    {
+        self.turn_command_pipe(memory, events, turn)?;
+        self.turn_invalid(memory, events, turn, StreamPipe::Status)?;
+        self.turn_invalid(memory, events, turn, StreamPipe::DataOut)?;
+        self.turn_invalid(memory, events, turn, StreamPipe::DataIn)
+    }
+
+    /// The turns before the tags'.
+    #[tactic(auto, unfolding(crate::specs::Rounds::front_turned))]
+    pub(crate) fn turn_front<M: GuestMemory>(
+        &mut self,
+        memory: &mut M,
+        events: &mut EventRing,
+        turn: &mut Turn,
+    ) -> Result<(), Outside>
+        ensures turned { ((record { memory = M.contents memory.new; events = events.new; machine = self.new }, turn.new.left), is_ok result)
+            ≡ front_turned self.new.device.active turn.old.left (record { memory = M.contents memory.old; events = events.old; machine = self.old }) }
+        ensures same_loan { M.loan memory.new ≡ M.loan memory.old }
+    {
+        self.settle(memory, events)?;
+        self.turn_port(memory, events, turn)?;
+        self.turn_commands(memory, events, turn)?;
+        self.turn_control(memory, events, turn)?;
+        self.turn_pipes(memory, events, turn)
+    }
+
+    /// Each active tag's turn, in their order.
     pub(crate) fn turn_tags<M: GuestMemory>(
         &mut self,
         memory: &mut M,
         events: &mut EventRing,
         turn: &mut Turn,
     ) -> Result<(), Outside>
+        ensures turned { TagsTurned 241 ((record { memory = M.contents memory.old; events = events.old; machine = self.old }, turn.old.left), true)
+            ((record { memory = M.contents memory.new; events = events.new; machine = self.new }, turn.new.left), is_ok result) }
         ensures same_loan { M.loan memory.new ≡ M.loan memory.old }
     {
         let mut from = 0;
-        for _ in 0..TAGS {
-            let Some(tag) = self.device.next_active(from) else {
-                return Ok(());
-            };
+        while let Some(tag) = self.device.next_active(from) {
             if tag >= TAGS {
                 return Ok(());
             }
-            from = tag + 1;
             self.turn_tag(memory, events, turn, tag)?;
+            from = tag + 1;
         }
         Ok(())
     }
 
+    /// A tag's turn.
+    #[tactic(auto, unfolding(crate::specs::Worked::tag_turned))]
     fn turn_tag<M: GuestMemory>(
         &mut self,
         memory: &mut M,
@@ -292,30 +321,62 @@ impl Machine {
         tag: u16,
     ) -> Result<(), Outside>
         requires { tag < 241 }
+        ensures turned { (between : List ℕ) × (((record { memory = M.contents memory.new; events = events.new; machine = self.new }, turn.new.left), is_ok result)
+            ≡ tag_turned between self.new.device.active turn.old.left tag (record { memory = M.contents memory.old; events = events.old; machine = self.old })) }
         ensures same_loan { M.loan memory.new ≡ M.loan memory.old }
     {
         if turn.is_over() {
             return Ok(());
         }
-        if self.is_gone(tag) {
-            self.transfers.drop_left(tag);
-        }
-        if !self.has_work(tag) {
+        self.drop_gone(tag);
+        if self.has_work(tag) {
+            self.turn_busy(memory, events, turn, tag)
+        } else {
             self.device.rest(tag);
-            return Ok(());
+            Ok(())
         }
+    }
+
+    /// A tag's data, and then its status.
+    #[tactic(auto, unfolding(crate::specs::Worked::busy_turned))]
+    fn turn_busy<M: GuestMemory>(
+        &mut self,
+        memory: &mut M,
+        events: &mut EventRing,
+        turn: &mut Turn,
+        tag: u16,
+    ) -> Result<(), Outside>
+        requires { tag < 241 }
+        ensures turned { (between : List ℕ) × (((record { memory = M.contents memory.new; events = events.new; machine = self.new }, turn.new.left), is_ok result)
+            ≡ busy_turned between self.new.device.active turn.old.left tag (record { memory = M.contents memory.old; events = events.old; machine = self.old })) }
+        ensures same_loan { M.loan memory.new ≡ M.loan memory.old }
+    {
         self.turn_data(memory, events, turn, tag)?;
         self.turn_status(memory, events, turn, tag)
     }
 
+    /// Of a task that is gone what is left of its chunk is dropped.
+    #[tactic(auto, unfolding(crate::specs::Worked::gone_dropped))]
+    fn drop_gone(&mut self, tag: u16)
+        requires { tag < 241 }
+        ensures { self.new ≡ gone_dropped self.old tag }
+    {
+        if self.is_gone(tag) {
+            self.transfers.drop_left(tag);
+        }
+    }
+
     /// Whether a tag has no task; one that waits for the backend has.
-    pub(crate) fn is_gone(&self, tag: u16) -> bool {
+    pub(crate) fn is_gone(&self, tag: u16) -> bool
+        ensures { result ≡ is_gone self.now tag }
+    {
         matches!(self.device.tasks.wants(tag), Wants::Absent)
     }
 
     /// Whether a tag has something to do: of one whose request is at the backend a part of its chunk may be left.
     pub(crate) fn has_work(&self, tag: u16) -> bool
         requires { tag < 241 }
+        ensures { result ≡ is_busy self.now tag }
     {
         self.transfers.has_chunk(tag) || self.transfers.has_work(tag, self.device.phase(tag))
     }

@@ -1,11 +1,11 @@
 //! The steps, in turns.
-ghost use Rattle.std.specs.Prelude.{◌≡◌, ◌≤◌, false};
+ghost use Rattle.std.specs.Prelude.{◌≡◌, ◌≤◌, ◌-◌, is_ok, false};
+ghost use Rattle.xhci_machine.specs.Worked.{IsWorked, RoundTurned, RoundsWorked, nothing_worked};
 
 use crate::Machine;
 use crate::turns::Turn;
 use guest_memory::{GuestMemory, Outside};
 use guest_rings::EventRing;
-use guest_transfers::StreamPipe;
 
 /// How many steps a call took, and whether there may be more to do at once.
 #[derive(Clone, Copy, Debug, PartialEq, Eq)]
@@ -18,6 +18,8 @@ impl Machine {
     /// Takes at most `budget` steps, each of one TRB or one chunk, in turns: port, command ring, endpoint 0, command pipe, then each active
     /// tag, data before status. None while R/S is 0, or while there is no event ring.
     pub fn work<M: GuestMemory>(&mut self, memory: &mut M, budget: u32) -> Worked
+        // What it takes are rounds of turns, each of which is an equation.
+        ensures worked { IsWorked budget (M.contents memory.old) self.old (M.contents memory.new) self.new result }
         ensures same_loan { M.loan memory.new ≡ M.loan memory.old }
         ensures budget { result.steps ≤ budget }
         ensures stands { self.old.registers.runs ≡ false → (self.new ≡ self.old) × (M.contents memory.new ≡ M.contents memory.old) }
@@ -39,61 +41,54 @@ impl Machine {
         }
     }
 
+    /// Rounds until the budget is used up, one takes no step, or memory isn't there.
     fn rounds<M: GuestMemory>(
         &mut self,
         memory: &mut M,
         events: &mut EventRing,
         budget: u32,
     ) -> Worked
+        ensures worked { RoundsWorked budget (record { memory = M.contents memory.old; events = events.old; machine = self.old })
+            (record { memory = M.contents memory.new; events = events.new; machine = self.new }) result }
         ensures same_loan { M.loan memory.new ≡ M.loan memory.old }
         ensures budget { result.steps ≤ budget }
     {
-        let mut left = budget;
-        for _ in 0..budget {
-            match self.round(memory, events, left) {
+        let mut turn = Turn { left: budget };
+        while turn.left > 0 {
+            let before = turn.left;
+            match self.round(memory, events, &mut turn) {
                 Err(Outside) => {
                     self.registers.fail();
-                    return taken_of(budget, left, false);
+                    return taken_of(budget, before, false);
                 }
-                Ok(after) => {
-                    if after == left {
-                        return taken_of(budget, left, false);
+                Ok(()) => {
+                    if turn.left >= before {
+                        return taken_of(budget, before, false);
                     }
-                    left = after;
                 }
-            }
-            if left == 0 {
-                break;
             }
         }
-        taken_of(budget, left, true)
+        taken_of(budget, 0, true)
     }
 
-    /// A round of steps; how many are left of the budget then.
+    /// A round of steps.
     fn round<M: GuestMemory>(
         &mut self,
         memory: &mut M,
         events: &mut EventRing,
-        left: u32,
-    ) -> Result<u32, Outside>
+        turn: &mut Turn,
+    ) -> Result<(), Outside>
+        ensures turned { RoundTurned (record { memory = M.contents memory.old; events = events.old; machine = self.old }, turn.old.left)
+            ((record { memory = M.contents memory.new; events = events.new; machine = self.new }, turn.new.left), is_ok result) }
         ensures same_loan { M.loan memory.new ≡ M.loan memory.old }
     {
-        let mut turn = Turn { left };
-        self.settle(memory, events)?;
-        self.turn_port(memory, events, &mut turn)?;
-        self.turn_commands(memory, events, &mut turn)?;
-        self.turn_control(memory, events, &mut turn)?;
-        self.turn_command_pipe(memory, events, &mut turn)?;
-        self.turn_invalid(memory, events, &mut turn, StreamPipe::Status)?;
-        self.turn_invalid(memory, events, &mut turn, StreamPipe::DataOut)?;
-        self.turn_invalid(memory, events, &mut turn, StreamPipe::DataIn)?;
-        self.turn_tags(memory, events, &mut turn)?;
-        Ok(turn.left)
+        self.turn_front(memory, events, turn)?;
+        self.turn_tags(memory, events, turn)
     }
 }
 
 fn none() -> Worked
-    ensures { result.steps ≡ 0 }
+    ensures { result ≡ nothing_worked }
 {
     Worked {
         steps: 0,
@@ -102,7 +97,7 @@ fn none() -> Worked
 }
 
 fn taken_of(budget: u32, left: u32, more: bool) -> Worked
-    ensures { result.steps ≤ budget }
+    ensures { result ≡ record { steps = budget - left; more = more } }
 {
     Worked {
         steps: budget.saturating_sub(left),

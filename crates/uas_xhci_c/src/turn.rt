@@ -3,9 +3,11 @@ ghost use Rattle.std.specs.Prelude.{◌≡◌, ◌≤◌, false, length};
 ghost use types.Logic.{sem};
 ghost use base.Fraction.{full_share};
 ghost use denote.RawPtr.{lies_at};
+ghost use Rattle.guest_memory.specs.Bytes.{Memory};
 ghost use Rattle.guest_memory.specs.Held.{held};
 ghost use Rattle.guest_memory.specs.Lend.{lent_in};
 ghost use Rattle.xhci_machine.specs.declared.Machine.{Machine};
+ghost use Rattle.xhci_machine.specs.Worked.{IsWorked};
 ghost use Rattle.uas_xhci_c.specs.contracts.door.KeptXhci.{the_row as xhci_row};
 ghost use Rattle.uas_xhci_c.specs.Turned.{Turned};
 
@@ -89,6 +91,8 @@ fn work_over(
     written: &mut [WrittenRange],
     budget: u32,
 ) -> Done
+    ensures worked { (memory : Memory) × IsWorked budget (held lent_in regions.old) machine.old memory machine.new result.worked
+        × (length written.old ≡ 0 → memory ≡ held lent_in regions.new) }
     ensures budget { result.worked.steps ≤ budget }
     ensures noted { result.noted ≤ length written.old }
     ensures stands { machine.old.registers.runs ≡ false
@@ -106,6 +110,7 @@ fn work_over(
 }
 
 fn work_plainly(machine: &mut Machine, regions: &mut [Lent], budget: u32) -> Worked
+    ensures worked { IsWorked budget (held lent_in regions.old) machine.old (held lent_in regions.new) machine.new result }
     ensures budget { result.steps ≤ budget }
     ensures stands { machine.old.registers.runs ≡ false
         → (machine.new ≡ machine.old) × (held lent_in regions.new ≡ held lent_in regions.old) }
@@ -120,6 +125,7 @@ fn work_noting(
     written: &mut [WrittenRange],
     budget: u32,
 ) -> Done
+    ensures worked { (memory : Memory) × IsWorked budget (held lent_in regions.old) machine.old memory machine.new result.worked }
     ensures budget { result.worked.steps ≤ budget }
     ensures noted { result.noted ≤ length written.old }
     ensures stands { machine.old.registers.runs ≡ false → machine.new ≡ machine.old }

@@ -1,1 +1,4 @@
 mod Asking
+mod Marked
+mod Kept
+mod Calls

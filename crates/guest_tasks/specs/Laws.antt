@@ -1,5 +1,5 @@
 -- What a phase as the pipes see it says of what the device wants.
-use Rattle.std.proofs.Common.{◌≡◌, ◌≤◌, ℕ, zero, suc, min, List, [], ◌∷◌, length, refl, ap, subst, arith, Option}
+use Rattle.std.proofs.Common.{◌≡◌, ℕ, zero, suc, List, [], ◌∷◌, length, refl, ap, subst, arith, Option}
 use Rattle.uas_iu.specs.declared.Iu.{Iu}
 use Rattle.uas_tasks.specs.declared.Wants.{Wants}
 use Rattle.uas_tasks.specs.declared.Wants.TheVariants.{Absent as NoTask, Asks, Waits, Gives as WantsGive, Takes as WantsTake, Ends}

@@ -17,6 +17,8 @@ use Rattle.guest_tags.specs.declared.device.Phase.TheVariants.{Absent, Gives, Ta
 use Rattle.guest_tags.specs.declared.device.Received.{Received}
 use Rattle.guest_tags.specs.declared.device.Received.TheVariants.{Began, Overlap, Dropped}
 use Rattle.guest_tags.specs.Devices.{Kind}
+use Rattle.guest_tasks.specs.declared.GuestTasks.{GuestTasks}
+use Rattle.guest_tasks.specs.Active.{active_after}
 
 -- how a task ended, by the status of the information unit that answers it: 00h is GOOD
 abbrev pub end_of_status : Bool → End
@@ -70,17 +72,23 @@ received_as bytes (Ok (TookBegan tag)) = Began tag
 received_as bytes (Ok TookDropped) = Dropped
 received_as bytes (Err overlap) = Overlap (tag_in bytes)
 
-abbrev pub received_told : List ℕ → Machine × Result Took OverlapError → Machine × Received
-received_told bytes after = (after.0, received_as bytes after.1)
+-- the tag on which it came is active
+abbrev pub received_told : GuestTasks → List ℕ → Machine × Result Took OverlapError → GuestTasks × Received
+received_told device bytes after =
+    (record { tasks = after.0; active = active_after device.active (received_as bytes after.1) }, received_as bytes after.1)
 
-abbrev pub tasks_kind : Kind Machine
+abbrev pub with_tasks : GuestTasks → Machine → GuestTasks
+with_tasks device tasks = record device { tasks = tasks }
+
+-- no other call changes which tags are active
+abbrev pub tasks_kind : Kind GuestTasks
 tasks_kind = record {
-  phase = λ machine tag. phase_of (wanted machine tag) (answer_on machine tag);
-  given = λ machine tag. Some (given machine tag (chunk_in (wanted machine tag)));
-  gave = λ machine tag. gave machine tag (chunk_in (wanted machine tag));
-  fits = λ machine tag bytes. true;
-  took = took;
-  status = λ machine tag. text_of (answer_on machine tag);
-  sent = without_task;
-  received = λ machine bytes. received_told bytes (received machine bytes);
+  phase = λ device tag. phase_of (wanted device.tasks tag) (answer_on device.tasks tag);
+  given = λ device tag. Some (given device.tasks tag (chunk_in (wanted device.tasks tag)));
+  gave = λ device tag. with_tasks device (gave device.tasks tag (chunk_in (wanted device.tasks tag)));
+  fits = λ device tag bytes. true;
+  took = λ device tag bytes. with_tasks device (took device.tasks tag bytes);
+  status = λ device tag. text_of (answer_on device.tasks tag);
+  sent = λ device tag. with_tasks device (without_task device.tasks tag);
+  received = λ device bytes. received_told device bytes (received device.tasks bytes);
 }

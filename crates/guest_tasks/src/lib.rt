@@ -5,16 +5,19 @@
 //! wait. An information unit that overlaps is of the tag in its bytes 2 and 3.
 //!
 //! It also keeps which tags are active: those on which an information unit came since they were last found without a task. So nobody has to
-//! go over tags that have nothing to do.
+//! go over tags that have nothing to do. They are a part of the device's state, so the equation of each call has them: [`GuestTasks::receive`]
+//! adds a tag (`active_after`), [`GuestTasks::rest`] takes one away (`rested`), and no other call changes them.
 #![tactic(auto)]
 
-ghost use Rattle.std.specs.Prelude.{◌≡◌, ℕ, ◌≤◌, ◌<◌, IfSome, IfNone, Some, None, option_map, length, min, slice_index, true, false};
+ghost use Rattle.std.specs.Prelude.{◌≡◌, ℕ, List, ◌≤◌, ◌<◌, IfSome, IfNone, Some, None, option_map, length, min, slice_index, true, false};
 ghost use Rattle.marks.specs.Marks.{is_marked};
 ghost use Rattle.uas_iu.specs.Units.{IsTextOf, unit_text};
 ghost use Rattle.uas_target.specs.Fields.{tag_in};
-ghost use Rattle.uas_tasks.specs.Machine.{Machine, answer_on, answered, next_of, opening, quiet, powered_machine, received, tasks_ended, wanted};
+ghost use Rattle.uas_tasks.specs.Machine.{Machine, answer_on, answered, has_task, next_of, opening, quiet, powered_machine, received, tasks_ended, wanted};
 ghost use Rattle.guest_tags.specs.Devices.{IsChunk, Kind};
-ghost use Rattle.guest_tasks.specs.Active.{IsIdle, asks_on, is_asking};
+ghost use Rattle.guest_tasks.specs.declared.GuestTasks.{GuestTasks};
+ghost use Rattle.uas_tasks.specs.declared.Outcome.{Outcome};
+ghost use Rattle.guest_tasks.specs.Active.{IsIdle, TasksAreActive, active_after, asks_on, is_asking, rested, with_active};
 ghost use Rattle.guest_tasks.specs.Tasks.{end_of, end_of_status, gives_of, phase_of, received_as, received_told, takes_of, tasks_kind, text_of};
 
 use arrayvec::ArrayVec;
@@ -102,13 +105,18 @@ fn tag_of(bytes: &[u8]) -> u16
 }
 
 /// A tag is active from now on.
-fn mark(active: &mut Marks<4>, tag: u16) {
+fn mark(active: &mut Marks<4>, tag: u16)
+    ensures { active.new ≡ with_active active.old tag }
+{
     if tag < 256 {
         active.set(usize::from(tag), true);
     }
 }
 
-fn mark_received(active: &mut Marks<4>, received: Received) {
+/// The tag is active on which an information unit came.
+fn mark_received(active: &mut Marks<4>, received: Received)
+    ensures { active.new ≡ active_after active.old received }
+{
     match received {
         Received::Began(tag) | Received::Overlap(tag) => mark(active, tag),
         Received::Dropped => (),
@@ -120,6 +128,7 @@ impl GuestTasks {
     pub fn new(tasks: Tasks) -> GuestTasks
         ensures tasks { result.tasks ≡ tasks }
         ensures active { IsIdle result }
+        ensures begins { ((tag : ℕ) → has_task tasks tag ≡ false) → TasksAreActive result }
     {
         GuestTasks {
             tasks,
@@ -141,6 +150,7 @@ impl GuestTasks {
 
     /// A tag that has no task isn't active any more, until an information unit comes on it.
     pub fn rest(&mut self, tag: u16)
+        ensures rested { self.new ≡ rested self.old tag }
         ensures tasks { self.new.tasks ≡ self.old.tasks }
         ensures here { wanted self.old.tasks tag ≡ Wants.Absent → tag < 256 → is_marked self.new.active tag ≡ false }
         ensures busy { (wanted self.old.tasks tag ≡ Wants.Absent → ⊥) → self.new ≡ self.old }
@@ -204,9 +214,9 @@ impl GuestTasks {
 }
 
 impl UasDevice for GuestTasks {
-    ghost State = { Machine };
+    ghost State = { Self };
 
-    ghost state = { λ device. device.tasks };
+    ghost state = { λ device. device };
 
     ghost kind = { tasks_kind };
 
@@ -248,3 +258,17 @@ impl UasDevice for GuestTasks {
         received
     }
 }
+
+/// Each tag with a task is active, and stays so with each call: law.
+pub fn tasks_stay_active()
+    ensures received { (device : GuestTasks) (bytes : List ℕ) → TasksAreActive device → TasksAreActive (tasks_kind.received device bytes).0 }
+    ensures gave { (device : GuestTasks) (tag : ℕ) → TasksAreActive device → TasksAreActive (tasks_kind.gave device tag) }
+    ensures took { (device : GuestTasks) (tag : ℕ) (bytes : List ℕ) → TasksAreActive device → TasksAreActive (tasks_kind.took device tag bytes) }
+    ensures sent { (device : GuestTasks) (tag : ℕ) → TasksAreActive device → TasksAreActive (tasks_kind.sent device tag) }
+    ensures rested { (device : GuestTasks) (tag : ℕ) → TasksAreActive device → TasksAreActive (rested device tag) }
+    ensures asked { (device : GuestTasks) (tag : ℕ) → TasksAreActive device → TasksAreActive (record device { tasks = (next_of device.tasks tag).0 }) }
+    ensures answered { (device : GuestTasks) (number : ℕ) (outcome : Outcome) (bytes : List ℕ) → TasksAreActive device
+        → TasksAreActive (record device { tasks = (answered device.tasks number outcome bytes).0 }) }
+    ensures ended { (device : GuestTasks) → TasksAreActive device → TasksAreActive (record device { tasks = tasks_ended device.tasks }) }
+    ensures powered { (device : GuestTasks) → TasksAreActive device → TasksAreActive (record device { tasks = powered_machine device.tasks }) }
+{}

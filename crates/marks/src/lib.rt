@@ -16,9 +16,9 @@
 //! memory.
 #![tactic(auto)]
 
-ghost use Rattle.std.specs.Prelude.{◌≡◌, ℕ, ◌+◌, ◌*◌, ◌<◌, ◌≤◌, true, false, IfSome, IfNone, if◌then◌else◌};
+ghost use Rattle.std.specs.Prelude.{◌≡◌, ℕ, length, ◌+◌, ◌*◌, ◌<◌, ◌≤◌, true, false, IfSome, IfNone, if◌then◌else◌};
 ghost use Rattle.std.specs.Int.{bit_at};
-ghost use Rattle.marks.specs.Marks.{is_marked};
+ghost use Rattle.marks.specs.Marks.{is_marked, with_bit, with_mark};
 
 use std::marker::Model;
 
@@ -48,6 +48,7 @@ impl<const W: usize> Model for Marks<W> {
 /// A word with this bit set or cleared.
 fn with_bit(word: u64, bit: usize, set: bool) -> u64
     requires { bit < BITS }
+    ensures word { result ≡ with_bit word bit set }
     ensures here { bit_at result bit ≡ (if set then 1 else 0) }
     ensures others { (other : ℕ) → other < BITS → (other ≡ bit → ⊥) → bit_at result other ≡ bit_at word other }
 {
@@ -77,7 +78,8 @@ impl<const W: usize> Marks<W> {
     /// No place is marked.
     pub fn new() -> Self
         requires { W ≤ 4 }
-        ensures { (place : ℕ) → is_marked result place ≡ false }
+        ensures words { length result ≡ W }
+        ensures none { (place : ℕ) → is_marked result place ≡ false }
     {
         Marks { words: [0; W] }
     }
@@ -85,6 +87,7 @@ impl<const W: usize> Marks<W> {
     /// Marks a place, or takes its mark away.
     pub fn set(&mut self, place: usize, marked: bool)
         requires { place < 64 * W }
+        ensures words { self.new ≡ with_mark self.old place marked }
         ensures here { is_marked self.new place ≡ marked }
         ensures others { (other : ℕ) → (other ≡ place → ⊥) → is_marked self.new other ≡ is_marked self.old other }
     {

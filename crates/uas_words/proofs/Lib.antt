@@ -4,6 +4,7 @@ mod WalkSteps
 mod PlainNumbers
 mod HexWords
 mod Levels
+mod Places
 mod PlainScripts
 mod PlainFiles
 mod PlainPages

@@ -1,24 +1,26 @@
 -- What the plain command lines ask for that audit a log or capture a run.
-use Rattle.std.proofs.Common.{◌≡◌, ◌∙◌, ℕ, ◌==◌, not, true, false, true≢false, List, [], ◌∷◌, Option, Some, None}
+use Rattle.std.proofs.Common.{◌≡◌, ◌∙◌, ℕ, ◌==◌, false, true≢false, List, [], ◌∷◌, Option, Some, None}
 use Rattle.std.proofs.Common.{option_map, refl, ap, ap₂, sym, arith}
-use Rattle.std.specs.Prelude.{codes, option_and_then}
+use Rattle.std.specs.Prelude.{codes}
 use Rattle.clap.specs.Words.{Kinds, Row, Text, fault_of}
 use Rattle.clap.proofs.OnLiterals.{clap_on_literals}
-use Rattle.clap.specs.Faults.{check_fault, defaults_fault, entered_fault, level_fault, settle_fault, walk_fault}
+use Rattle.clap.specs.Faults.{defaults_fault, entered_fault, level_fault, settle_fault, walk_fault}
 use Rattle.clap.specs.Kinds.{or_else}
 use Rattle.clap.specs.Simple.{Shape, built, entered, label_of}
-use Rattle.clap.specs.Takes.{is_given}
-use Rattle.clap.specs.Walk.{answers_to, finished, nothing_held, rows_after, settled, walk, walk_from}
+use Rattle.clap.specs.Walk.{Walk, answers_to, finished, nothing_held, rows_after, settled, walk, walk_from, walked}
+use Rattle.clap.specs.declared.builder.value_parser.Reading.TheVariants.{AsWritten}
+use Rattle.clap.specs.declared.parser.matches.ValueSource.TheVariants.{CommandLine}
 use Rattle.std.specs.Option.{option_map_or}
 use Rattle.std.specs.Prelude.{find}
 use Rattle.uas_profile.specs.declared.TheConstants.{MAX_CLIENTS}
 use Rattle.byte_io.specs.Words.{number_in}
-use Rattle.uas_words.specs.CommandLine.{Asked, AsksCapture, AsksPlainly, asked_for, asked_in, audit, hex_number, bad_of, blocks_of, capture}
+use Rattle.uas_words.specs.CommandLine.{AsksCapture, AsksPlainly, asked_for, asked_in, audit, hex_number, bad_of, blocks_of, capture}
 use Rattle.uas_words.specs.CommandLine.{capture_of, clients_of, file_of, program_app}
-use Rattle.uas_words.proofs.Levels.{Enters, level_nothing}
+use Rattle.uas_words.proofs.Levels.{Enters}
 use Rattle.uas_words.proofs.HexWords.{hex_begins}
+use Rattle.uas_words.proofs.Places.{bad_in, bad_row, before_bad, behind_bad, blocks_in, blocks_row, clients_in, clients_row, ends, found, on, pending}
 use Rattle.uas_words.proofs.PlainNumbers.{IsIn, not-true, number_is_in}
-use Rattle.uas_words.proofs.WalkSteps.{fault-bad, fault-end, fault-plain, fault-value, walked-bad, walked-plain, walked-value}
+use Rattle.uas_words.proofs.WalkSteps.{fault-bad, fault-end, fault-plain, fault-value, standing, walked-bad, walked-plain, walked-value}
 
 -- AUDIT LOG, and --head HEX behind it
 
@@ -85,141 +87,132 @@ captured_by : (clients blocks : ℕ) (file : Text) (bad : Option ℕ) (rows : Li
     → file_of rows ≡ Some file → bad_of rows ≡ Some bad → capture_of rows ≡ Some (capture clients blocks file bad)
 captured_by clients blocks file bad rows p q f r = rw (f, p, q, r) refl
 
-abbrev three : (d : ℕ) (ds : Text) (e : ℕ) (es : Text) (f : ℕ) (fs : Text) → List Text
-three d ds e es f fs = (d ∷ ds) ∷ (e ∷ es) ∷ (f ∷ fs) ∷ []
+abbrev three : Text → Text → Text → List Text
+three c b file = c ∷ b ∷ file ∷ []
 
-abbrev three_found : (d : ℕ) (ds : Text) (e : ℕ) (es : Text) (f : ℕ) (fs : Text) → List Row
-three_found d ds e es f fs = rows_after capture_shape.rules [] (three d ds e es f fs)
+abbrev five : Text → Text → Text → Text → List Text
+five c b file l = c ∷ b ∷ file ∷ codes "--bad" ∷ l ∷ []
 
-three_clients : (d : ℕ) (ds : Text) (e : ℕ) (es : Text) (f : ℕ) (fs : Text) → (d == 45) ≡ false → (d == 43) ≡ false → (e == 45) ≡ false → (f == 45) ≡ false
-    → clients_of (three_found d ds e es f fs) ≡ number_in 1 MAX_CLIENTS (d ∷ ds)
-three_clients d ds e es f fs hyphen plus hyphen' plain =
-    simp (walked-plain d ds hyphen) (simp (walked-plain e es hyphen') (simp (walked-plain f fs plain) (simp hyphen (simp plus))))
+-- WHERE THE WALK STANDS
 
-three_blocks : (d : ℕ) (ds : Text) (e : ℕ) (es : Text) (f : ℕ) (fs : Text) → (d == 45) ≡ false → (e == 45) ≡ false → (e == 43) ≡ false → (f == 45) ≡ false
-    → blocks_of (three_found d ds e es f fs) ≡ number_in 1 65536 (e ∷ es)
-three_blocks d ds e es f fs hyphen hyphen' plus plain =
-    simp (walked-plain d ds hyphen) (simp (walked-plain e es hyphen') (simp (walked-plain f fs plain) (simp hyphen' (simp plus))))
+abbrev file_row : Text → Row
+file_row word = found (codes "FILE") AsWritten CommandLine word
 
-three_file : (d : ℕ) (ds : Text) (e : ℕ) (es : Text) (f : ℕ) (fs : Text) → (d == 45) ≡ false → (e == 45) ≡ false → (f == 45) ≡ false
-    → file_of (three_found d ds e es f fs) ≡ Some (f ∷ fs)
-three_file d ds e es f fs hyphen hyphen' plain =
-    simp (walked-plain d ds hyphen) (simp (walked-plain e es hyphen') (simp (walked-plain f fs plain)))
+abbrev captured : Text → Text → Text → List Row
+captured c b file = clients_row c ∷ blocks_row b ∷ file_row file ∷ []
 
-three_bad : (d : ℕ) (ds : Text) (e : ℕ) (es : Text) (f : ℕ) (fs : Text) → (d == 45) ≡ false → (e == 45) ≡ false → (f == 45) ≡ false
-    → bad_of (three_found d ds e es f fs) ≡ Some None
-three_bad d ds e es f fs hyphen hyphen' plain =
-    simp (walked-plain d ds hyphen) (simp (walked-plain e es hyphen') (simp (walked-plain f fs plain)))
+abbrev behind_clients : Text → Walk
+behind_clients c = standing (pending [] (codes "CLIENTS") (c ∷ [])) 2
 
-three_walk : (d : ℕ) (ds : Text) (e : ℕ) (es : Text) (f : ℕ) (fs : Text) → IsIn 1 MAX_CLIENTS d ds → IsIn 1 65536 e es → (f == 45) ≡ false
-    → walk_fault capture_shape [] (walk_from nothing_held) (three d ds e es f fs) ≡ []
-three_walk d ds e es f fs m n plain =
-    simp (fault-plain d ds m.hyphen) (simp (fault-plain e es n.hyphen) (simp (fault-plain f fs plain) (simp fault-end
-    (simp (m.hyphen, m.plus, m.some, m.first, m.rest, m.fits, m.low, m.high) (simp (n.hyphen, n.plus, n.some, n.first, n.rest, n.fits, n.low, n.high))))))
+abbrev behind_blocks : Text → Text → Walk
+behind_blocks c b = standing (pending (clients_row c ∷ []) (codes "BLOCKS") (b ∷ [])) 3
 
-three_last : (d : ℕ) (ds : Text) (e : ℕ) (es : Text) (f : ℕ) (fs : Text) → (d == 45) ≡ false → (e == 45) ≡ false → (f == 45) ≡ false
-    → settle_fault capture_shape.rules capture_shape.args_override_self (walk capture_shape.rules [] nothing_held (three d ds e es f fs)).held ≡ []
-three_last d ds e es f fs hyphen hyphen' plain = simp (walked-plain d ds hyphen, walked-plain e es hyphen', walked-plain f fs plain)
+abbrev behind_file : Text → Text → Text → Walk
+behind_file c b file = standing (pending (clients_row c ∷ blocks_row b ∷ []) (codes "FILE") (file ∷ [])) 4
 
-three_defaults : (d : ℕ) (ds : Text) (e : ℕ) (es : Text) (f : ℕ) (fs : Text) → (d == 45) ≡ false → (e == 45) ≡ false → (f == 45) ≡ false
-    → defaults_fault (settled capture_shape.rules (walk capture_shape.rules [] nothing_held (three d ds e es f fs)).held).rows capture_shape.rules ≡ []
+-- EACH WORD IS ONE STEP
+
+to_clients : (d : ℕ) (ds : Text) → (d == 45) ≡ false → walked capture_shape.rules [] (walk_from nothing_held) (d ∷ ds) ≡ behind_clients (d ∷ ds)
+to_clients d ds hyphen = walked-plain d ds hyphen capture_shape.rules nothing_held 1
+
+to_blocks : (c : Text) (e : ℕ) (es : Text) → (e == 45) ≡ false → walked capture_shape.rules [] (behind_clients c) (e ∷ es) ≡ behind_blocks c (e ∷ es)
+to_blocks c e es hyphen = walked-plain e es hyphen capture_shape.rules (behind_clients c).held 2
+
+to_file : (c b : Text) (f : ℕ) (fs : Text) → (f == 45) ≡ false → walked capture_shape.rules [] (behind_blocks c b) (f ∷ fs) ≡ behind_file c b (f ∷ fs)
+to_file c b f fs plain = walked-plain f fs plain capture_shape.rules (behind_blocks c b).held 3
+
+to_bad : (c b file : Text) → walked capture_shape.rules [] (behind_file c b file) (codes "--bad") ≡ before_bad (captured c b file) 4
+to_bad c b file = walked-bad capture_shape.rules (behind_file c b file).held 4
+
+to_lba : (rows : List Row) (g : ℕ) (gs : Text) → (g == 45) ≡ false → walked capture_shape.rules [] (before_bad rows 4) (g ∷ gs) ≡ behind_bad rows (g ∷ gs) 4
+to_lba rows g gs hyphen = walked-value g gs hyphen capture_shape.rules (codes "bad") (before_bad rows 4).held 4
+
+three_end : (d : ℕ) (ds : Text) (e : ℕ) (es : Text) (f : ℕ) (fs : Text) → (d == 45) ≡ false → (e == 45) ≡ false → (f == 45) ≡ false
+    → walk capture_shape.rules [] nothing_held (three (d ∷ ds) (e ∷ es) (f ∷ fs)) ≡ behind_file (d ∷ ds) (e ∷ es) (f ∷ fs)
+three_end d ds e es f fs hyphen hyphen' plain =
+    ap (λ (w : Walk). walked capture_shape.rules [] (walked capture_shape.rules [] w (e ∷ es)) (f ∷ fs)) (to_clients d ds hyphen)
+    ∙ (ap (λ (w : Walk). walked capture_shape.rules [] w (f ∷ fs)) (to_blocks (d ∷ ds) e es hyphen') ∙ to_file (d ∷ ds) (e ∷ es) f fs plain)
+
+five_end : (d : ℕ) (ds : Text) (e : ℕ) (es : Text) (f : ℕ) (fs : Text) (g : ℕ) (gs : Text) → (d == 45) ≡ false → (e == 45) ≡ false → (f == 45) ≡ false
+    → (g == 45) ≡ false
+    → walk capture_shape.rules [] nothing_held (five (d ∷ ds) (e ∷ es) (f ∷ fs) (g ∷ gs)) ≡ behind_bad (captured (d ∷ ds) (e ∷ es) (f ∷ fs)) (g ∷ gs) 4
+five_end d ds e es f fs g gs hyphen hyphen' plain hyphen″ =
+    ap (λ (w : Walk). walked capture_shape.rules [] (walked capture_shape.rules [] w (codes "--bad")) (g ∷ gs)) (three_end d ds e es f fs hyphen hyphen' plain)
+    ∙ (ap (λ (w : Walk). walked capture_shape.rules [] w (g ∷ gs)) (to_bad (d ∷ ds) (e ∷ es) (f ∷ fs)) ∙ to_lba (captured (d ∷ ds) (e ∷ es) (f ∷ fs)) g gs hyphen″)
+
+three_found : (c b file : Text) → finished capture_shape.rules (behind_file c b file).held ≡ captured c b file
+three_found c b file = refl
+
+five_found : (c b file l : Text) → finished capture_shape.rules (behind_bad (captured c b file) l 4).held
+    ≡ clients_row c ∷ blocks_row b ∷ file_row file ∷ bad_row l ∷ []
+five_found c b file l = refl
+
+-- what is asked for there
+asks : (words : List Text) (w : Walk) (rows : List Row) → walk capture_shape.rules [] nothing_held words ≡ w → finished capture_shape.rules w.held ≡ rows
+    → asked_in (entered (built program_app) (Some (codes "capture", words))) ≡ capture_of rows
+asks words w rows is found =
+    capture_rows_asked words ∙ (ap (λ (v : Walk). capture_of (finished capture_shape.rules v.held)) is ∙ ap capture_of found)
+
+-- NOTHING IS REFUSED
+
+no_clients : (d : ℕ) (ds : Text) → IsIn 1 MAX_CLIENTS d ds → settle_fault capture_shape.rules capture_shape.args_override_self (behind_clients (d ∷ ds)).held ≡ []
+no_clients d ds m = simp (m.hyphen, m.plus, m.some, m.first, m.rest, m.fits, m.low, m.high)
+
+no_blocks : (c : Text) (e : ℕ) (es : Text) → IsIn 1 65536 e es → settle_fault capture_shape.rules capture_shape.args_override_self (behind_blocks c (e ∷ es)).held ≡ []
+no_blocks c e es n = simp (n.hyphen, n.plus, n.some, n.first, n.rest, n.fits, n.low, n.high)
+
+no_bad : (c b file : Text) (g : ℕ) (gs : Text) → IsIn 0 65535 g gs
+    → settle_fault capture_shape.rules capture_shape.args_override_self (behind_bad (captured c b file) (g ∷ gs) 4).held ≡ []
+no_bad c b file g gs o = simp (o.hyphen, o.plus, o.some, o.first, o.rest, o.fits, o.low, o.high)
+
+from_clients : (d : ℕ) (ds : Text) (rest : List Text) → (d == 45) ≡ false
+    → walk_fault capture_shape [] (walk_from nothing_held) ((d ∷ ds) ∷ rest) ≡ walk_fault capture_shape [] (behind_clients (d ∷ ds)) rest
+from_clients d ds rest hyphen = fault-plain d ds hyphen capture_shape nothing_held 1 rest
+
+from_blocks : (d : ℕ) (ds : Text) (e : ℕ) (es : Text) (rest : List Text) → IsIn 1 MAX_CLIENTS d ds → (e == 45) ≡ false
+    → walk_fault capture_shape [] (behind_clients (d ∷ ds)) ((e ∷ es) ∷ rest) ≡ walk_fault capture_shape [] (behind_blocks (d ∷ ds) (e ∷ es)) rest
+from_blocks d ds e es rest m hyphen = fault-plain e es hyphen capture_shape (behind_clients (d ∷ ds)).held 2 rest
+    ∙ on (settle_fault capture_shape.rules capture_shape.args_override_self (behind_clients (d ∷ ds)).held)
+    (walk_fault capture_shape [] (behind_blocks (d ∷ ds) (e ∷ es)) rest) (no_clients d ds m)
+
+from_file : (c : Text) (e : ℕ) (es : Text) (f : ℕ) (fs : Text) (rest : List Text) → IsIn 1 65536 e es → (f == 45) ≡ false
+    → walk_fault capture_shape [] (behind_blocks c (e ∷ es)) ((f ∷ fs) ∷ rest) ≡ walk_fault capture_shape [] (behind_file c (e ∷ es) (f ∷ fs)) rest
+from_file c e es f fs rest n plain = fault-plain f fs plain capture_shape (behind_blocks c (e ∷ es)).held 3 rest
+    ∙ on (settle_fault capture_shape.rules capture_shape.args_override_self (behind_blocks c (e ∷ es)).held)
+    (walk_fault capture_shape [] (behind_file c (e ∷ es) (f ∷ fs)) rest) (no_blocks c e es n)
+
+from_bad : (c b file : Text) (rest : List Text)
+    → walk_fault capture_shape [] (behind_file c b file) (codes "--bad" ∷ rest) ≡ walk_fault capture_shape [] (before_bad (captured c b file) 4) rest
+from_bad c b file rest = fault-bad capture_shape (behind_file c b file).held 4 rest
+
+from_lba : (rows : List Row) (g : ℕ) (gs : Text) → (g == 45) ≡ false → walk_fault capture_shape [] (before_bad rows 4) ((g ∷ gs) ∷ []) ≡ []
+from_lba rows g gs hyphen = fault-value g gs hyphen capture_shape (codes "bad") (before_bad rows 4).held 4 [] ∙ fault-end capture_shape (behind_bad rows (g ∷ gs) 4)
+
+three_defaults : (c b file : Text) → defaults_fault (settled capture_shape.rules (behind_file c b file).held).rows capture_shape.rules ≡ []
 unfolding defaults_fault
-three_defaults d ds e es f fs hyphen hyphen' plain = simp (walked-plain d ds hyphen, walked-plain e es hyphen', walked-plain f fs plain)
+three_defaults c b file = refl
 
-three_given : (d : ℕ) (ds : Text) (e : ℕ) (es : Text) (f : ℕ) (fs : Text) → (d == 45) ≡ false → (e == 45) ≡ false → (f == 45) ≡ false
-    → check_fault capture_shape (finished capture_shape.rules (walk capture_shape.rules [] nothing_held (three d ds e es f fs)).held) false ≡ []
-three_given d ds e es f fs hyphen hyphen' plain = simp (walked-plain d ds hyphen, walked-plain e es hyphen', walked-plain f fs plain)
+five_defaults : (c b file l : Text) → defaults_fault (settled capture_shape.rules (behind_bad (captured c b file) l 4).held).rows capture_shape.rules ≡ []
+unfolding defaults_fault
+five_defaults c b file l = refl
 
 three_faults : (d : ℕ) (ds : Text) (e : ℕ) (es : Text) (f : ℕ) (fs : Text) → IsIn 1 MAX_CLIENTS d ds → IsIn 1 65536 e es → (f == 45) ≡ false
-    → level_fault capture_shape [] nothing_held (three d ds e es f fs) false [] ≡ []
+    → level_fault capture_shape [] nothing_held (three (d ∷ ds) (e ∷ es) (f ∷ fs)) false [] ≡ []
 three_faults d ds e es f fs m n plain =
-    level_nothing capture_shape (three d ds e es f fs) (three_walk d ds e es f fs m n plain) (three_last d ds e es f fs m.hyphen n.hyphen plain)
-    (three_defaults d ds e es f fs m.hyphen n.hyphen plain) (three_given d ds e es f fs m.hyphen n.hyphen plain)
-
-abbrev five : (d : ℕ) (ds : Text) (e : ℕ) (es : Text) (f : ℕ) (fs : Text) (g : ℕ) (gs : Text) → List Text
-five d ds e es f fs g gs = (d ∷ ds) ∷ (e ∷ es) ∷ (f ∷ fs) ∷ codes "--bad" ∷ (g ∷ gs) ∷ []
-
-abbrev five_found : (d : ℕ) (ds : Text) (e : ℕ) (es : Text) (f : ℕ) (fs : Text) (g : ℕ) (gs : Text) → List Row
-five_found d ds e es f fs g gs = rows_after capture_shape.rules [] (five d ds e es f fs g gs)
-
-five_clients : (d : ℕ) (ds : Text) (e : ℕ) (es : Text) (f : ℕ) (fs : Text) (g : ℕ) (gs : Text) → (d == 45) ≡ false → (d == 43) ≡ false
-    → (e == 45) ≡ false → (f == 45) ≡ false → (g == 45) ≡ false → clients_of (five_found d ds e es f fs g gs) ≡ number_in 1 MAX_CLIENTS (d ∷ ds)
-five_clients d ds e es f fs g gs hyphen plus hyphen' plain hyphen″ =
-    simp (walked-plain d ds hyphen) (simp (walked-plain e es hyphen') (simp (walked-plain f fs plain) (simp walked-bad
-    (simp (walked-value g gs hyphen″) (simp hyphen (simp plus))))))
-
-five_blocks : (d : ℕ) (ds : Text) (e : ℕ) (es : Text) (f : ℕ) (fs : Text) (g : ℕ) (gs : Text) → (d == 45) ≡ false → (e == 45) ≡ false
-    → (e == 43) ≡ false → (f == 45) ≡ false → (g == 45) ≡ false → blocks_of (five_found d ds e es f fs g gs) ≡ number_in 1 65536 (e ∷ es)
-five_blocks d ds e es f fs g gs hyphen hyphen' plus plain hyphen″ =
-    simp (walked-plain d ds hyphen) (simp (walked-plain e es hyphen') (simp (walked-plain f fs plain) (simp walked-bad
-    (simp (walked-value g gs hyphen″) (simp hyphen' (simp plus))))))
-
-five_file : (d : ℕ) (ds : Text) (e : ℕ) (es : Text) (f : ℕ) (fs : Text) (g : ℕ) (gs : Text) → (d == 45) ≡ false → (e == 45) ≡ false
-    → (f == 45) ≡ false → (g == 45) ≡ false → file_of (five_found d ds e es f fs g gs) ≡ Some (f ∷ fs)
-five_file d ds e es f fs g gs hyphen hyphen' plain hyphen″ =
-    simp (walked-plain d ds hyphen) (simp (walked-plain e es hyphen') (simp (walked-plain f fs plain) (simp walked-bad (simp (walked-value g gs hyphen″)))))
-
-five_bad : (d : ℕ) (ds : Text) (e : ℕ) (es : Text) (f : ℕ) (fs : Text) (g : ℕ) (gs : Text) → (d == 45) ≡ false → (e == 45) ≡ false
-    → (f == 45) ≡ false → (g == 45) ≡ false → (g == 43) ≡ false
-    → bad_of (five_found d ds e es f fs g gs) ≡ option_map (λ n. Some n) (number_in 0 65535 (g ∷ gs))
-five_bad d ds e es f fs g gs hyphen hyphen' plain hyphen″ plus =
-    simp (walked-plain d ds hyphen) (simp (walked-plain e es hyphen') (simp (walked-plain f fs plain) (simp walked-bad
-    (simp (walked-value g gs hyphen″) (simp hyphen″ (simp plus))))))
-
-five_walk : (d : ℕ) (ds : Text) (e : ℕ) (es : Text) (f : ℕ) (fs : Text) (g : ℕ) (gs : Text) → IsIn 1 MAX_CLIENTS d ds → IsIn 1 65536 e es → (f == 45) ≡ false
-    → (g == 45) ≡ false → walk_fault capture_shape [] (walk_from nothing_held) (five d ds e es f fs g gs) ≡ []
-five_walk d ds e es f fs g gs m n plain hyphen =
-    simp (fault-plain d ds m.hyphen) (simp (fault-plain e es n.hyphen) (simp (fault-plain f fs plain) (simp fault-bad (simp (fault-value g gs hyphen)
-    (simp fault-end (simp (m.hyphen, m.plus, m.some, m.first, m.rest, m.fits, m.low, m.high)
-    (simp (n.hyphen, n.plus, n.some, n.first, n.rest, n.fits, n.low, n.high))))))))
-
-five_last : (d : ℕ) (ds : Text) (e : ℕ) (es : Text) (f : ℕ) (fs : Text) (g : ℕ) (gs : Text) → (d == 45) ≡ false → (e == 45) ≡ false → (f == 45) ≡ false
-    → IsIn 0 65535 g gs
-    → settle_fault capture_shape.rules capture_shape.args_override_self (walk capture_shape.rules [] nothing_held (five d ds e es f fs g gs)).held ≡ []
-five_last d ds e es f fs g gs hyphen hyphen' plain o =
-    simp (walked-plain d ds hyphen, walked-plain e es hyphen', walked-plain f fs plain, walked-bad, walked-value g gs o.hyphen)
-    (simp (o.hyphen, o.plus, o.some, o.first, o.rest, o.fits, o.low, o.high))
-
-five_defaults : (d : ℕ) (ds : Text) (e : ℕ) (es : Text) (f : ℕ) (fs : Text) (g : ℕ) (gs : Text) → (d == 45) ≡ false → (e == 45) ≡ false → (f == 45) ≡ false
-    → (g == 45) ≡ false
-    → defaults_fault (settled capture_shape.rules (walk capture_shape.rules [] nothing_held (five d ds e es f fs g gs)).held).rows capture_shape.rules ≡ []
-unfolding defaults_fault
-five_defaults d ds e es f fs g gs hyphen hyphen' plain hyphen″ =
-    simp (walked-plain d ds hyphen, walked-plain e es hyphen', walked-plain f fs plain, walked-bad, walked-value g gs hyphen″)
-
--- its three arguments are given
-given_all : (rows : List Row) → is_given (codes "CLIENTS") rows ≡ true → is_given (codes "BLOCKS") rows ≡ true → is_given (codes "FILE") rows ≡ true
-    → check_fault capture_shape rows false ≡ []
-given_all rows clients blocks file = simp (clients, blocks, file)
-
-five_has_clients : (d : ℕ) (ds : Text) (e : ℕ) (es : Text) (f : ℕ) (fs : Text) (g : ℕ) (gs : Text) → (d == 45) ≡ false → (e == 45) ≡ false
-    → (f == 45) ≡ false → (g == 45) ≡ false → is_given (codes "CLIENTS") (five_found d ds e es f fs g gs) ≡ true
-five_has_clients d ds e es f fs g gs hyphen hyphen' plain hyphen″ =
-    simp (walked-plain d ds hyphen) (simp (walked-plain e es hyphen') (simp (walked-plain f fs plain) (simp walked-bad (simp (walked-value g gs hyphen″)))))
-
-five_has_blocks : (d : ℕ) (ds : Text) (e : ℕ) (es : Text) (f : ℕ) (fs : Text) (g : ℕ) (gs : Text) → (d == 45) ≡ false → (e == 45) ≡ false
-    → (f == 45) ≡ false → (g == 45) ≡ false → is_given (codes "BLOCKS") (five_found d ds e es f fs g gs) ≡ true
-five_has_blocks d ds e es f fs g gs hyphen hyphen' plain hyphen″ =
-    simp (walked-plain d ds hyphen) (simp (walked-plain e es hyphen') (simp (walked-plain f fs plain) (simp walked-bad (simp (walked-value g gs hyphen″)))))
-
-five_has_file : (d : ℕ) (ds : Text) (e : ℕ) (es : Text) (f : ℕ) (fs : Text) (g : ℕ) (gs : Text) → (d == 45) ≡ false → (e == 45) ≡ false
-    → (f == 45) ≡ false → (g == 45) ≡ false → is_given (codes "FILE") (five_found d ds e es f fs g gs) ≡ true
-five_has_file d ds e es f fs g gs hyphen hyphen' plain hyphen″ =
-    simp (walked-plain d ds hyphen) (simp (walked-plain e es hyphen') (simp (walked-plain f fs plain) (simp walked-bad (simp (walked-value g gs hyphen″)))))
-
-five_given : (d : ℕ) (ds : Text) (e : ℕ) (es : Text) (f : ℕ) (fs : Text) (g : ℕ) (gs : Text) → (d == 45) ≡ false → (e == 45) ≡ false → (f == 45) ≡ false
-    → (g == 45) ≡ false
-    → check_fault capture_shape (finished capture_shape.rules (walk capture_shape.rules [] nothing_held (five d ds e es f fs g gs)).held) false ≡ []
-five_given d ds e es f fs g gs hyphen hyphen' plain hyphen″ =
-    given_all (five_found d ds e es f fs g gs) (five_has_clients d ds e es f fs g gs hyphen hyphen' plain hyphen″)
-    (five_has_blocks d ds e es f fs g gs hyphen hyphen' plain hyphen″) (five_has_file d ds e es f fs g gs hyphen hyphen' plain hyphen″)
+    ends capture_shape (three (d ∷ ds) (e ∷ es) (f ∷ fs)) (behind_file (d ∷ ds) (e ∷ es) (f ∷ fs)) (three_end d ds e es f fs m.hyphen n.hyphen plain)
+    (from_clients d ds ((e ∷ es) ∷ (f ∷ fs) ∷ []) m.hyphen ∙ (from_blocks d ds e es ((f ∷ fs) ∷ []) m n.hyphen
+    ∙ (from_file (d ∷ ds) e es f fs [] n plain ∙ fault-end capture_shape (behind_file (d ∷ ds) (e ∷ es) (f ∷ fs)))))
+    refl (three_defaults (d ∷ ds) (e ∷ es) (f ∷ fs)) refl
 
 five_faults : (d : ℕ) (ds : Text) (e : ℕ) (es : Text) (f : ℕ) (fs : Text) (g : ℕ) (gs : Text) → IsIn 1 MAX_CLIENTS d ds → IsIn 1 65536 e es
-    → (f == 45) ≡ false → IsIn 0 65535 g gs → level_fault capture_shape [] nothing_held (five d ds e es f fs g gs) false [] ≡ []
+    → (f == 45) ≡ false → IsIn 0 65535 g gs → level_fault capture_shape [] nothing_held (five (d ∷ ds) (e ∷ es) (f ∷ fs) (g ∷ gs)) false [] ≡ []
 five_faults d ds e es f fs g gs m n plain o =
-    level_nothing capture_shape (five d ds e es f fs g gs) (five_walk d ds e es f fs g gs m n plain o.hyphen)
-    (five_last d ds e es f fs g gs m.hyphen n.hyphen plain o)
-    (five_defaults d ds e es f fs g gs m.hyphen n.hyphen plain o.hyphen) (five_given d ds e es f fs g gs m.hyphen n.hyphen plain o.hyphen)
+    ends capture_shape (five (d ∷ ds) (e ∷ es) (f ∷ fs) (g ∷ gs)) (behind_bad (captured (d ∷ ds) (e ∷ es) (f ∷ fs)) (g ∷ gs) 4)
+    (five_end d ds e es f fs g gs m.hyphen n.hyphen plain o.hyphen)
+    (from_clients d ds ((e ∷ es) ∷ (f ∷ fs) ∷ codes "--bad" ∷ (g ∷ gs) ∷ []) m.hyphen
+    ∙ (from_blocks d ds e es ((f ∷ fs) ∷ codes "--bad" ∷ (g ∷ gs) ∷ []) m n.hyphen ∙ (from_file (d ∷ ds) e es f fs (codes "--bad" ∷ (g ∷ gs) ∷ []) n plain
+    ∙ (from_bad (d ∷ ds) (e ∷ es) (f ∷ fs) ((g ∷ gs) ∷ []) ∙ from_lba (captured (d ∷ ds) (e ∷ es) (f ∷ fs)) g gs o.hyphen))))
+    (no_bad (d ∷ ds) (e ∷ es) (f ∷ fs) g gs o) (five_defaults (d ∷ ds) (e ∷ es) (f ∷ fs) (g ∷ gs)) refl
 
 -- its plain words ask for the capture, and are not refused
 pub capture_asked : (clients blocks : ℕ) (file : Text) (bad : Option ℕ) (words : List Text) → AsksCapture clients blocks file bad words
@@ -230,33 +223,33 @@ capture_asked clients blocks (f ∷ fs) None words plain =
     let m = number_is_in 1 MAX_CLIENTS clients plain.1 (omega arith) plain.5 in
     let n = number_is_in 1 65536 blocks plain.2 (omega arith) plain.6 in
     let hyphen : (f == 45) ≡ false = not-true (f == 45) plain.4 in
-    let is : words ≡ plain.0 ∷ codes "capture" ∷ three m.0 m.1 n.0 n.1 f fs =
+    let is : words ≡ plain.0 ∷ codes "capture" ∷ three (m.0 ∷ m.1) (n.0 ∷ n.1) (f ∷ fs) =
     plain.3 ∙ ap₂ (λ (a b : Text). plain.0 ∷ codes "capture" ∷ a ∷ b ∷ (f ∷ fs) ∷ []) m.2 n.2 in (
-      ap asked_for is ∙ ((capture_enters.0 (m.0 ∷ m.1) (n.0 ∷ n.1) (f ∷ fs) plain.0).0 ∙ (capture_rows_asked (three m.0 m.1 n.0 n.1 f fs)
-          ∙ captured_by clients blocks (f ∷ fs) None (three_found m.0 m.1 n.0 n.1 f fs)
-          (three_clients m.0 m.1 n.0 n.1 f fs m.3.hyphen m.3.plus n.3.hyphen hyphen ∙ (ap (number_in 1 MAX_CLIENTS) (sym m.2) ∙ plain.5))
-          (three_blocks m.0 m.1 n.0 n.1 f fs m.3.hyphen n.3.hyphen n.3.plus hyphen ∙ (ap (number_in 1 65536) (sym n.2) ∙ plain.6))
-          (three_file m.0 m.1 n.0 n.1 f fs m.3.hyphen n.3.hyphen hyphen) (three_bad m.0 m.1 n.0 n.1 f fs m.3.hyphen n.3.hyphen hyphen))),
+      ap asked_for is ∙ ((capture_enters.0 (m.0 ∷ m.1) (n.0 ∷ n.1) (f ∷ fs) plain.0).0 ∙ (asks (three (m.0 ∷ m.1) (n.0 ∷ n.1) (f ∷ fs)) (behind_file (m.0 ∷ m.1) (n.0 ∷ n.1) (f ∷ fs)) (captured (m.0 ∷ m.1) (n.0 ∷ n.1) (f ∷ fs)) (three_end m.0 m.1 n.0 n.1 f fs m.3.hyphen n.3.hyphen hyphen) (three_found (m.0 ∷ m.1) (n.0 ∷ n.1) (f ∷ fs))
+          ∙ captured_by clients blocks (f ∷ fs) None (captured (m.0 ∷ m.1) (n.0 ∷ n.1) (f ∷ fs))
+          (clients_in m.0 m.1 (blocks_row (n.0 ∷ n.1) ∷ file_row (f ∷ fs) ∷ []) m.3.hyphen m.3.plus ∙ (ap (number_in 1 MAX_CLIENTS) (sym m.2) ∙ plain.5))
+          (blocks_in (m.0 ∷ m.1) n.0 n.1 (file_row (f ∷ fs) ∷ []) n.3.hyphen n.3.plus ∙ (ap (number_in 1 65536) (sym n.2) ∙ plain.6))
+          refl refl)),
       ap (fault_of program_app) is ∙ ((capture_enters.0 (m.0 ∷ m.1) (n.0 ∷ n.1) (f ∷ fs) plain.0).1
-          ∙ ap (λ (k : Kinds). or_else k []) (capture_level (three m.0 m.1 n.0 n.1 f fs) ∙ three_faults m.0 m.1 n.0 n.1 f fs m.3 n.3 hyphen)),
+          ∙ ap (λ (k : Kinds). or_else k []) (capture_level (three (m.0 ∷ m.1) (n.0 ∷ n.1) (f ∷ fs)) ∙ three_faults m.0 m.1 n.0 n.1 f fs m.3 n.3 hyphen)),
     )
 capture_asked clients blocks (f ∷ fs) (Some bad) words plain =
     let m = number_is_in 1 MAX_CLIENTS clients plain.1 (omega arith) plain.6 in
     let n = number_is_in 1 65536 blocks plain.2 (omega arith) plain.7 in
     let o = number_is_in 0 65535 bad plain.3 (omega arith) plain.8 in
     let hyphen : (f == 45) ≡ false = not-true (f == 45) plain.5 in
-    let is : words ≡ plain.0 ∷ codes "capture" ∷ five m.0 m.1 n.0 n.1 f fs o.0 o.1 =
+    let is : words ≡ plain.0 ∷ codes "capture" ∷ five (m.0 ∷ m.1) (n.0 ∷ n.1) (f ∷ fs) (o.0 ∷ o.1) =
     plain.4 ∙ (ap₂ (λ (a b : Text). plain.0 ∷ codes "capture" ∷ a ∷ b ∷ (f ∷ fs) ∷ codes "--bad" ∷ plain.3 ∷ []) m.2 n.2
     ∙ ap (λ (c : Text). plain.0 ∷ codes "capture" ∷ (m.0 ∷ m.1) ∷ (n.0 ∷ n.1) ∷ (f ∷ fs) ∷ codes "--bad" ∷ c ∷ []) o.2) in
     let third : option_map (λ k. Some k) (number_in 0 65535 (o.0 ∷ o.1)) ≡ Some (Some bad) =
     ap (option_map (λ k. Some k)) (ap (number_in 0 65535) (sym o.2) ∙ plain.8) in (
       ap asked_for is ∙ ((capture_enters.1 (m.0 ∷ m.1) (n.0 ∷ n.1) (f ∷ fs) (codes "--bad") (o.0 ∷ o.1) plain.0).0
-          ∙ (capture_rows_asked (five m.0 m.1 n.0 n.1 f fs o.0 o.1)
-          ∙ captured_by clients blocks (f ∷ fs) (Some bad) (five_found m.0 m.1 n.0 n.1 f fs o.0 o.1)
-          (five_clients m.0 m.1 n.0 n.1 f fs o.0 o.1 m.3.hyphen m.3.plus n.3.hyphen hyphen o.3.hyphen ∙ (ap (number_in 1 MAX_CLIENTS) (sym m.2) ∙ plain.6))
-          (five_blocks m.0 m.1 n.0 n.1 f fs o.0 o.1 m.3.hyphen n.3.hyphen n.3.plus hyphen o.3.hyphen ∙ (ap (number_in 1 65536) (sym n.2) ∙ plain.7))
-          (five_file m.0 m.1 n.0 n.1 f fs o.0 o.1 m.3.hyphen n.3.hyphen hyphen o.3.hyphen)
-          (five_bad m.0 m.1 n.0 n.1 f fs o.0 o.1 m.3.hyphen n.3.hyphen hyphen o.3.hyphen o.3.plus ∙ third))),
+          ∙ (asks (five (m.0 ∷ m.1) (n.0 ∷ n.1) (f ∷ fs) (o.0 ∷ o.1)) (behind_bad (captured (m.0 ∷ m.1) (n.0 ∷ n.1) (f ∷ fs)) (o.0 ∷ o.1) 4) (clients_row (m.0 ∷ m.1) ∷ blocks_row (n.0 ∷ n.1) ∷ file_row (f ∷ fs) ∷ bad_row (o.0 ∷ o.1) ∷ []) (five_end m.0 m.1 n.0 n.1 f fs o.0 o.1 m.3.hyphen n.3.hyphen hyphen o.3.hyphen) (five_found (m.0 ∷ m.1) (n.0 ∷ n.1) (f ∷ fs) (o.0 ∷ o.1))
+          ∙ captured_by clients blocks (f ∷ fs) (Some bad) (clients_row (m.0 ∷ m.1) ∷ blocks_row (n.0 ∷ n.1) ∷ file_row (f ∷ fs) ∷ bad_row (o.0 ∷ o.1) ∷ [])
+          (clients_in m.0 m.1 (blocks_row (n.0 ∷ n.1) ∷ file_row (f ∷ fs) ∷ bad_row (o.0 ∷ o.1) ∷ []) m.3.hyphen m.3.plus ∙ (ap (number_in 1 MAX_CLIENTS) (sym m.2) ∙ plain.6))
+          (blocks_in (m.0 ∷ m.1) n.0 n.1 (file_row (f ∷ fs) ∷ bad_row (o.0 ∷ o.1) ∷ []) n.3.hyphen n.3.plus ∙ (ap (number_in 1 65536) (sym n.2) ∙ plain.7))
+          refl
+          (bad_in o.0 o.1 [] o.3.hyphen o.3.plus ∙ third))),
       ap (fault_of program_app) is ∙ ((capture_enters.1 (m.0 ∷ m.1) (n.0 ∷ n.1) (f ∷ fs) (codes "--bad") (o.0 ∷ o.1) plain.0).1
-          ∙ ap (λ (k : Kinds). or_else k []) (capture_level (five m.0 m.1 n.0 n.1 f fs o.0 o.1) ∙ five_faults m.0 m.1 n.0 n.1 f fs o.0 o.1 m.3 n.3 hyphen o.3)),
+          ∙ ap (λ (k : Kinds). or_else k []) (capture_level (five (m.0 ∷ m.1) (n.0 ∷ n.1) (f ∷ fs) (o.0 ∷ o.1)) ∙ five_faults m.0 m.1 n.0 n.1 f fs o.0 o.1 m.3 n.3 hyphen o.3)),
     )

@@ -1,6 +1,6 @@
 //! The program's command: its subcommands, their arguments and what each says of itself.
-ghost use Rattle.std.specs.Prelude.{◌≡◌, IfOk};
-ghost use Rattle.clap.specs.Words.{app_of};
+ghost use Rattle.std.specs.Prelude.{◌≡◌, IfOk, true};
+ghost use Rattle.clap.specs.Words.{App, app_of, with_subcommand};
 ghost use Rattle.uas_words.specs.CommandLine.{audit_app, capture_app, decode_app, draw_app, dump_app, fill_app, info_app, make_app, program_app};
 ghost use Rattle.uas_words.specs.CommandLine.{replay_app, top_app, trace_app, with_disks, with_extent, with_work, work_app};
 
@@ -19,18 +19,29 @@ use uas_profile::{CLIENTS_HELP, MAX_BLOCKS};
 pub(crate) fn command<'a>(alloc: Global) -> Result<Command<'a>, AllocError>
     ensures { IfOk result (λ command. app_of command ≡ program_app) }
 {
-    top_command(alloc)
-        .subcommand(replay_command(alloc)?)?
-        .subcommand(trace_command(alloc)?)?
-        .subcommand(work_command(alloc)?)?
-        .subcommand(decode_command(alloc)?)?
-        .subcommand(make_command(alloc)?)?
-        .subcommand(info_command(alloc)?)?
-        .subcommand(dump_command(alloc)?)?
-        .subcommand(fill_command(alloc)?)?
-        .subcommand(audit_command(alloc)?)?
-        .subcommand(draw_command(alloc)?)?
-        .subcommand(capture_command(alloc)?)
+    let command = with(top_command(alloc), replay_command(alloc))?;
+    let command = with(command, trace_command(alloc))?;
+    let command = with(command, work_command(alloc))?;
+    let command = with(command, decode_command(alloc))?;
+    let command = with(command, make_command(alloc))?;
+    let command = with(command, info_command(alloc))?;
+    let command = with(command, dump_command(alloc))?;
+    let command = with(command, fill_command(alloc))?;
+    let command = with(command, audit_command(alloc))?;
+    let command = with(command, draw_command(alloc))?;
+    with(command, capture_command(alloc))
+}
+
+/// The command with this subcommand, if there is one. The one place where a command is let go: a function that holds one at each of its ends
+/// is slow to prove.
+fn with<'a>(
+    command: Command<'a>,
+    sub: Result<Command<'a>, AllocError>,
+) -> Result<Command<'a>, AllocError>
+    ensures { IfOk result (λ made. (mine : App) → IfOk sub.entry (λ one. app_of one ≡ mine) → mine.top.is_plain ≡ true
+        → app_of made ≡ with_subcommand (app_of command.entry) mine.top) }
+{
+    command.subcommand(sub?)
 }
 
 /// The command without its subcommands.

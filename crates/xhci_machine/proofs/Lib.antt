@@ -2,3 +2,8 @@ pub mod Begun
 pub mod Same
 pub mod Tags
 pub mod Working
+pub mod Left
+pub mod Nothing
+pub mod Device
+pub mod RingStep
+pub mod Active

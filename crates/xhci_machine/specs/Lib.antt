@@ -9,3 +9,4 @@ pub mod Orders
 pub mod Steps
 pub mod Rounds
 pub mod Worked
+pub mod Laws

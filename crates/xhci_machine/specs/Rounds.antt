@@ -1,16 +1,17 @@
 -- The steps that a round takes in turns, beside the port's and the command ring's: endpoint 0, the command pipe, doorbells of streams that
 -- aren't there, and a tag's data and status. None of what a step did, and the Bool false: memory isn't there, and nothing behind that is done.
-use Rattle.std.specs.Prelude.{ℕ, ◌-◌, ◌==◌, Bool, true, false, List, if◌then◌else◌, Option, Some, None}
+use Rattle.std.specs.Prelude.{ℕ, ◌-◌, ◌==◌, Bool, true, false, if◌then◌else◌, Option, Some, None}
 use Rattle.guest_memory.specs.Bytes.{Memory}
 use Rattle.guest_pipes.specs.declared.acted.Acted.{Acted}
 use Rattle.guest_rings.specs.Events.{EventEnd}
+use Rattle.guest_tasks.specs.declared.GuestTasks.{GuestTasks}
 use Rattle.guest_tasks.specs.Tasks.{tasks_kind}
 use Rattle.guest_transfers.specs.declared.control.StreamPipe.{StreamPipe}
 use Rattle.guest_transfers.specs.declared.control.StreamPipe.TheVariants.{Status, DataOut, DataIn}
 use Rattle.guest_transfers.specs.Orders.{data_stepped, invalid_on, tags_cleared}
 use Rattle.guest_transfers.specs.State.{TransfersState, TransfersWorld}
 use Rattle.guest_transfers.specs.Steps.{command_stepped, status_stepped}
-use Rattle.uas_tasks.specs.Machine.{Machine as Tasks, tasks_ended}
+use Rattle.uas_tasks.specs.Machine.{tasks_ended}
 use Rattle.xhci_control.specs.declared.pipe.Served.{Served}
 use Rattle.xhci_control.specs.Steps.{ControlWorld, stepped}
 use Rattle.xhci_machine.specs.Steps.{commands_stepped}
@@ -71,29 +72,27 @@ invalid_stepped w name = with_invalid w (invalid_on w.memory w.events w.machine.
 
 -- THE PIPES OF THE TASKS
 
-abbrev pub transfers_world : World → TransfersWorld Tasks
-transfers_world w =
-    record { memory = w.memory; events = w.events; transfers = w.machine.transfers; device = w.machine.device.tasks }
+abbrev pub transfers_world : World → TransfersWorld GuestTasks
+transfers_world w = record { memory = w.memory; events = w.events; transfers = w.machine.transfers; device = w.machine.device }
 
--- which tags are active afterwards isn't told here
-abbrev pub with_transfers : World → List ℕ → TransfersWorld Tasks × Option Acted → World × Option Acted
-with_transfers w active after = (
+abbrev pub with_transfers : World → TransfersWorld GuestTasks × Option Acted → World × Option Acted
+with_transfers w after = (
   record {
     memory = after.0.memory;
     events = after.0.events;
-    machine = record w.machine { transfers = after.0.transfers; device = record { tasks = after.0.device; active = active } };
+    machine = record w.machine { transfers = after.0.transfers; device = after.0.device };
   },
   after.1,
 )
 
-unfoldable pub command_pipe_stepped : World → List ℕ → World × Option Acted
-command_pipe_stepped w active = with_transfers w active (command_stepped tasks_kind (transfers_world w))
+unfoldable pub command_pipe_stepped : World → World × Option Acted
+command_pipe_stepped w = with_transfers w (command_stepped tasks_kind (transfers_world w))
 
-unfoldable pub data_of : World → ℕ → List ℕ → World × Option Acted
-data_of w tag active = with_transfers w active (data_stepped tasks_kind (transfers_world w) tag)
+unfoldable pub data_of : World → ℕ → World × Option Acted
+data_of w tag = with_transfers w (data_stepped tasks_kind (transfers_world w) tag)
 
-unfoldable pub status_of : World → ℕ → List ℕ → World × Option Acted
-status_of w tag active = with_transfers w active (status_stepped tasks_kind (transfers_world w) tag)
+unfoldable pub status_of : World → ℕ → World × Option Acted
+status_of w tag = with_transfers w (status_stepped tasks_kind (transfers_world w) tag)
 
 -- A ROUND, UP TO THE TAGS: each turn comes while memory is there
 
@@ -114,17 +113,16 @@ then_invalid name (at, false) = (at, false)
 then_invalid name (at, true) = turned at.1 at.0 (invalid_stepped at.0 name)
 
 -- the command pipe, and then doorbells of streams that aren't there
-unfoldable pub pipes_turned : List ℕ → ℕ → World → Turning
-pipes_turned active left w =
-    then_invalid DataIn (then_invalid DataOut (then_invalid Status (turned left w (command_pipe_stepped w active))))
+unfoldable pub pipes_turned : ℕ → World → Turning
+pipes_turned left w = then_invalid DataIn (then_invalid DataOut (then_invalid Status (turned left w (command_pipe_stepped w))))
 
-abbrev pub then_pipes : List ℕ → Turning → Turning
-then_pipes active (at, false) = (at, false)
-then_pipes active (at, true) = pipes_turned active at.1 at.0
+abbrev pub then_pipes : Turning → Turning
+then_pipes (at, false) = (at, false)
+then_pipes (at, true) = pipes_turned at.1 at.0
 
 -- what is still to be told is told first
 abbrev pub settled_in : ℕ → World → Turning
 settled_in left w = (((settled w).0, left), (settled w).1)
 
-unfoldable pub front_turned : List ℕ → ℕ → World → Turning
-front_turned active left w = then_pipes active (then_control (then_commands (then_port (settled_in left w))))
+unfoldable pub front_turned : ℕ → World → Turning
+front_turned left w = then_pipes (then_control (then_commands (then_port (settled_in left w))))

@@ -1,7 +1,7 @@
 //! Register accesses, and what they ask for beyond the registers.
 ghost use Rattle.std.specs.Prelude.{◌≡◌, ℕ, ◌<◌, ◌≤◌, ◌%◌, IfOk, IfSome, IfNone, option_copied, true, false};
-ghost use Rattle.guest_tasks.specs.Active.{IsIdle, asks_on};
-ghost use Rattle.uas_tasks.specs.Machine.{answered, bytes_out, next_of};
+ghost use Rattle.guest_tasks.specs.Active.{IsIdle, TasksAreActive, asks_on};
+ghost use Rattle.uas_tasks.specs.Machine.{answered, bytes_out, has_task, next_of};
 ghost use Rattle.xhci_registers.specs.Signals.{is_asserted, messaged};
 ghost use Rattle.xhci_registers.specs.Words.{read_of};
 ghost use Rattle.xhci_registers.specs.Writes.{reset_registers};
@@ -32,6 +32,7 @@ impl Machine {
         ensures registers { IfOk result (λ machine. machine.registers ≡ reset_registers true) }
         ensures device { IfOk result (λ machine. machine.device.tasks ≡ tasks) }
         ensures idle { IfOk result (λ machine. IsIdle machine.device) }
+        ensures begins { ((tag : ℕ) → has_task tasks tag ≡ false) → IfOk result (λ machine. TasksAreActive machine.device) }
         ensures all { IfOk result (λ machine. machine ≡ opened machine.device) }
     {
         Ok(Machine {

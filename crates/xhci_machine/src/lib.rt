@@ -27,9 +27,9 @@
 //! ring is `command_in`, and a step there `commands_stepped`. A step's event ring is `taken` of what is kept and the registers, and `seen`
 //! ahead; an event of the controller's own is `event_posted`, and what a step left `settled`.
 //!
-//! What a call of [`Machine::work`] makes of memory and of the whole machine is `IsWorked` (specs/Worked): rounds of turns in their order, each
-//! turn an equation. Which tags are active after a step is left open there, and tested. So is how [`Machine::wants`] joins what the turns
-//! lack: of a range that is wanted it is proved alone that a byte isn't there.
+//! What a call of [`Machine::work`] makes of memory and of the whole machine, with which tags are active, is `IsWorked` (specs/Worked): rounds
+//! of turns in their order, each round an equation. How [`Machine::wants`] joins what the turns lack is tested: of a range that is wanted it is
+//! proved alone that a byte isn't there.
 //!
 //! It stands on `xhci_registers`, `xhci_slots`, `xhci_control`, `guest_transfers` and `guest_tasks`.
 #![tactic(auto)]
@@ -38,6 +38,7 @@ mod access;
 mod changes;
 mod command;
 mod interrupts;
+mod laws;
 mod orders;
 mod ring;
 mod states;
@@ -49,6 +50,10 @@ mod work;
 use guest_tasks::GuestTasks;
 use guest_transfers::Transfers;
 use interrupts::Interrupts;
+pub use laws::{
+    each_tag_has_its_turn, no_more_leaves_nothing, no_step_leaves_nothing, no_task_is_left_out,
+    tasks_stay_active,
+};
 use ring::CommandRing;
 use states::States;
 pub use work::Worked;

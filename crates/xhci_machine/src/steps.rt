@@ -37,7 +37,7 @@ impl Machine {
         events: &mut EventRing,
     ) -> Result<Acted, Outside>
         ensures stepped { (record { memory = M.contents memory.new; events = events.new; machine = self.new }, result_ok result)
-            ≡ command_pipe_stepped (record { memory = M.contents memory.old; events = events.old; machine = self.old }) self.new.device.active }
+            ≡ command_pipe_stepped (record { memory = M.contents memory.old; events = events.old; machine = self.old }) }
         ensures same_loan { M.loan memory.new ≡ M.loan memory.old }
     {
         self.transfers
@@ -68,7 +68,7 @@ impl Machine {
     ) -> Result<Acted, Outside>
         requires { tag < 241 }
         ensures stepped { (record { memory = M.contents memory.new; events = events.new; machine = self.new }, result_ok result)
-            ≡ data_of (record { memory = M.contents memory.old; events = events.old; machine = self.old }) tag self.new.device.active }
+            ≡ data_of (record { memory = M.contents memory.old; events = events.old; machine = self.old }) tag }
         ensures same_loan { M.loan memory.new ≡ M.loan memory.old }
     {
         self.transfers
@@ -84,7 +84,7 @@ impl Machine {
     ) -> Result<Acted, Outside>
         requires { tag < 241 }
         ensures stepped { (record { memory = M.contents memory.new; events = events.new; machine = self.new }, result_ok result)
-            ≡ status_of (record { memory = M.contents memory.old; events = events.old; machine = self.old }) tag self.new.device.active }
+            ≡ status_of (record { memory = M.contents memory.old; events = events.old; machine = self.old }) tag }
         ensures same_loan { M.loan memory.new ≡ M.loan memory.old }
     {
         self.transfers

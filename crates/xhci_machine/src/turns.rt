@@ -1,10 +1,10 @@
 //! The turns of a round, each of at most one step.
-ghost use Rattle.std.specs.Prelude.{◌≡◌, ℕ, List, ◌<◌, ◌≤◌, ◌-◌, ◌==◌, ◌&&◌, is_ok, true, false, if◌then◌else◌};
+ghost use Rattle.std.specs.Prelude.{◌≡◌, ◌<◌, ◌≤◌, ◌-◌, ◌==◌, ◌&&◌, is_ok, true, false, if◌then◌else◌};
 ghost use Rattle.guest_pipes.specs.Step.{has_place};
 ghost use Rattle.guest_rings.specs.Events.{has_room};
 ghost use Rattle.xhci_machine.specs.Rounds.{command_pipe_stepped, control_stepped, data_of, front_turned, invalid_stepped, pipes_turned, port_in, status_of, turned};
 ghost use Rattle.xhci_machine.specs.Steps.{commands_stepped};
-ghost use Rattle.xhci_machine.specs.Worked.{TagsTurned, busy_turned, gone_dropped, is_busy, is_gone, tag_turned};
+ghost use Rattle.xhci_machine.specs.Worked.{busy_turned, gone_dropped, is_busy, is_gone, tag_turned, tags_turned};
 ghost use Rattle.xhci_machine.specs.Turns.{interrupted, left_after, noted, port_turned, settled, tells_port, told_of_port};
 
 use crate::Machine;
@@ -181,7 +181,7 @@ impl Machine {
     ) -> Result<(), Outside>
         ensures turned { ((record { memory = M.contents memory.new; events = events.new; machine = self.new }, turn.new.left), is_ok result)
             ≡ turned turn.old.left (record { memory = M.contents memory.old; events = events.old; machine = self.old })
-            (command_pipe_stepped (record { memory = M.contents memory.old; events = events.old; machine = self.old }) self.new.device.active) }
+            (command_pipe_stepped (record { memory = M.contents memory.old; events = events.old; machine = self.old })) }
         ensures same_loan { M.loan memory.new ≡ M.loan memory.old }
     {
         if turn.is_over() {
@@ -222,7 +222,7 @@ impl Machine {
         requires { tag < 241 }
         ensures turned { ((record { memory = M.contents memory.new; events = events.new; machine = self.new }, turn.new.left), is_ok result)
             ≡ turned turn.old.left (record { memory = M.contents memory.old; events = events.old; machine = self.old })
-            (data_of (record { memory = M.contents memory.old; events = events.old; machine = self.old }) tag self.new.device.active) }
+            (data_of (record { memory = M.contents memory.old; events = events.old; machine = self.old }) tag) }
         ensures same_loan { M.loan memory.new ≡ M.loan memory.old }
     {
         if turn.is_over() {
@@ -242,7 +242,7 @@ impl Machine {
         requires { tag < 241 }
         ensures turned { ((record { memory = M.contents memory.new; events = events.new; machine = self.new }, turn.new.left), is_ok result)
             ≡ turned turn.old.left (record { memory = M.contents memory.old; events = events.old; machine = self.old })
-            (status_of (record { memory = M.contents memory.old; events = events.old; machine = self.old }) tag self.new.device.active) }
+            (status_of (record { memory = M.contents memory.old; events = events.old; machine = self.old }) tag) }
         ensures same_loan { M.loan memory.new ≡ M.loan memory.old }
     {
         if turn.is_over() {
@@ -261,7 +261,7 @@ impl Machine {
         turn: &mut Turn,
     ) -> Result<(), Outside>
         ensures turned { ((record { memory = M.contents memory.new; events = events.new; machine = self.new }, turn.new.left), is_ok result)
-            ≡ pipes_turned self.new.device.active turn.old.left (record { memory = M.contents memory.old; events = events.old; machine = self.old }) }
+            ≡ pipes_turned turn.old.left (record { memory = M.contents memory.old; events = events.old; machine = self.old }) }
         ensures same_loan { M.loan memory.new ≡ M.loan memory.old }
     {
         self.turn_command_pipe(memory, events, turn)?;
@@ -279,7 +279,7 @@ impl Machine {
         turn: &mut Turn,
     ) -> Result<(), Outside>
         ensures turned { ((record { memory = M.contents memory.new; events = events.new; machine = self.new }, turn.new.left), is_ok result)
-            ≡ front_turned self.new.device.active turn.old.left (record { memory = M.contents memory.old; events = events.old; machine = self.old }) }
+            ≡ front_turned turn.old.left (record { memory = M.contents memory.old; events = events.old; machine = self.old }) }
         ensures same_loan { M.loan memory.new ≡ M.loan memory.old }
     {
         self.settle(memory, events)?;
@@ -296,8 +296,8 @@ impl Machine {
         events: &mut EventRing,
         turn: &mut Turn,
     ) -> Result<(), Outside>
-        ensures turned { TagsTurned 241 ((record { memory = M.contents memory.old; events = events.old; machine = self.old }, turn.old.left), true)
-            ((record { memory = M.contents memory.new; events = events.new; machine = self.new }, turn.new.left), is_ok result) }
+        ensures turned { ((record { memory = M.contents memory.new; events = events.new; machine = self.new }, turn.new.left), is_ok result)
+            ≡ tags_turned 241 ((record { memory = M.contents memory.old; events = events.old; machine = self.old }, turn.old.left), true) }
         ensures same_loan { M.loan memory.new ≡ M.loan memory.old }
     {
         let mut from = 0;
@@ -321,8 +321,8 @@ impl Machine {
         tag: u16,
     ) -> Result<(), Outside>
         requires { tag < 241 }
-        ensures turned { (between : List ℕ) × (((record { memory = M.contents memory.new; events = events.new; machine = self.new }, turn.new.left), is_ok result)
-            ≡ tag_turned between self.new.device.active turn.old.left tag (record { memory = M.contents memory.old; events = events.old; machine = self.old })) }
+        ensures turned { ((record { memory = M.contents memory.new; events = events.new; machine = self.new }, turn.new.left), is_ok result)
+            ≡ tag_turned turn.old.left tag (record { memory = M.contents memory.old; events = events.old; machine = self.old }) }
         ensures same_loan { M.loan memory.new ≡ M.loan memory.old }
     {
         if turn.is_over() {
@@ -347,8 +347,8 @@ impl Machine {
         tag: u16,
     ) -> Result<(), Outside>
         requires { tag < 241 }
-        ensures turned { (between : List ℕ) × (((record { memory = M.contents memory.new; events = events.new; machine = self.new }, turn.new.left), is_ok result)
-            ≡ busy_turned between self.new.device.active turn.old.left tag (record { memory = M.contents memory.old; events = events.old; machine = self.old })) }
+        ensures turned { ((record { memory = M.contents memory.new; events = events.new; machine = self.new }, turn.new.left), is_ok result)
+            ≡ busy_turned turn.old.left tag (record { memory = M.contents memory.old; events = events.old; machine = self.old }) }
         ensures same_loan { M.loan memory.new ≡ M.loan memory.old }
     {
         self.turn_data(memory, events, turn, tag)?;

@@ -1,6 +1,6 @@
 //! The steps, in turns.
 ghost use Rattle.std.specs.Prelude.{◌≡◌, ◌≤◌, ◌-◌, is_ok, false};
-ghost use Rattle.xhci_machine.specs.Worked.{IsWorked, RoundTurned, RoundsWorked, nothing_worked};
+ghost use Rattle.xhci_machine.specs.Worked.{IsWorked, RoundsWorked, nothing_worked, round_turned};
 
 use crate::Machine;
 use crate::turns::Turn;
@@ -78,8 +78,8 @@ impl Machine {
         events: &mut EventRing,
         turn: &mut Turn,
     ) -> Result<(), Outside>
-        ensures turned { RoundTurned (record { memory = M.contents memory.old; events = events.old; machine = self.old }, turn.old.left)
-            ((record { memory = M.contents memory.new; events = events.new; machine = self.new }, turn.new.left), is_ok result) }
+        ensures turned { ((record { memory = M.contents memory.new; events = events.new; machine = self.new }, turn.new.left), is_ok result)
+            ≡ round_turned (record { memory = M.contents memory.old; events = events.old; machine = self.old }, turn.old.left) }
         ensures same_loan { M.loan memory.new ≡ M.loan memory.old }
     {
         self.turn_front(memory, events, turn)?;

@@ -5,4 +5,4 @@ use Rattle.uas_target.proofs.table.TaskTable.new.Goals as goal
 
 pub invariant_of-result : goal.invariant_of-result
 invariant_of-result c =
-    (ap length c.in_ok-from_array.ensures.items, unmarked c.new.result _ GREATEST_TAG c.new.ensures c.in_ok-from_array.ensures.items)
+    (ap length c.in_ok-from_array.ensures.items, unmarked c.new.result _ GREATEST_TAG c.new.ensures.none c.in_ok-from_array.ensures.items)

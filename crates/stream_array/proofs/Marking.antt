@@ -1,5 +1,5 @@
 -- The marks of the streams that may have something pending, as one stream's ring changes.
-use Rattle.std.proofs.Common.{◌≡◌, ◌≢◌, ℕ, Bool, refl, ◌+◌, ◌-◌, ◌<◌, ◌≤◌, List, drop, length, slice_set, get_or-set_same, true, sym, subst, ap, ◌∙◌, arith, inl, inr}
+use Rattle.std.proofs.Common.{◌≡◌, ℕ, Bool, refl, ◌+◌, ◌-◌, ◌<◌, ◌≤◌, List, length, slice_set, get_or-set_same, true, sym, subst, ap, ◌∙◌, arith, inl, inr}
 use Rattle.std.proofs.lemmas.Bool.{cases_eq}
 use Rattle.std.proofs.lemmas.List.{length-drop}
 use Rattle.cycle_ring.specs.Ring.{IsConsumed, IsPending, opening, reclaimed}

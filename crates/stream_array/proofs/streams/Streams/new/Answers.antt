@@ -13,7 +13,7 @@ invariant_of-result c =
       consumer = λ k within. c.loop-count.invariant.2 k (omega arith);
     } in (
       AreStreams-opening c.args.pipe _ _ c.requires segments c.in_ok-contexts.ensures,
-      AreMarked-opening c.args.pipe _ _ c.requires segments c.in_ok-contexts.ensures _ c.new-2.ensures,
+      AreMarked-opening c.args.pipe _ _ c.requires segments c.in_ok-contexts.ensures _ c.new-2.ensures.none,
     )
 
 pub returns-clause-rings : goal.returns-clause-rings

@@ -1,7 +1,7 @@
 -- The program's command, its matches and its refusals, as the words' parser tells them.
 use Rattle.std.proofs.Common.{◌≡◌, ◌∙◌, ◌&&◌, Bool, true, false, not, List, [], ◌∷◌, Option, Some, None, Result, option_map, is_some, if◌then◌else◌}
 use Rattle.std.proofs.Common.{refl, ap, ap₂, sym, subst, inl, inr}
-use Rattle.std.specs.Prelude.{codes, option_and_then}
+use Rattle.std.specs.Prelude.{codes}
 use Rattle.clap.specs.Words.{App, Row, AddsSubcommand, FailsBy, app_of, with_subcommand, HasKind, HasMatchesOf, IsAmong, Kinds, Text, fault_of, is_simple, is_simple_and_free, subcommand_of}
 use Rattle.clap.specs.Words.{subcommand_rows_of}
 use Rattle.clap.specs.Kinds.{or_else}
@@ -11,7 +11,7 @@ use Rattle.clap.specs.declared.error.kind.ErrorKind.{ErrorKind}
 use Rattle.clap.specs.declared.error.kind.ErrorKind.TheVariants.{ValueValidation}
 use Rattle.clap.specs.declared.parser.matches.ArgMatches.{ArgMatches}
 use Rattle.clap.proofs.OnLiterals.{clap_on_literals}
-use Rattle.uas_words.specs.CommandLine.{Asked, asked_for, asked_in, asked_of, blocks_of, file_of, info, make, program_app, refusals}
+use Rattle.uas_words.specs.CommandLine.{Asked, asked_for, asked_in, asked_of, file_of, info, program_app, refusals}
 
 -- the third of the tests that a plain command passes
 third_fails : (a b c d : Bool) → (a && (b && (not c && d))) ≡ true → c ≡ false
@@ -43,12 +43,7 @@ both_found f h same (Some x) n w (Some y) names rest =
     let other : w y ≡ (h x).1 = cc in
     ap (λ a. Some (a, w y)) (name ∙ same x) ∙ ap (λ b. Some ((h x).0, b)) other
 
--- what the two subcommands of images ask for
-pub asked_of-make : (name : Text) (rows : List Row) → name ≡ codes "make"
-    → asked_of name rows ≡ option_and_then (λ file. option_map (make file) (blocks_of rows)) (file_of rows)
-asked_of-make name rows is =
-    subst (λ (t : Text). asked_of t rows ≡ option_and_then (λ file. option_map (make file) (blocks_of rows)) (file_of rows)) (sym is) refl
-
+-- what the subcommand of an image's size asks for
 pub asked_of-info : (name : Text) (rows : List Row) → name ≡ codes "info" → asked_of name rows ≡ option_map info (file_of rows)
 asked_of-info name rows is = subst (λ (t : Text). asked_of t rows ≡ option_map info (file_of rows)) (sym is) refl
 

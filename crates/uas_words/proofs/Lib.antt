@@ -7,6 +7,7 @@ mod Levels
 mod Places
 mod PlainScripts
 mod PlainFiles
+mod PlainMakes
 mod PlainPages
 mod PlainTraces
 mod PlainLines

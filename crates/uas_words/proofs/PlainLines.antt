@@ -1,5 +1,5 @@
 -- What the plain command lines ask for.
-use Rattle.std.proofs.Common.{◌≡◌, ◌∙◌, ℕ, ◌==◌, not, true, false, true≢false, List, [], ◌∷◌, Option, Some, None}
+use Rattle.std.proofs.Common.{◌≡◌, ◌∙◌, ℕ, ◌==◌, true, false, true≢false, List, [], ◌∷◌, Option, Some, None}
 use Rattle.std.proofs.Common.{Result, Ok, Err, IfOk, option_map, refl, ap, ap₂, sym, subst, inl, inr, arith}
 use Rattle.std.specs.Prelude.{codes, option_and_then, MatchResult}
 use Rattle.clap.specs.Words.{FailsBy, HasKind, Kinds, Text, fault_of, kind_of}
@@ -9,7 +9,7 @@ use Rattle.clap.proofs.OnLiterals.{clap_on_literals}
 use Rattle.clap.specs.Faults.{check_fault, defaults_fault, entered_fault, level_fault, settle_fault, walk_fault}
 use Rattle.clap.specs.Kinds.{or_else}
 use Rattle.clap.specs.Simple.{Shape, built, entered, label_of}
-use Rattle.clap.specs.Walk.{answers_to, finished, nothing_held, rows_after, settled, walk, walk_from}
+use Rattle.clap.specs.Walk.{answers_to, finished, nothing_held, settled, walk, walk_from}
 use Rattle.std.specs.Option.{option_map_or}
 use Rattle.std.specs.Prelude.{find}
 use Rattle.uas_profile.specs.declared.TheConstants.{MAX_CLIENTS}
@@ -20,11 +20,12 @@ use Rattle.uas_words.specs.CommandLine.{audit, capture, decode, draw, dump, fill
 use Rattle.uas_words.proofs.Levels.{Enters, level_nothing}
 use Rattle.uas_words.proofs.PlainFiles.{audit_asked, capture_asked}
 use Rattle.uas_words.proofs.PlainScripts.{replay_is_script, script_asked}
+use Rattle.uas_words.proofs.PlainMakes.{make_asked}
 use Rattle.uas_words.proofs.PlainPages.{draw_asked, page_asked}
 use Rattle.uas_words.proofs.PlainTraces.{trace_asked}
 use Rattle.uas_words.proofs.PlainNumbers.{IsIn, not-true, number_is_in}
 use Rattle.uas_words.proofs.CommandLineFacts.{nothing_refused}
-use Rattle.uas_words.proofs.WalkSteps.{fault-bad, fault-end, fault-plain, fault-value, walked-bad, walked-plain, walked-value}
+use Rattle.uas_words.proofs.WalkSteps.{fault-end, fault-plain, walked-plain}
 
 info_asks : (p : Text) (d : ℕ) (ds : Text) → (d == 45) ≡ false → asked_for (p ∷ codes "info" ∷ (d ∷ ds) ∷ []) ≡ Some (info (d ∷ ds))
 unfolding asked_for clap_on_literals
@@ -33,16 +34,6 @@ info_asks p d ds plain = simp plain
 info_passes : (p : Text) (d : ℕ) (ds : Text) → (d == 45) ≡ false → fault_of program_app (p ∷ codes "info" ∷ (d ∷ ds) ∷ []) ≡ []
 unfolding clap_on_literals
 info_passes p d ds plain = simp plain
-
-make_asks : (p : Text) (d : ℕ) (ds : Text) (e : ℕ) (es : Text) → (d == 45) ≡ false → (e == 45) ≡ false → (e == 43) ≡ false
-    → asked_for (p ∷ codes "make" ∷ (d ∷ ds) ∷ (e ∷ es) ∷ []) ≡ option_map (make (d ∷ ds)) (number_in 1 65536 (e ∷ es))
-unfolding asked_for clap_on_literals
-make_asks p d ds e es plain hyphen plus = simp (plain, hyphen, plus)
-
-make_passes : (p : Text) (d : ℕ) (ds : Text) (e : ℕ) (es : Text) → (d == 45) ≡ false → IsIn 1 65536 e es
-    → fault_of program_app (p ∷ codes "make" ∷ (d ∷ ds) ∷ (e ∷ es) ∷ []) ≡ []
-unfolding clap_on_literals
-make_passes p d ds e es plain n = simp (plain, n.hyphen, n.plus, n.some, n.first, n.rest, n.fits, n.low, n.high)
 
 decode_asks : (p : Text) → asked_for (p ∷ codes "decode" ∷ []) ≡ Some decode
 unfolding asked_for clap_on_literals
@@ -244,15 +235,8 @@ plain_asks (trace clients blocks bad) words plain = trace_asked clients blocks b
 plain_asks (work clients rounds log) words plain = work_asked clients rounds log words plain
 plain_asks (keep clients rounds log every) words plain = absurd plain
 plain_asks decode words plain = (ap asked_for plain.1 ∙ decode_asks plain.0, ap (fault_of program_app) plain.1 ∙ decode_passes plain.0)
-plain_asks (make [] blocks) words plain = absurd (true≢false (sym plain.3))
-plain_asks (make (d ∷ ds) blocks) words plain =
-    let n = number_is_in 1 65536 blocks plain.1 (omega arith) plain.4 in
-    let hyphen : (d == 45) ≡ false = not-true (d == 45) plain.3 in
-    let is : words ≡ plain.0 ∷ codes "make" ∷ (d ∷ ds) ∷ (n.0 ∷ n.1) ∷ [] = plain.2 ∙ ap (λ (b : Text). plain.0 ∷ codes "make" ∷ (d ∷ ds) ∷ b ∷ []) n.2 in
-    let second : number_in 1 65536 (n.0 ∷ n.1) ≡ Some blocks = ap (number_in 1 65536) (sym n.2) ∙ plain.4 in (
-      ap asked_for is ∙ (make_asks plain.0 d ds n.0 n.1 hyphen n.3.hyphen n.3.plus ∙ ap (option_map (make (d ∷ ds))) second),
-      ap (fault_of program_app) is ∙ make_passes plain.0 d ds n.0 n.1 hyphen n.3,
-    )
+plain_asks (make file blocks true) words plain = absurd plain
+plain_asks (make file blocks false) words plain = make_asked file blocks words plain
 plain_asks (info []) words plain = absurd (true≢false (sym plain.2))
 plain_asks (info (d ∷ ds)) words plain =
     let hyphen : (d == 45) ≡ false = not-true (d == 45) plain.2 in (

@@ -1,5 +1,5 @@
 -- The numbers of a plain command line, as the words' parser tests them.
-use Rattle.std.proofs.Common.{◌≡◌, ◌<◌, ◌≤◌, ◌^◌, ◌&&◌, ℕ, ◌==◌, Bool, cond, not, true, false, List, [], ◌∷◌, length, Option, Some, None, refl, sym, arith, lt-ltb}
+use Rattle.std.proofs.Common.{◌≡◌, ◌<◌, ◌≤◌, ◌^◌, ◌&&◌, ℕ, ◌==◌, Bool, cond, not, true, false, [], ◌∷◌, length, Some, None, refl, sym, arith, lt-ltb}
 use Rattle.std.specs.Prelude.{pos, nat_lt, nat_le, int_le}
 use Rattle.std.specs.List.{list_all}
 use Rattle.std.specs.Char.{digit_value}

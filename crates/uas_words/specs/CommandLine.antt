@@ -20,7 +20,8 @@ use Rattle.byte_io.specs.Words.{number_in}
 
 -- What is asked for, with a file's name as its text: to run a script of so many clients and blocks, and of the block that is bad in
 -- every unit, if one is; to run one and show its steps; to let so many clients work for so many rounds, and to save their log in a
--- file, if one is named, or to keep it there while it grows, synced after so many steps; to tell what lines of bytes say; to make an image of so many blocks, to tell the size of one, to print its
+-- file, if one is named, or to keep it there while it grows, synced after so many steps; to tell what lines of bytes say; to make an image of so many
+-- blocks, in place of a file that is there or not, to tell the size of one, to print its
 -- blocks from a number on, so many of them, or to fill them with a byte; to audit a saved log, and to find there a checksum, if one is named; to draw a
 -- script's run as a picture, or as a page; to write it to a file as a capture.
 pub data Asked : Type 0 where
@@ -29,7 +30,7 @@ pub data Asked : Type 0 where
   work : ℕ → ℕ → Option Text → Asked
   keep : ℕ → ℕ → Text → ℕ → Asked
   decode : Asked
-  make : Text → ℕ → Asked
+  make : Text → ℕ → Bool → Asked
   info : Text → Asked
   dump : Text → ℕ → ℕ → Asked
   fill : Text → ℕ → ℕ → ℕ → Asked
@@ -44,7 +45,7 @@ asked_by (Trace disks) = trace disks.clients disks.blocks disks.bad
 asked_by (Work clients rounds log) = work clients rounds (option_map (λ name. name.now) log)
 asked_by (Keep clients rounds log every) = keep clients rounds log.now every
 asked_by Decode = decode
-asked_by (Make file blocks) = make file.now blocks
+asked_by (Make file blocks replaces) = make file.now blocks replaces
 asked_by (Info file) = info file.now
 asked_by (Dump file extent) = dump file.now extent.lba extent.count
 asked_by (Fill file extent byte) = fill file.now extent.lba extent.count byte
@@ -120,6 +121,14 @@ is_true (Some word) = bytes_eq word (codes "true")
 
 abbrev pub has_page : List Row → Bool
 has_page rows = is_true (first_of (codes "page") rows)
+
+-- `--force` may stand or not
+abbrev pub has_force : List Row → Bool
+has_force rows = is_true (first_of (codes "force") rows)
+
+-- FILE BLOCKS [--force]
+abbrev pub make_of : List Row → Option Asked
+make_of rows = option_and_then (λ file. option_map (λ blocks. make file blocks (has_force rows)) (blocks_of rows)) (file_of rows)
 
 -- `--color WHEN` may stand or not, and WHEN is `always`, `auto` or `never`. It changes how lines are shown, and not what is asked for.
 abbrev pub is_when : Option Text → Bool
@@ -210,8 +219,7 @@ asked_of name rows =
     then trace_of rows
     else (if bytes_eq name (codes "work") then work_of rows
     else (if bytes_eq name (codes "decode") then decode_of rows
-    else (if bytes_eq name (codes "make")
-    then option_and_then (λ file. option_map (make file) (blocks_of rows)) (file_of rows)
+    else (if bytes_eq name (codes "make") then make_of rows
     else (if bytes_eq name (codes "info") then option_map info (file_of rows)
     else (if bytes_eq name (codes "dump") then dump_of rows
     else (if bytes_eq name (codes "fill") then fill_of rows
@@ -280,9 +288,17 @@ sync_rule = number_option_rule (codes "sync") max_lba
 abbrev pub head_rule : Rule
 head_rule = option_rule (codes "head")
 
+-- an option behind which no word stands
+abbrev pub flag_rule : Text → Rule
+flag_rule name = record (new_rule name) { long = Some name; action = Some SetTrue }
+
 -- the option `--page`
 abbrev pub page_rule : Rule
-page_rule = record (new_rule (codes "page")) { long = Some (codes "page"); action = Some SetTrue }
+page_rule = flag_rule (codes "page")
+
+-- the option `--force`
+abbrev pub force_rule : Rule
+force_rule = flag_rule (codes "force")
 
 -- the option `--color WHEN`
 abbrev pub color_rule : Rule
@@ -311,9 +327,9 @@ work_app = with_rule (with_work (new_app (codes "work"))) sync_rule
 abbrev pub decode_app : App
 decode_app = with_rule (new_app (codes "decode")) color_rule
 
--- make FILE BLOCKS
+-- make FILE BLOCKS [--force]
 abbrev pub make_app : App
-make_app = with_rule (with_rule (new_app (codes "make")) file_rule) blocks_rule
+make_app = with_rule (with_rule (with_rule (new_app (codes "make")) file_rule) blocks_rule) force_rule
 
 -- info FILE
 abbrev pub info_app : App
@@ -410,14 +426,15 @@ AsksAudit log (Some head) words = (program second : Text) × (words ≡ program 
     × (is_plain_name log ≡ true) × (hex_number second ≡ Some head)
 
 -- The words ask for a run in their plain form: a subcommand and its arguments, each number in decimal digits, and an option after them;
--- no plain form is told of a log that is kept.
+-- no plain form is told of a log that is kept, and of an image in place of a file.
 abbrev pub AsksPlainly : Asked → List Text → Type 0
 AsksPlainly (replay clients blocks bad) words = AsksScript (codes "replay") clients blocks bad words
 AsksPlainly (trace clients blocks bad) words = AsksScript (codes "trace") clients blocks bad words
 AsksPlainly (work clients rounds log) words = AsksWork clients rounds log words
 AsksPlainly (keep clients rounds log every) words = ⊥
 AsksPlainly decode words = (program : Text) × (words ≡ program ∷ codes "decode" ∷ [])
-AsksPlainly (make file blocks) words = (program second : Text) × (words ≡ program ∷ codes "make" ∷ file ∷ second ∷ [])
+AsksPlainly (make file blocks true) words = ⊥
+AsksPlainly (make file blocks false) words = (program second : Text) × (words ≡ program ∷ codes "make" ∷ file ∷ second ∷ [])
     × (is_plain_name file ≡ true) × (number_in 1 MAX_BLOCKS second ≡ Some blocks)
 AsksPlainly (info file) words = (program : Text) × (words ≡ program ∷ codes "info" ∷ file ∷ []) × (is_plain_name file ≡ true)
 AsksPlainly (dump file lba count) words =
@@ -444,7 +461,7 @@ MayEndRun (trace clients blocks bad) status = (status ≤ 1) ⊎ ((status ≡ 3)
 MayEndRun (work clients rounds log) status = (status ≤ 1) ⊎ ((status ≡ 3) ⊎ (status ≡ 4))
 MayEndRun (keep clients rounds log every) status = (status ≤ 1) ⊎ ((status ≡ 3) ⊎ (status ≡ 4))
 MayEndRun decode status = (status ≤ 1) ⊎ ((status ≡ 3) ⊎ (status ≡ 4))
-MayEndRun (make file blocks) status = (status ≡ 0) ⊎ ((status ≡ 3) ⊎ (status ≡ 4))
+MayEndRun (make file blocks replaces) status = (status ≡ 0) ⊎ ((status ≡ 3) ⊎ (status ≡ 4))
 MayEndRun (info file) status = (status ≡ 0) ⊎ ((status ≡ 3) ⊎ (status ≡ 4))
 MayEndRun (dump file lba count) status = (status ≤ 1) ⊎ ((status ≡ 3) ⊎ (status ≡ 4))
 MayEndRun (fill file lba count byte) status = (status ≤ 1) ⊎ ((status ≡ 3) ⊎ (status ≡ 4))

@@ -2,7 +2,7 @@
 
 ghost use Rattle.std.specs.Prelude.{◌≡◌, false};
 ghost use Rattle.clap.specs.Words.{rule_of};
-ghost use Rattle.uas_words.specs.CommandLine.{log_rule, number_option_rule, number_rule, option_rule, page_rule, required_rule};
+ghost use Rattle.uas_words.specs.CommandLine.{flag_rule, log_rule, number_option_rule, number_rule, option_rule, required_rule};
 
 use clap::{Arg, ArgAction};
 use std::alloc::Global;
@@ -72,13 +72,13 @@ pub(crate) fn number_option<'a>(
     ))
 }
 
-/// The option `--page`, behind which no word stands.
-pub(crate) fn page<'a>(alloc: Global, help: &'a str) -> Arg<'a>
-    ensures rule { rule_of result ≡ page_rule }
+/// An option behind which no word stands.
+pub(crate) fn flag<'a>(alloc: Global, name: &'a str, help: &'a str) -> Arg<'a>
+    ensures rule { rule_of result ≡ flag_rule name.entry.now }
     ensures local { result.global ≡ false }
 {
-    Arg::new(alloc, "page")
-        .long("page")
+    Arg::new(alloc, name)
+        .long(name)
         .action(ArgAction::SetTrue)
         .help(help)
 }

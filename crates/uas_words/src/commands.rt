@@ -4,7 +4,7 @@ ghost use Rattle.clap.specs.Words.{App, app_of, with_subcommand};
 ghost use Rattle.uas_words.specs.CommandLine.{audit_app, capture_app, decode_app, draw_app, dump_app, fill_app, info_app, make_app, program_app};
 ghost use Rattle.uas_words.specs.CommandLine.{replay_app, top_app, trace_app, with_disks, with_extent, with_work, work_app};
 
-use crate::arguments::{log, number, number_option, option, page, required};
+use crate::arguments::{flag, log, number, number_option, option, required};
 use crate::helps::{
     AUDIT_HELP, BYTE_HELP, COLOR_HELP, DRAW_HELP, HEAD_HELP, LBA_HELP, LOG_HELP, PAGE_HELP,
     ROUNDS_HELP, SCRIPT_HELP, SYNC_HELP, WORK_HELP,
@@ -132,7 +132,7 @@ fn make_command<'a>(alloc: Global) -> Result<Command<'a>, AllocError>
         .arg(required(
             alloc,
             "FILE",
-            "The image file, in place of one that is there",
+            "The image file; one that is there is refused, unless --force stands",
         ))?
         .arg(number(
             alloc,
@@ -140,7 +140,8 @@ fn make_command<'a>(alloc: Global) -> Result<Command<'a>, AllocError>
             1,
             MAX_BLOCKS,
             "How many blocks of 512 bytes it gets: 1 to 65536",
-        ))
+        ))?
+        .arg(flag(alloc, "force", "Write over a file that is there"))
 }
 
 fn info_command<'a>(alloc: Global) -> Result<Command<'a>, AllocError>
@@ -194,7 +195,7 @@ fn draw_command<'a>(alloc: Global) -> Result<Command<'a>, AllocError>
     let command = Command::new(alloc, "draw")
         .about("Runs a script as replay does, and draws the run as a picture (SVG)")
         .after_help(DRAW_HELP);
-    add_disks(alloc, command)?.arg(page(alloc, PAGE_HELP))
+    add_disks(alloc, command)?.arg(flag(alloc, "page", PAGE_HELP))
 }
 
 fn capture_command<'a>(alloc: Global) -> Result<Command<'a>, AllocError>

@@ -13,7 +13,7 @@ ghost use Rattle.clap.specs.Words.{FailsBy, app_of, first_of, found_of, kind_of,
 ghost use Rattle.byte_io.specs.Disks.{AreBlocks, AreClients, AreDisks};
 ghost use Rattle.uas_words.specs.Options.{AreRounds, IsBlock, IsInRange, IsMoved};
 ghost use Rattle.uas_words.specs.CommandLine.{Asked, AsksPlainly, asked_by, asked_for, asked_in, blocks_of, capture_of, clients_of, decode_of};
-ghost use Rattle.uas_words.specs.CommandLine.{draw_of, dump_of, extent_of, fill_of, has_page, has_when, is_when, number_of, optional_number, program_app};
+ghost use Rattle.uas_words.specs.CommandLine.{draw_of, dump_of, extent_of, fill_of, has_when, is_true, is_when, make_of, number_of, optional_number, program_app};
 ghost use Rattle.uas_words.specs.CommandLine.{refusals, script_of, trace_of, work_of, worked};
 
 mod arguments;
@@ -81,10 +81,11 @@ pub enum Run<'a> {
     },
     /// Tell what lines of bytes on standard input say.
     Decode,
-    /// Make an image file of 1 to 65,536 zeroed blocks.
+    /// Make an image file of 1 to 65,536 zeroed blocks. Where it replaces, a file that is there is written over.
     Make {
         file: &'a str,
         blocks: u32,
+        replaces: bool,
     },
     /// Tell the size of an image file.
     Info {
@@ -138,10 +139,7 @@ fn run_by<'a>(mut command: Command<'a>, words: &'a [String]) -> Result<Run<'a>, 
     let matches = command.try_get_matches_from_mut(words)?;
     match asked(&matches) {
         Some(run) => Ok(run),
-        None => Err(command.error(
-            ErrorKind::ValueValidation,
-            "a word is missing, --sync stands without LOG, --head isn't 1 to 8 hexadecimal digits, or --color has another than always, auto and never",
-        )?),
+        None => Err(command.error(ErrorKind::ValueValidation, complaint(&matches))?),
     }
 }
 
@@ -156,11 +154,7 @@ fn asked<'a>(matches: &ArgMatches<'a>) -> Option<Run<'a>>
         "trace" => trace_in(words),
         "work" => work_in(words),
         "decode" => decode_in(words),
-        "make" => {
-            let file = words.get_str("FILE")?;
-            let blocks = blocks_in(words)?;
-            Some(Run::Make { file, blocks })
-        }
+        "make" => make_in(words),
         "info" => {
             let file = words.get_str("FILE")?;
             Some(Run::Info { file })
@@ -172,6 +166,34 @@ fn asked<'a>(matches: &ArgMatches<'a>) -> Option<Run<'a>>
         "capture" => capture_in(words),
         _ => None,
     }
+}
+
+/// What is wrong with words that the parsers took and that ask for nothing.
+fn complaint(matches: &ArgMatches<'_>) -> &'static str {
+    let Some((name, words)) = matches.subcommand() else {
+        return "a word is missing";
+    };
+    match name {
+        "work" => "--sync N is told of a log: LOG is missing",
+        "audit" => "HEX isn't 1 to 8 hexadecimal digits",
+        _ if !has_when(words) => "WHEN is one of always, auto and never",
+        _ => "a word is missing",
+    }
+}
+
+/// An image that is made.
+fn make_in<'a>(words: &ArgMatches<'a>) -> Option<Run<'a>>
+    ensures range { IfSome result IsInRange }
+    ensures asked { option_map asked_by result ≡ make_of (rows_of (found_of words.now)) }
+{
+    let file = word_in(words, "FILE")?;
+    let blocks = blocks_in(words)?;
+    let replaces = has_flag(words, "force");
+    Some(Run::Make {
+        file,
+        blocks,
+        replaces,
+    })
 }
 
 /// The disks that a script runs on.
@@ -235,18 +257,18 @@ fn draw_in<'a>(words: &ArgMatches<'a>) -> Option<Run<'a>>
     ensures asked { option_map asked_by result ≡ draw_of (rows_of (found_of words.now)) }
 {
     let disks = disks_in(words)?;
-    if has_page(words) {
+    if has_flag(words, "page") {
         Some(Run::Page(disks))
     } else {
         Some(Run::Draw(disks))
     }
 }
 
-/// Whether `--page` stands.
-fn has_page(words: &ArgMatches<'_>) -> bool
-    ensures { result ≡ has_page (rows_of (found_of words.now)) }
+/// Whether the flag of this name stands.
+fn has_flag(words: &ArgMatches<'_>, name: &str) -> bool
+    ensures { result ≡ is_true (first_of name.now (rows_of (found_of words.now))) }
 {
-    match word_in(words, "page") {
+    match word_in(words, name) {
         Some(word) => is_true(word),
         None => false,
     }

@@ -1,4 +1,4 @@
-use Rattle.std.proofs.Common.{rules, true, sym, ◌≡◌, ◌∙◌}
+use Rattle.std.proofs.Common.{rules, true, ◌≡◌, ◌∙◌}
 use Rattle.uas_words.specs.CommandLine.{is_hex}
 use Rattle.uas_words.proofs.HexWords.{hex_read}
 use Rattle.uas_words.proofs.audits.hex_number.Goals as goal

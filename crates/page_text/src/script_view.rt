@@ -6,7 +6,7 @@ pub const SCRIPT_VIEW: &str = "
 
 const run = readRun(JSON.parse(document.getElementById('run').textContent));
 const stateBehind = makeStates(run);
-const view = { step: 0, client: '', tag: '', address: null, rows: [], steps: [], places: new Map() };
+const view = { step: 0, client: '', tag: '', address: null, rows: [], steps: [], places: new Map(), gap: 0, width: 0 };
 const part = (id) => document.getElementById(id);
 
 function isShown(step) {
@@ -28,13 +28,28 @@ function applyFilters() {
 
 // THE PICTURE
 
-const PITCH = 20, TOP = 30;
-const LANES = { host: 0, rings: 350, controller: 480, device: 610 };
+const PITCH = 22, NARROW = 64;
+const SYSTEM = ['host', 'rings', 'controller', 'device'];
 const WRITTEN_ENDS = { put: ['host', 'rings'], link: ['host', 'rings'], bell: ['host', 'controller'], in: ['device', 'rings'], out: ['rings', 'device'],
   event: ['controller', 'host'], context: ['controller', 'rings'] };
+const WRITTEN_KINDS = { put: 'trb', link: 'trb', bell: 'doorbell', unit: 'unit', in: 'data', out: 'data', event: 'event', context: 'context' };
+const LEGEND = { command: 'command of a client', reply: 'reply', trb: 'TRB', doorbell: 'doorbell', unit: 'information unit', data: 'data', event: 'event',
+  context: 'stream context', turn: 'step', refused: 'refused' };
+
+function lanesShown() {
+  return Array.from({ length: run.clients }, (_, client) => client).concat(SYSTEM);
+}
+
+// The lanes take at most half of the picture; the words of a row stand behind them.
+function spread() {
+  const count = run.clients + SYSTEM.length;
+  view.gap = Math.max(13, Math.min(90, Math.floor(part('picture').clientWidth * 0.5 / count)));
+  view.width = view.gap * count;
+}
 
 function laneX(lane) {
-  return typeof lane === 'number' ? 40 + 74 * lane : 56 + 74 * run.clients + LANES[lane];
+  const place = typeof lane === 'number' ? lane : run.clients + SYSTEM.indexOf(lane);
+  return Math.round(view.gap * (place + 0.5));
 }
 
 // The lanes between which a line's arrow goes, or the one lane that its dot is on.
@@ -48,66 +63,74 @@ function endsOf(line) {
   return STEP_WORDS.has(line.name) ? ['controller'] : [];
 }
 
+function kindOf(line) {
+  if (line.isWritten) return WRITTEN_KINDS[line.name];
+  if (line.words[1] === 'refused') return 'refused';
+  if (line.name === 'submit' || line.name === 'task') return 'command';
+  return /^[0-9]+$/.test(line.name) ? 'reply' : 'turn';
+}
+
 function markUp(text) {
-  return text.replaceAll('&', '&amp;').replaceAll('<', '&lt;').replaceAll('>', '&gt;');
+  return text.replaceAll('&', '&amp;').replaceAll('<', '&lt;').replaceAll('>', '&gt;').replaceAll(`'`, '&#39;');
 }
 
 function arrow(from, to, y) {
-  return `<path d='M${from} ${y}H${to}${from < to ? 'l-8-4v8l8-4z' : 'l8-4v8l-8-4z'}'/>`;
+  const head = Math.min(8, Math.abs(to - from) / 2);
+  return `<path d='M${from} ${y}H${to}${from < to ? `l-${head}-4v8l${head}-4z` : `l${head}-4v8l-${head}-4z`}'/>`;
 }
 
 // A line in the picture: its words, with what its bytes say in their place, or what the step takes.
 function rowText(line, of) {
   const said = line.said === '' ? of : line.said;
-  const words = said === '' ? line.line : line.name + '  ' + said;
-  return markUp(words.length > 96 ? words.slice(0, 95) + '..' : words);
+  return markUp(said === '' ? line.line : line.name + '  ' + said);
 }
 
-function rowDrawn(place) {
+function shapeOf(line, step) {
+  const ends = endsOf(line), xs = ends.map(laneX), y = PITCH / 2;
+  const own = step.client !== null && !ends.includes(step.client) ? `<circle r='2.5' cx='${laneX(step.client)}' cy='${y}'/>` : '';
+  const shape = xs.length === 2 ? arrow(xs[0], xs[1], y) : xs.length === 1 ? `<circle r='4' cx='${xs[0]}' cy='${y}'/>` : '';
+  return `<g class='${kindOf(line)}'>${own}${shape}</g>`;
+}
+
+function rowDrawn(place, rails) {
   const row = view.rows[place], index = run.stepOfRow[row], step = run.steps[index], line = readLine(run.raws[row]);
-  const y = PITCH * place + 15, ends = endsOf(line), xs = ends.map(laneX), isFirst = row === step.row;
-  const colour = step.client === null ? 'none' : 'c' + step.client;
-  const ground = index === view.step ? `<rect class='here' width='100%' height='${PITCH}' y='${y - 15}'/>` : '';
-  const rule = isFirst ? `<rect class='rule' width='100%' height='1' y='${y - 15}'/>` : '';
-  const shape = xs.length === 2 ? arrow(xs[0], xs[1], y) : xs.length === 1 ? `<circle r='3' cx='${xs[0]}' cy='${y}'/>` : '';
-  const at = xs.length === 2 ? [Math.min(...xs) + 10, y - 4] : [(xs[0] || 2) + 8, y + 3];
-  const words = `<text x='${at[0]}' y='${at[1]}'>${rowText(line, isFirst ? step.of : '')}</text>`;
-  return `<g class='row ${isFirst ? 'step ' : ''}${colour}' data-step='${index}'>${ground}${rule}${shape}${words}</g>`;
-}
-
-function railsDrawn(height) {
-  return lanesShown().map((lane) => `<path class='rail' d='M${laneX(lane)} 0V${height}'/>`).join('');
-}
-
-function lanesShown() {
-  return Array.from({ length: run.clients }, (_, client) => client).concat(Object.keys(LANES));
+  const isFirst = row === step.row, isHere = index === view.step, text = rowText(line, isFirst ? step.of : '');
+  const classes = ['row'].concat(isFirst ? ['step'] : [], isHere ? ['here'] : []).join(' ');
+  const place_of = `aria-setsize='${view.rows.length}' aria-posinset='${place + 1}' aria-selected='${isHere}' tabindex='${isFirst && isHere ? 0 : -1}'`;
+  return `<div class='${classes}' role='option' ${place_of} data-step='${index}' style='top:${PITCH * place}px;height:${PITCH}px' title='${text}'>`
+    + `<svg width='${view.width}' height='${PITCH}' aria-hidden='true'>${rails}${shapeOf(line, step)}</svg><span class='${kindOf(line)}'>${text}</span></div>`;
 }
 
 // Only the rows that are in sight are in the page.
 function drawRows() {
-  const box = part('picture');
+  const box = part('picture'), hadFocus = part('rows').contains(document.activeElement);
   const first = Math.max(0, Math.floor(box.scrollTop / PITCH) - 5);
   const last = Math.min(view.rows.length, first + Math.ceil(box.clientHeight / PITCH) + 10);
-  const rows = part('rows'), width = laneX('device') + 240;
-  let drawn = railsDrawn(PITCH * view.rows.length);
-  for (let place = first; place < last; place += 1) drawn += rowDrawn(place);
-  rows.setAttribute('viewBox', `0 ${PITCH * first} ${width} ${PITCH * (last - first)}`);
-  rows.setAttribute('width', width);
-  rows.setAttribute('height', PITCH * (last - first));
-  rows.style.top = TOP + PITCH * first + 'px';
-  rows.innerHTML = drawn;
+  const rails = lanesShown().map((lane) => `<path class='rail' d='M${laneX(lane)} 0V${PITCH}'/>`).join('');
+  const drawn = [];
+  for (let place = first; place < last; place += 1) drawn.push(rowDrawn(place, rails));
+  part('rows').innerHTML = view.rows.length > 0 ? drawn.join('') : `<p class='nothing'>${markUp(nothingSaid())}</p>`;
+  if (hadFocus) (part('rows').querySelector(`.row[tabindex='0']`) || part('panel')).focus({ preventScroll: true });
+}
+
+// What a filter says that leaves no step.
+function nothingSaid() {
+  const of = (view.client === '' ? [] : ['client ' + view.client]).concat(view.tag === '' ? [] : ['tag ' + view.tag]);
+  return `No step is of ${of.join(' and of ')}. Escape shows all steps.`;
 }
 
 function drawFrame() {
-  const width = laneX('device') + 240, lanes = part('lanes');
-  lanes.setAttribute('width', width);
-  lanes.setAttribute('height', TOP);
+  spread();
+  const lanes = part('lanes'), isNarrow = view.gap < NARROW, height = isNarrow ? 84 : 28;
+  lanes.setAttribute('width', '100%');
+  lanes.setAttribute('height', height);
+  lanes.style.display = 'block';
   lanes.innerHTML = lanesShown().map((lane) => {
-    const isClient = typeof lane === 'number';
-    return `<g class='${isClient ? 'c' + lane : 'none'}'><text class='lane' x='${laneX(lane)}' y='20'>${isClient ? 'client ' + lane : lane}</text></g>`;
+    const name = typeof lane === 'number' ? 'client ' + lane : lane, x = laneX(lane);
+    return isNarrow ? `<text transform='translate(${x + 4} ${height - 6}) rotate(-90)'>${name}</text>` : `<text x='${x}' y='19' text-anchor='middle'>${name}</text>`;
   }).join('');
-  part('tall').style.height = PITCH * view.rows.length + 'px';
-  part('tall').style.width = width + 'px';
+  part('tall').style.position = 'relative';
+  part('tall').style.height = PITCH * Math.max(1, view.rows.length) + 'px';
 }
 
 // THE PANEL
@@ -164,6 +187,11 @@ function ringShown(ring, written) {
 // Rings that the step wrote to or took from, and others on which TRBs wait.
 const MOST_SHOWN = 12;
 
+// a number of things by their name
+function counted(count, one, many) {
+  return `${count} ${count === 1 ? one : many}`;
+}
+
 function more(count, what) {
   return count === 0 ? '' : `<p class='quiet'>not shown: ${count} ${what}</p>`;
 }
@@ -217,6 +245,7 @@ function drawPanel() {
     + section('Stream contexts', contextsShown(state, step.tags));
   const shown = view.steps.length === run.steps.length ? '' : `, ${view.steps.length} shown`;
   part('count').textContent = `step ${view.step + 1} of ${run.steps.length}${shown}`;
+  part('now').textContent = `Step ${view.step + 1}${of}: ${lines[0].line}`;
 }
 
 // KEYS AND CLICKS
@@ -226,7 +255,7 @@ function goTo(index) {
   const box = part('picture'), place = view.places.get(view.step);
   if (place !== undefined) {
     const y = PITCH * place, height = PITCH * run.steps[view.step].rows;
-    if (y < box.scrollTop + PITCH || y + height > box.scrollTop + box.clientHeight - TOP - PITCH) box.scrollTop = Math.max(0, y - box.clientHeight / 3);
+    if (y < box.scrollTop + PITCH || y + height > box.scrollTop + box.clientHeight - part('lanes').clientHeight - PITCH) box.scrollTop = Math.max(0, y - box.clientHeight / 3);
   }
   history.replaceState(null, '', '#' + (view.step + 1));
   drawRows();
@@ -252,7 +281,7 @@ function search(goes) {
   const text = part('address').value.trim().replace(/^0x/i, '');
   view.address = /^[0-9a-f]{1,16}$/i.test(text) ? parseInt(text, 16) : null;
   const found = stepsWithAddress();
-  part('hits').textContent = text === '' ? '' : view.address === null ? 'no address' : `in ${found.length} steps`;
+  part('hits').textContent = text === '' ? '' : view.address === null ? 'no address' : 'in ' + counted(found.length, 'step', 'steps');
   const next = found.find((index) => index > view.step);
   if (goes && found.length > 0) goTo(next === undefined ? found[0] : next);
   else drawPanel();
@@ -273,20 +302,34 @@ const KEYS = { ArrowRight: () => move(1), ArrowDown: () => move(1), ArrowLeft: (
 
 function showAll() {
   part('client').value = part('tag').value = part('address').value = '';
-  part('picture').focus();
   filter();
+  const row = part('rows').querySelector(`.row[tabindex='0']`);
+  if (row) row.focus({ preventScroll: true });
 }
 
 function onKey(event) {
   const isText = event.target === part('address');
   if (isText && event.key === 'Enter') search(true);
+  if (event.key === 'Enter' || event.key === ' ') pick(event);
   if (event.ctrlKey || event.altKey || event.metaKey || !KEYS[event.key] || (event.target.tagName === 'SELECT' && event.key !== 'Escape')) return;
   if (isText && event.key !== 'Escape') return;
   event.preventDefault();
   KEYS[event.key]();
 }
 
+function pick(event) {
+  const row = event.target.closest('.row');
+  if (row) goTo(Number(row.dataset.step));
+}
+
+// the step that the page's address names, as #5 does
+function goToAddress() {
+  goTo((parseInt(location.hash.slice(1), 10) || 1) - 1);
+}
+
 function fillChoices() {
+  part('legend').innerHTML = Object.keys(LEGEND).map((kind) => `<li><svg width='22' height='10' aria-hidden='true' class='${kind}'>${arrow(0, 20, 5)}</svg> ${LEGEND[kind]}</li>`).join('');
+  part('help').open = innerWidth >= 800;
   const option = (value, text) => `<option value='${value}'>${text}</option>`;
   const tags = Array.from(new Set(run.steps.flatMap((step) => step.tags))).sort((one, other) => one - other);
   part('client').innerHTML = option('', 'all') + lanesShown().slice(0, run.clients).map((client) => option(client, client)).join('');
@@ -299,15 +342,16 @@ function start() {
   applyFilters();
   drawFrame();
   part('picture').addEventListener('scroll', drawRows);
-  part('rows').addEventListener('click', (event) => { const row = event.target.closest('.row'); if (row) goTo(Number(row.dataset.step)); });
+  part('rows').addEventListener('click', pick);
   part('back').addEventListener('click', () => move(-1));
   part('on').addEventListener('click', () => move(1));
   part('client').addEventListener('change', filter);
   part('tag').addEventListener('change', filter);
   part('address').addEventListener('input', () => search(false));
   addEventListener('keydown', onKey);
-  addEventListener('resize', drawRows);
-  goTo((parseInt(location.hash.slice(1), 10) || 1) - 1);
+  addEventListener('resize', () => { drawFrame(); drawRows(); });
+  addEventListener('hashchange', goToAddress);
+  goToAddress();
 }
 
 start();

@@ -112,7 +112,7 @@ pub record DecodeEnds (host : Host) (old new : World) (status : ℕ) : Type 0 wh
   pub memory : status ≡ 4 → IfSome old.input (λ bytes. Begins bytes old.output new.output)
   pub files : new.holds ≡ old.holds
 
--- `make FILE BLOCKS`: the file of this name holds the image of so many blocks, and standard output has got its line.
+-- `make FILE BLOCKS [--force]`: the file of this name holds the image of so many blocks, and standard output has got its line.
 pub record MakeEnds (file : Text) (blocks : ℕ) (host : Host) (old new : World) (status : ℕ) : Type 0 where
   pub statuses : (status ≡ 0) ⊎ ((status ≡ 3) ⊎ (status ≡ 4))
   pub image : status ≡ 0 → IsTrue host.tells → new.holds file ≡ Some (made_image blocks)
@@ -207,7 +207,7 @@ Ends (work clients rounds None) host old new status = WorkEnds clients rounds ho
 Ends (work clients rounds (Some file)) host old new status = SavedWorkEnds clients rounds file host old new status
 Ends (keep clients rounds file every) host old new status = KeptWorkEnds clients rounds host old new status
 Ends decode host old new status = DecodeEnds host old new status
-Ends (make file blocks) host old new status = MakeEnds file blocks host old new status
+Ends (make file blocks replaces) host old new status = MakeEnds file blocks host old new status
 Ends (info file) host old new status = InfoEnds file host old new status
 Ends (dump file lba count) host old new status = DumpEnds file lba count host old new status
 Ends (fill file lba count byte) host old new status = FillEnds file lba count byte host old new status

@@ -9,17 +9,26 @@ use std::io::{ErrorKind, Write};
 /// How many bytes of a line are kept, to find what to say of it.
 const LINE_BYTES: usize = 64;
 
-/// Standard output. It notes that whoever read it is gone.
+/// Standard output. It notes that whoever read it is gone, and why it couldn't be written.
 #[derive(Drop)]
 pub struct Output<'a, W: Write> {
     writer: W,
     is_unread: &'a Cell<bool>,
+    failure: &'a Cell<Option<ErrorKind>>,
 }
 
 impl<'a, W: Write> Output<'a, W> {
-    /// The output of a writer, noted in a cell.
-    pub fn new(writer: W, is_unread: &'a Cell<bool>) -> Output<'a, W> {
-        Output { writer, is_unread }
+    /// The output of a writer, noted in two cells.
+    pub fn new(
+        writer: W,
+        is_unread: &'a Cell<bool>,
+        failure: &'a Cell<Option<ErrorKind>>,
+    ) -> Output<'a, W> {
+        Output {
+            writer,
+            is_unread,
+            failure,
+        }
     }
 
     fn write_whole(&mut self, bytes: &[u8]) -> io::Result<()> {
@@ -46,6 +55,7 @@ impl<W: Write> Sink for Output<'_, W> {
                 if error.kind() == ErrorKind::BrokenPipe {
                     self.is_unread.set(true);
                 }
+                self.failure.set(Some(error.kind()));
                 Err(StreamFault::File)
             }
         }

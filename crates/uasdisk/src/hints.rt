@@ -1,13 +1,16 @@
 //! What a person reads below the line of a fault, where standard error is a terminal: what it means and what to do.
 
-use std::io::Write;
+use crate::host::Failure;
+use crate::script_hints;
+use std::io;
+use std::io::{ErrorKind, Write};
 use uas_replay::WORDS_REFUSED;
 
 /// How a fault's line ends or what it is, and what to say of it.
 const HINTS: [(&[u8], &str); 13] = [
     (
         b": unknown word",
-        "a line is a client's number and a word, or a step: 'uasdisk replay --help' has them; a line ends in a line feed alone, so in a file from Windows the carriage return belongs to the last word",
+        "a line is a client's number and a word, or a step: 'uasdisk replay --help' has them",
     ),
     (
         b": wrong number of words",
@@ -24,7 +27,7 @@ const HINTS: [(&[u8], &str); 13] = [
     (b"script too long", "a script has at most 1048576 bytes"),
     (
         b"script: file",
-        "standard input can't be read, or standard output can't be written: is it open, and is there room?",
+        "standard input can't be read, or standard output is closed",
     ),
     (
         b"image: file",
@@ -40,7 +43,7 @@ const HINTS: [(&[u8], &str); 13] = [
     ),
     (
         b"decode: file",
-        "standard input can't be read, or standard output can't be written: is it open, and is there room?",
+        "standard input can't be read, or standard output is closed",
     ),
     (b"no memory", "the machine gave no memory for it"),
     (
@@ -53,37 +56,72 @@ const HINTS: [(&[u8], &str); 13] = [
     ),
 ];
 
-/// Says it to whoever watches, where there is something to say of a run of these words that ended with this status and this line. Of an
-/// output that nobody reads any more there is nothing to say.
-pub fn say_hint<W: Write>(
-    words: &[String],
-    status: u8,
-    line: &[u8],
-    is_watched: bool,
-    is_unread: bool,
-    faults: &mut W,
-) {
-    if !is_watched || is_unread {
-        return;
-    }
-    if let Some(hint) = hint(words, status, line) {
-        // a fault of standard error changes nothing
-        let _ = writeln!(faults, "  {hint}");
-    }
+/// What is known of a run that ended: its words, its status, the front of the last line that it told of faults, the script as far as it
+/// was read, and why a file or standard output failed.
+#[derive(Drop)]
+pub struct Ended<'a> {
+    pub words: &'a [String],
+    pub status: u8,
+    pub line: &'a [u8],
+    pub script: &'a [u8],
+    pub file: Option<Failure>,
+    pub output: Option<ErrorKind>,
 }
 
-fn hint(words: &[String], status: u8, line: &[u8]) -> Option<&'static str> {
-    if status == WORDS_REFUSED {
-        return is_script_named(words).then(
-            || "a script comes on standard input, as in: uasdisk replay 1 100 < FILE",
-        );
+/// Says what a person needs to know of a run that ended with a fault, where there is something to say.
+pub fn say_hint<W: Write>(ended: &Ended<'_>, faults: &mut W) {
+    // a fault of standard error changes nothing
+    let _ = said(ended, faults);
+}
+
+fn said<W: Write>(ended: &Ended<'_>, faults: &mut W) -> io::Result<()> {
+    let line = ended.line;
+    if ended.status == WORDS_REFUSED {
+        if is_script_named(ended.words) {
+            writeln!(
+                faults,
+                "  a script comes on standard input, as in: uasdisk replay 1 100 < FILE",
+            )?;
+        }
+        return Ok(());
+    }
+    if line.ends_with(b": file") {
+        if let Some(kind) = ended.output {
+            return writeln!(faults, "  standard output: {}", reason(kind));
+        }
+        if let Some(Failure { word, kind }) = ended.file {
+            let name = ended
+                .words
+                .get(word)
+                .map_or("the file", |name| name.as_str());
+            return writeln!(faults, "  {name}: {}", reason(kind));
+        }
+    }
+    if script_hints::say(ended.script, line, faults)? {
+        return Ok(());
     }
     for (end, hint) in HINTS {
         if line.ends_with(end) {
-            return Some(hint);
+            return writeln!(faults, "  {hint}");
         }
     }
-    None
+    Ok(())
+}
+
+/// Why a file can't be opened, read or written, as the system says it.
+fn reason(kind: ErrorKind) -> &'static str {
+    match kind {
+        ErrorKind::NotFound => "No such file or directory",
+        ErrorKind::PermissionDenied => "Permission denied",
+        ErrorKind::IsADirectory => "Is a directory",
+        ErrorKind::NotADirectory => "Not a directory",
+        ErrorKind::AlreadyExists => "it is there already; with --force it is written over",
+        ErrorKind::StorageFull => "No space left on device",
+        ErrorKind::ReadOnlyFilesystem => "Read-only file system",
+        ErrorKind::InvalidFilename => "File name too long",
+        ErrorKind::BrokenPipe => "nobody reads it any more",
+        _ => "it can't be opened, read or written",
+    }
 }
 
 /// Whether the words of a script's run end with one that is no number: the name of a file, mostly.

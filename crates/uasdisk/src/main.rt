@@ -6,7 +6,7 @@
 //!                                                        the same, and prints each step with the bytes that it wrote
 //! uasdisk work CLIENTS ROUNDS [LOG [--sync N]]           lets clients write and read in threads, and counts what they read
 //! uasdisk decode [--color WHEN] < lines                  tells what lines of bytes say
-//! uasdisk make FILE BLOCKS                               makes an image of zeroed blocks
+//! uasdisk make FILE BLOCKS [--force]                     makes an image of zeroed blocks; no file that is there, unless it is forced
 //! uasdisk info FILE                                      tells how many blocks an image has
 //! uasdisk dump FILE LBA COUNT                            prints blocks of an image, by one READ
 //! uasdisk fill FILE LBA COUNT BYTE                       fills blocks of an image with a byte, by one WRITE
@@ -36,20 +36,24 @@
 
 mod edges;
 mod hints;
+mod host;
 mod kept;
 mod program;
+mod script_hints;
 
 ghost use Rattle.std.specs.Prelude.{◌≡◌, ◌≢◌, ◌⊎◌, [], IfSome, map};
 ghost use Rattle.std.specs.String.{string_bytes};
 ghost use Rattle.uas_words.specs.CommandLine.{asked_for, refusals, MayEndRun, EndsRefused};
 ghost use Rattle.uasdisk.specs.Ends.{HoldsOfOne};
 
-use byte_io::{HostFiles, Reader};
+use byte_io::Reader;
 use edges::{Faults, Output};
-use hints::say_hint;
+use hints::{Ended, say_hint};
+use host::MachineFiles;
 use kept::HostKeptFiles;
 use line_colours::{Painted, are_coloured};
 use program::run_words;
+use script_hints::Kept;
 use std::cell::Cell;
 use std::io::{IsTerminal, Write};
 use std::process::ExitCode;
@@ -83,6 +87,7 @@ fn start<R: Threads + Wait + Clock + Sync>(rt: &HostRuntime, threads: &R, words:
         ⊎ HoldsOfOne (λ kind. EndsRefused kind result) (refusals (map string_bytes words.now)) }
 {
     let is_unread = Cell::new(false);
+    let (file, written) = (Cell::new(None), Cell::new(None));
     let is_watched = rt.stderr().is_terminal();
     let mut faults = Faults::new(rt.stderr(), &is_unread);
     // A file that is opened takes the place of a standard output that is closed, and would get its text.
@@ -90,28 +95,31 @@ fn start<R: Threads + Wait + Clock + Sync>(rt: &HostRuntime, threads: &R, words:
     let is_coloured = are_coloured(words, rt.stdout().is_terminal());
     let mut output = is_output_open.then(|| Painted::new(
         rt.alloc(),
-        Output::new(rt.stdout(), &is_unread),
+        Output::new(rt.stdout(), &is_unread, &written),
         is_coloured,
     ));
+    let mut input = Kept::new(rt.alloc(), Reader(rt.reader()), is_watched);
     let status = run_words(
         threads,
         rt.alloc(),
         words,
-        &mut HostFiles(rt),
+        &mut MachineFiles::new(rt, words, &file),
         &mut HostKeptFiles { rt, is_watched },
-        &mut Reader(rt.reader()),
+        &mut input,
         &mut output,
         &mut faults,
         is_watched,
     );
-    let line = faults.last_line();
-    say_hint(
-        words,
-        status,
-        line,
-        is_watched,
-        is_unread.get(),
-        &mut rt.stderr(),
-    );
+    if is_watched && !is_unread.get() {
+        let ended = Ended {
+            words,
+            status,
+            line: faults.last_line(),
+            script: input.text(),
+            file: file.get(),
+            output: written.get(),
+        };
+        say_hint(&ended, &mut rt.stderr());
+    }
     status
 }

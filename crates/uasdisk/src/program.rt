@@ -10,8 +10,9 @@ ghost use Rattle.clap.specs.Words.{kind_of};
 ghost use Rattle.uas_words.specs.CommandLine.{asked_for, refusals};
 ghost use Rattle.uasdisk.specs.Ends.{Ends, RefusalEnds, HoldsOfOne};
 
+use crate::host::Keeping;
 use audit_run::run_audit;
-use byte_io::{Files, Sink, Source};
+use byte_io::{Sink, Source};
 use capture_run::run_capture;
 use clap::Error;
 use clap::error::ErrorKind;
@@ -34,7 +35,7 @@ use work_run::{Kept, Load, run_kept_work, run_saved_work, run_work};
 #[tactic(auto, unfolding(uas_words::specs::CommandLine::refusals, uas_words::specs::CommandLine::asked_for))]
 pub fn run_words<
     R: Threads + Wait + Clock + Sync,
-    F: Files,
+    F: Keeping,
     K: KeptFiles,
     S: Source,
     O: Sink,
@@ -121,15 +122,24 @@ pub fn run_words<
             may_show_progress,
         ),
         Ok(Run::Decode) => run_decode(alloc, input, output, faults),
-        Ok(Run::Make { file, blocks }) => run_make(
-            alloc,
-            blocks,
-            files,
-            file,
-            output,
-            faults,
-            may_show_progress,
-        ),
+        Ok(
+            Run::Make {
+                file,
+                blocks,
+                replaces,
+            },
+        ) => {
+            files.keep(!replaces);
+            run_make(
+                alloc,
+                blocks,
+                files,
+                file,
+                output,
+                faults,
+                may_show_progress,
+            )
+        }
         Ok(Run::Info { file }) => run_info(alloc, &mut files.open(file), output, faults),
         Ok(Run::Dump { file, extent }) => {
             run_dump(alloc, extent, &mut files.open(file), output, faults)

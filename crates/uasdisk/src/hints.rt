@@ -4,7 +4,7 @@ use crate::host::Failure;
 use crate::script_hints;
 use std::io;
 use std::io::{ErrorKind, Write};
-use uas_replay::WORDS_REFUSED;
+use uas_replay::{FAULT, WORDS_REFUSED};
 
 /// How a fault's line ends or what it is, and what to say of it.
 const HINTS: [(&[u8], &str); 13] = [
@@ -85,7 +85,7 @@ fn said<W: Write>(ended: &Ended<'_>, faults: &mut W) -> io::Result<()> {
         }
         return Ok(());
     }
-    if line.ends_with(b": file") {
+    if ended.status == FAULT {
         if let Some(kind) = ended.output {
             return writeln!(faults, "  standard output: {}", reason(kind));
         }
@@ -133,5 +133,5 @@ fn is_script_named(words: &[String]) -> bool {
         return false;
     };
     let is_script = run.as_str() == "replay" || run.as_str() == "trace";
-    is_script && words.len() > 4 && !last.as_bytes().iter().all(|byte| byte.is_ascii_digit())
+    is_script && words.len() == 5 && !last.as_bytes().iter().all(|byte| byte.is_ascii_digit())
 }

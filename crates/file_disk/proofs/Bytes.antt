@@ -4,8 +4,8 @@ use Rattle.std.specs.Prelude.{OnOk}
 use borrow.Rule.Slice.PartMut.{put_mid}
 use Rattle.std.proofs.lemmas.List.{drop-drop, drop-take, drop-append-le, length-append, length-drop, length-take-le, take-append-drop, take-take, take_at}
 use Rattle.std.proofs.Math.Seq.{drop-append-add}
-use Rattle.image_file.specs.Written.{written_over}
-use Rattle.image_file.proofs.Parts.{take-part}
+use Rattle.file_disk.specs.Written.{written_over}
+use Rattle.file_disk.proofs.Parts.{take-part}
 use Rattle.file_disk.specs.Pieces.{IsPiece}
 
 -- the place of a byte, by its block

@@ -1,3 +1,4 @@
+pub mod Parts
 pub mod Answered
 pub mod Begun
 pub mod Bytes

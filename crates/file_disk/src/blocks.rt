@@ -1,7 +1,7 @@
 //! Files that are read and written by position.
 
 ghost use Rattle.std.specs.Prelude.{◌≡◌, ℕ, ◌+◌, ◌≤◌, List, Bool, length, take, drop, true, false, IsTrue, OnOk, OnErr};
-ghost use Rattle.image_file.specs.Written.{written_over};
+ghost use Rattle.file_disk.specs.Written.{written_over};
 
 use byte_io::StreamFault;
 
@@ -76,7 +76,7 @@ impl Blocks for BlocksHeld {
         Ok(())
     }
 
-    #[tactic(auto, unfolding(image_file::specs::Written::written_over))]
+    #[tactic(auto, unfolding(crate::specs::Written::written_over))]
     fn write_at(&mut self, offset: u64, bytes: &[u8]) -> Result<(), StreamFault> {
         let start = offset as usize;
         self.held[start..start + bytes.len()].copy_from_slice(bytes);

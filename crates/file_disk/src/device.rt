@@ -3,7 +3,7 @@
 ghost use Rattle.std.specs.Prelude.{◌≡◌, ◌+◌, ◌*◌, ◌^◌, ◌<◌, ◌≤◌, Some, None, length, take, drop, IsTrue, IfOk, OnOk, OnErr, false};
 ghost use Rattle.device_server.specs.declared.Answer.{Answer};
 ghost use Rattle.device_server.specs.declared.Answer.TheVariants.{Good, Check};
-ghost use Rattle.image_file.specs.Written.{written_over};
+ghost use Rattle.file_disk.specs.Written.{written_over};
 ghost use Rattle.scsi_cmd.specs.Sense.{unrecovered_read_error, write_error};
 ghost use Rattle.uas_tasks.specs.Machine.{wanted};
 ghost use Rattle.uas_tasks.specs.declared.JobKind.TheVariants.{Reads, Writes, Synchronizes};

@@ -1,7 +1,7 @@
 //! The disk: reads, writes and flushes of any bytes.
 
 ghost use Rattle.std.specs.Prelude.{◌≡◌, ◌+◌, ◌*◌, ◌/◌, ◌%◌, ◌^◌, ◌<◌, ◌≤◌, length, take, drop, IsTrue, IfOk, OnOk, OnErr};
-ghost use Rattle.image_file.specs.Written.{written_over};
+ghost use Rattle.file_disk.specs.Written.{written_over};
 ghost use Rattle.file_disk.specs.Device.{IsReady};
 ghost use Rattle.file_disk.specs.Pieces.{IsPiece};
 

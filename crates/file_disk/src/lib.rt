@@ -11,7 +11,7 @@
 //! What is promised: a read that is done brings what the file holds there, a write that is done changes the file exactly there, and what
 //! the file holds is safe once a flush is done. None of them fails where the file can't fail.
 //!
-//! It stands on `uas_tasks` for the device, on `uas_iu` and `host_commands` for the commands, and on the words of `image_file`.
+//! It stands on `uas_tasks` for the device, and on `uas_iu` and `host_commands` for the commands.
 #![tactic(auto)]
 
 mod blocks;

@@ -1,8 +1,5 @@
 mod Answering
 mod Asking
-mod Faults
 mod Handshakes
-mod Served
-mod Serving
-pub mod Talking
-pub mod Transcripts
+mod Talking
+mod Transcripts

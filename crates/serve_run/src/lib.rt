@@ -1,24 +1,24 @@
-//! The run `serve`: an image as a disk for any client of NBD, over a reader and a writer.
+//! The run `serve`: a file of any length as a disk for any client of NBD, over a reader and a writer.
 //!
-//! [`run_serve`] reads an image, greets the client, answers its options, and then its requests in their order ([`serve_client`], [`transmit`]),
-//! each by a [`Server`](disk_server::Server) of the image's unit. What is refused, and as what, is specs/Serves.antt; the bytes of the
-//! handshake are specs/Handshake.antt; what a request is told, and what all of them make of the server, is specs/Transcript.antt; the bytes
-//! that a session reads and writes are specs/Sessions.antt.
+//! [`run_serve`] greets the client, answers its options, and then its requests in their order ([`transmit`]), each by a
+//! [`FileDisk`](file_disk::FileDisk) over the file, of which nothing is read into memory but what a request names.
 //!
-//! The parts of a session that say nothing of that server ([`shake`], [`read_request`], [`refuse`] and their like) serve other disks too.
+//! What a request is refused for is specs/Serves.antt, the bytes of the handshake specs/Handshake.antt. What a request is told, and what the
+//! file is then, is specs/Filed.antt: a READ that is done is given what the file holds there, a WRITE that is done changes the file just
+//! there, and a FLUSH, or a WRITE with FUA, makes safe what it holds. EIO is told only where the file can fail. The bytes that a session
+//! reads and writes are specs/Sessions.antt. With status 0 what the file holds in the end is safe; where the file can't fail, that is so
+//! whatever ends the session.
 //!
-//! It stands on the messages of `nbd`, on the server of a disk, on images by position, and on readers and writers.
+//! It stands on the disk over a file, on the messages of `nbd`, and on readers and writers.
 #![tactic(auto)]
 
 mod fault;
 mod handshake;
 mod link;
-mod requests;
+mod messages;
 mod serve;
 mod transmission;
 
 pub use fault::ServeFault;
-pub use handshake::shake;
-pub use requests::{read_data, send_part};
-pub use serve::{run_serve, serve_client};
-pub use transmission::{FUA, read_request, refusal_of, refuse, tell, transmit};
+pub use serve::run_serve;
+pub use transmission::{serve_request, transmit};

@@ -1,188 +1,155 @@
-//! The run `serve`.
+//! The run `serve`. What a session reads and writes, and what it makes of the file, is specs/Sessions.antt.
 
-ghost use Rattle.std.specs.Prelude.{◌≡◌, ◌⊎◌, Some, None, Ok, IsTrue, IsOk, IsErr, IsSome, IfErr, IfOk, IfSome, OnOk, option_to_list};
+ghost use Rattle.std.specs.Prelude.{◌≡◌, ◌*◌, ◌^◌, ◌<◌, ◌≤◌, ◌⊎◌, false, length, IsTrue, IsOk, IsErr, IsSome, IfOk, IfSome, OnOk};
 ghost use Rattle.std.specs.Io.KnownBytes.{Keeps};
-ghost use Rattle.block_unit.specs.BlockMaps.{imaged};
-ghost use Rattle.disk_image.specs.Images.{blocks_in};
-ghost use Rattle.disk_server.specs.Serving.{IsBehind, medium_of};
-ghost use Rattle.serve_run.specs.Serves.{status_of};
-ghost use Rattle.serve_run.specs.Sessions.{Broken, Finished, Flushed, Served, begun};
+ghost use Rattle.serve_run.specs.Filed.{filed};
+ghost use Rattle.serve_run.specs.Sessions.{Served, Talked};
+ghost use Rattle.serve_run.specs.Sizes.{blocks_in};
 
 use crate::fault::ServeFault;
 use crate::handshake::shake;
 use crate::transmission::transmit;
-use block_unit::Unit;
+use block_unit::ImageFault;
 use byte_io::{Sink, Source};
-use disk_image::{blocks_in, read_image};
-use disk_server::Server;
-use image_file::Image;
-use nbd::ErrorNumber;
+use file_disk::{Blocks, DiskFault, FileDisk};
 use std::alloc::{AllocError, Global};
 use std::io::Write;
 use uas_replay::{DONE, RunFault};
 
-/// The run `serve`: reads an image from `file`, and serves it as a disk over `input` and `output`, with a bad block where one is
-/// named; `image` is the same file, written by position. Nothing is written to the client before the image was read without a
-/// fault. When the client leaves, or the transmission ends by a fault, what was written is flushed. It answers the exit status: 3 at a
-/// fault of the image, of its file, of the client's messages or of the streams, 4 for want of memory, else 0.
-pub fn run_serve<R: Source, I: Image, S: Source, O: Sink, W: Write>(
+/// The bytes of a block.
+const BLOCK_BYTES: u64 = 512;
+
+/// The most blocks of a disk.
+const MOST_BLOCKS: u64 = 1 << 48;
+
+const _: () = prove!(MOST_BLOCKS == 281_474_976_710_656);
+
+/// The run `serve`: serves `file`, which is there, as a disk over `input` and `output`. Nothing is written to the client before
+/// the file's length was found to be 1 to 2^48 whole blocks. When the client leaves, or a fault ends the session, what was written
+/// is flushed. It answers the exit status: 3 at a fault of the file, of its length, of the client's messages or of the streams,
+/// 4 for want of memory, else 0.
+pub fn run_serve<B: Blocks, S: Source, O: Sink, W: Write>(
     alloc: Global,
-    bad: Option<u32>,
-    file: &mut R,
-    image: &mut Option<I>,
+    file: &mut Option<B>,
     input: &mut S,
     output: &mut O,
     faults: &mut W,
 ) -> u8
-    requires { IfSome image.old (λ held. IsTrue (I.tells held) → R.left file.old ≡ Some (I.holds held)) }
     ensures statuses { (result ≡ 0) ⊎ ((result ≡ 3) ⊎ (result ≡ 4)) }
-    ensures image { result ≡ 0 → IfSome (R.left file.old) (λ bytes. IsOk (blocks_in bytes)) }
-    ensures there { result ≡ 0 → IsTrue (R.is_there file.old) }
-    // Of a file that is no image not a byte is written to the client.
-    ensures refused { IfSome (R.left file.old) (λ bytes. IsErr (blocks_in bytes) → Keeps (O.written output.old) (O.written output.new)) }
-    // Behind the handshake each request is answered as the server is by then, from the unit of the image on, and the file holds the
-    // medium that the last one left.
-    ensures served { result ≡ 0 → IfSome (R.left file.old) (λ bytes. IfSome image.old (λ held. IfSome image.new (λ kept.
-        Served (I.can_fail held) (imaged bytes (option_to_list bad)) (I.tells held) (I.holds kept)
-        (S.left input.old) (S.left input.new) (O.written output.old) (O.written output.new)))) }
-    ensures open { result ≡ 0 → IsSome image.old }
-    ensures kept { result ≡ 0 → IsSome image.new }
-    // At a fault the file is as it was, or it holds what the requests before the fault left, flushed.
-    ensures broken { result ≡ 3 → IfSome (R.left file.old) (λ bytes. IfSome image.old (λ held. IfSome image.new (λ kept.
-        (I.holds kept ≡ I.holds held) ⊎ Broken (I.can_fail held) (imaged bytes (option_to_list bad)) (I.tells held) (I.holds kept)
-        (S.left input.old) (O.written output.old)))) }
+    ensures there { result ≡ 0 → IsSome file.old }
+    ensures whole { result ≡ 0 → IfSome file.old (λ was. IsTrue (B.tells was) → IsOk (blocks_in (length (B.holds was)))) }
+    // To the client of a file whose length is refused not a byte is written.
+    ensures refused { IfSome file.old (λ was.
+        IsTrue (B.tells was) → IsErr (blocks_in (length (B.holds was))) → Keeps (O.written output.old) (O.written output.new)) }
+    // What the file holds in the end is safe.
+    ensures safe { result ≡ 0 → IfSome file.new (λ kept. IsTrue (B.tells kept) → B.synced kept ≡ B.holds kept) }
+    ensures kept { IsSome file.old → IsSome file.new }
+    // What the client asked was answered by the file, and what it was told is just that.
+    ensures served { result ≡ 0 → IfSome file.old (λ was. IfSome file.new (λ kept. Served (B.can_fail was) (B.tells was)
+        (filed (B.holds was) (B.synced was)) (filed (B.holds kept) (B.synced kept))
+        (S.left input.old) (S.left input.new) (O.written output.old) (O.written output.new))) }
+    // Whatever ends the session, what a file holds that can't fail is safe in the end, or the file is as it was.
+    ensures rescued { IfSome file.old (λ was. IfSome file.new (λ kept.
+        IsTrue (B.tells was) → B.can_fail was ≡ false → (B.synced kept ≡ B.holds kept) ⊎ (kept ≡ was))) }
 {
-    match serve(alloc, bad, file, image, input, output) {
+    match serve(alloc, file, input, output) {
         Ok(()) => DONE,
         Err(fault) => fault.tell(faults),
     }
 }
 
-fn serve<R: Source, I: Image, S: Source, O: Sink>(
+fn serve<B: Blocks, S: Source, O: Sink>(
     alloc: Global,
-    bad: Option<u32>,
-    file: &mut R,
-    image: &mut Option<I>,
+    file: &mut Option<B>,
     input: &mut S,
     output: &mut O,
 ) -> Result<(), ServeFault>
-    requires { IfSome image.old (λ held. IsTrue (I.tells held) → R.left file.old ≡ Some (I.holds held)) }
-    ensures image { OnOk result (IfSome (R.left file.old) (λ bytes. IsOk (blocks_in bytes))) }
-    ensures there { OnOk result (IsTrue (R.is_there file.old)) }
-    ensures refused { IfSome (R.left file.old) (λ bytes. IsErr (blocks_in bytes) → Keeps (O.written output.old) (O.written output.new)) }
-    ensures served { OnOk result (IfSome (R.left file.old) (λ bytes. IfSome image.old (λ held. IfSome image.new (λ kept.
-        Served (I.can_fail held) (imaged bytes (option_to_list bad)) (I.tells held) (I.holds kept)
-        (S.left input.old) (S.left input.new) (O.written output.old) (O.written output.new))))) }
-    ensures open { OnOk result (IsSome image.old) }
-    ensures kept { OnOk result (IsSome image.new) }
-    ensures broken { IfErr result (λ fault. status_of fault ≡ 3 →
-        IfSome (R.left file.old) (λ bytes. IfSome image.old (λ held. IfSome image.new (λ kept.
-        (I.holds kept ≡ I.holds held) ⊎ Broken (I.can_fail held) (imaged bytes (option_to_list bad)) (I.tells held) (I.holds kept)
-        (S.left input.old) (O.written output.old))))) }
+    ensures there { OnOk result (IsSome file.old) }
+    ensures whole { OnOk result (IfSome file.old (λ was. IsTrue (B.tells was) → IsOk (blocks_in (length (B.holds was))))) }
+    ensures refused { IfSome file.old (λ was.
+        IsTrue (B.tells was) → IsErr (blocks_in (length (B.holds was))) → Keeps (O.written output.old) (O.written output.new)) }
+    ensures safe { OnOk result (IfSome file.new (λ kept. IsTrue (B.tells kept) → B.synced kept ≡ B.holds kept)) }
+    ensures kept { IsSome file.old → IsSome file.new }
+    ensures served { OnOk result (IfSome file.old (λ was. IfSome file.new (λ kept. Served (B.can_fail was) (B.tells was)
+        (filed (B.holds was) (B.synced was)) (filed (B.holds kept) (B.synced kept))
+        (S.left input.old) (S.left input.new) (O.written output.old) (O.written output.new)))) }
+    ensures rescued { IfSome file.old (λ was. IfSome file.new (λ kept.
+        IsTrue (B.tells was) → B.can_fail was ≡ false → (B.synced kept ≡ B.holds kept) ⊎ (kept ≡ was))) }
 {
-    let unit = match read_disk(alloc, bad, file) {
-        Ok(unit) => unit,
-        Err(fault) => return Err(ServeFault::Run(fault)),
+    let Some(file) = file else {
+        return Err(ServeFault::Run(RunFault::ImageFile));
     };
-    match image {
-        Some(image) => serve_unit(alloc, unit, image, input, output),
-        None => Err(ServeFault::Run(RunFault::ImageFile)),
+    let blocks = match blocks_in(file.size()) {
+        Ok(blocks) => blocks,
+        Err(fault) => return Err(ServeFault::Run(RunFault::Image(fault))),
+    };
+    let Ok(mut disk) = FileDisk::new(alloc, blocks) else {
+        return Err(ServeFault::Run(RunFault::NoMemory));
+    };
+    serve_client(alloc, &mut disk, file, input, output)
+}
+
+/// Serves a client until it leaves, or a fault ends that, and flushes.
+fn serve_client<B: Blocks, S: Source, O: Sink>(
+    alloc: Global,
+    disk: &mut FileDisk,
+    file: &mut B,
+    input: &mut S,
+    output: &mut O,
+) -> Result<(), ServeFault>
+    requires { IsTrue (B.tells file.old) → length (B.holds file.old) ≡ 512 * disk.old }
+    ensures safe { OnOk result (IsTrue (B.tells file.new) → B.synced file.new ≡ B.holds file.new) }
+    ensures served { OnOk result (Served (B.can_fail file.old) (B.tells file.old)
+        (filed (B.holds file.old) (B.synced file.old)) (filed (B.holds file.new) (B.synced file.new))
+        (S.left input.old) (S.left input.new) (O.written output.old) (O.written output.new)) }
+    ensures rescued { IsTrue (B.tells file.old) → B.can_fail file.old ≡ false → B.synced file.new ≡ B.holds file.new }
+{
+    let served = talk(alloc, disk, file, input, output);
+    let flushed = disk.flush(file);
+    served?;
+    match flushed {
+        Ok(()) => Ok(()),
+        Err(DiskFault) => Err(ServeFault::Run(RunFault::ImageFile)),
     }
 }
 
-/// Serves a unit.
-fn serve_unit<I: Image, S: Source, O: Sink>(
+/// Greets a client and answers its requests until it leaves.
+fn talk<B: Blocks, S: Source, O: Sink>(
     alloc: Global,
-    unit: Unit,
-    image: &mut I,
+    disk: &mut FileDisk,
+    file: &mut B,
     input: &mut S,
     output: &mut O,
 ) -> Result<(), ServeFault>
-    requires { IsTrue (I.tells image.old) → I.holds image.old ≡ unit.medium }
-    ensures served { OnOk result (Served (I.can_fail image.old) unit (I.tells image.old) (I.holds image.new)
+    requires { IsTrue (B.tells file.old) → length (B.holds file.old) ≡ 512 * disk.old }
+    ensures talked { OnOk result (Talked (B.can_fail file.old) (B.tells file.old) (512 * disk.old)
+        (filed (B.holds file.old) (B.synced file.old)) (filed (B.holds file.new) (B.synced file.new))
         (S.left input.old) (S.left input.new) (O.written output.old) (O.written output.new)) }
-    ensures broken { IfErr result (λ fault. status_of fault ≡ 3 → (I.holds image.new ≡ I.holds image.old)
-        ⊎ Broken (I.can_fail image.old) unit (I.tells image.old) (I.holds image.new) (S.left input.old) (O.written output.old)) }
+    ensures told { B.tells file.new ≡ B.tells file.old }
+    ensures same { B.can_fail file.new ≡ B.can_fail file.old }
 {
-    let mut server = begin(alloc, unit)?;
-    if !shake(input, output, server.size())? {
+    if !shake(input, output, disk.size())? {
         return Ok(());
     }
-    serve_client(alloc, &mut server, image, input, output)
-}
-
-/// A session behind its handshake: answers a client's requests until it leaves or a fault ends that, and flushes. The server is then as what it
-/// has done and the flush left it; the file holds the medium, or the flush was told EIO.
-pub fn serve_client<I: Image, S: Source, O: Sink>(
-    alloc: Global,
-    server: &mut Server,
-    image: &mut I,
-    input: &mut S,
-    output: &mut O,
-) -> Result<(), ServeFault>
-    requires { IsBehind (I.tells image.old) (I.holds image.old) server.old }
-    ensures finished { OnOk result (Finished (I.can_fail image.old) server.old server.new
-        (S.left input.old) (S.left input.new) (O.written output.old) (O.written output.new)) }
-    ensures held { OnOk result (IsTrue (I.tells image.old) → I.holds image.new ≡ medium_of server.new.machine) }
-    ensures flushed { IfErr result (λ fault. status_of fault ≡ 3 → Flushed (I.can_fail image.old) (I.tells image.old) (I.holds image.new)
-        server.old server.new (S.left input.old) (O.written output.old)) }
-{
-    match transmit_and_flush(alloc, server, image, input, output) {
+    match transmit(alloc, disk, file, input, output) {
         Ok(None) => Ok(()),
         Ok(Some(fault)) => Err(fault),
-        Err(_) => Err(ServeFault::Run(RunFault::NoMemory)),
+        Err(AllocError) => Err(ServeFault::Run(RunFault::NoMemory)),
     }
 }
 
-/// The server of a unit, whose medium the file has.
-fn begin(alloc: Global, unit: Unit) -> Result<Server, ServeFault>
-    ensures begun { IfOk result (λ server. server ≡ begun unit) }
-    ensures saved { IfOk result (λ server. server.saved ≡ unit.medium) }
+/// How many blocks a file of so many bytes has: at least one, whole ones, and at most 2^48.
+fn blocks_in(size: u64) -> Result<u64, ImageFault>
+    ensures blocks { result ≡ blocks_in size }
+    ensures whole { IfOk result (λ blocks. 512 * blocks ≡ size) }
+    ensures some { IfOk result (λ blocks. 1 ≤ blocks) }
+    ensures most { IfOk result (λ blocks. blocks ≤ 2 ^ 48) }
 {
-    match Server::new(alloc, unit) {
-        Ok(server) => Ok(server),
-        Err(_) => Err(ServeFault::Run(RunFault::NoMemory)),
+    if size / BLOCK_BYTES > MOST_BLOCKS {
+        return Err(ImageFault::TooLarge);
     }
-}
-
-/// Answers requests until the client leaves or a fault ends that, and then flushes: why this gave up, if it did.
-fn transmit_and_flush<I: Image, S: Source, O: Sink>(
-    alloc: Global,
-    server: &mut Server,
-    image: &mut I,
-    input: &mut S,
-    output: &mut O,
-) -> Result<Option<ServeFault>, AllocError>
-    requires { IsBehind (I.tells image.old) (I.holds image.old) server.old }
-    ensures held { result ≡ Ok None → IsTrue (I.tells image.old) → I.holds image.new ≡ medium_of server.new.machine }
-    ensures told { OnOk result (I.tells image.new ≡ I.tells image.old) }
-    ensures finished { result ≡ Ok None → Finished (I.can_fail image.old) server.old server.new
-        (S.left input.old) (S.left input.new) (O.written output.old) (O.written output.new) }
-    ensures flushed { OnOk result (Flushed (I.can_fail image.old) (I.tells image.old) (I.holds image.new)
-        server.old server.new (S.left input.old) (O.written output.old)) }
-{
-    let fault = transmit(alloc, server, image, input, output)?;
-    let flushed = server.flush(image)?;
-    if flushed != ErrorNumber::None && fault.is_none() {
-        return Ok(Some(ServeFault::Run(RunFault::ImageFile)));
+    if size == 0 || size % BLOCK_BYTES != 0 {
+        return Err(ImageFault::NotWhole);
     }
-    Ok(fault)
-}
-
-/// Reads an image, and makes the unit of it, in which this block is bad where the unit has it.
-#[tactic(auto, unfolding(block_unit::specs::BlockMaps::imaged))]
-fn read_disk<R: Source>(alloc: Global, bad: Option<u32>, file: &mut R) -> Result<Unit, RunFault>
-    ensures unit { IfOk result (λ unit. IfSome (R.left file.old) (λ bytes. unit ≡ imaged bytes (option_to_list bad))) }
-    ensures medium { IfOk result (λ unit. IfSome (R.left file.old) (λ bytes. unit.medium ≡ bytes)) }
-    ensures image { OnOk result (IfSome (R.left file.old) (λ bytes. IsOk (blocks_in bytes))) }
-    ensures there { OnOk result (IsTrue (R.is_there file.old)) }
-{
-    let bytes = read_image(alloc, file)?;
-    let _ = blocks_in(&bytes).map_err(RunFault::Image)?;
-    let mut blocks = Vec::new(alloc);
-    if let Some(block) = bad {
-        blocks.push(block).map_err(|_| RunFault::NoMemory)?;
-    }
-    // its form is tested, so that nothing but memory can be wanting
-    Unit::from_image(alloc, &bytes, blocks).map_err(|_| RunFault::NoMemory)
+    Ok(size / BLOCK_BYTES)
 }

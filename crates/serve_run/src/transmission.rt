@@ -1,70 +1,46 @@
-//! The transmission: requests in their order, each answered before the next one is read.
+//! The transmission: requests in their order, each answered before the next one is read. What each of them is told, and what the file is
+//! then, is specs/Filed.antt; the bytes that are read and written are specs/Sessions.antt.
 
-ghost use Rattle.std.specs.Prelude.{◌≡◌, ◌⊎◌, Bool, true, false, Ok, None, IfOk, IfSome, OnOk};
-ghost use Rattle.std.specs.Io.KnownBytes.{Appends, Consumes};
-ghost use Rattle.nbd.specs.Streams.{Gave};
-ghost use Rattle.nbd.specs.Transmission.{reply_text, request_text};
-ghost use Rattle.disk_server.specs.Answers.{is_done};
-ghost use Rattle.disk_server.specs.Serving.{IsBehind};
-ghost use Rattle.serve_run.specs.Serves.{has_bad_length, is_beyond, is_disconnection, refusal_of};
-ghost use Rattle.serve_run.specs.Sessions.{Answers, Done, Leaves, Transmitted, Untold};
-ghost use Rattle.serve_run.specs.Transcript.{brought_bytes, is_served};
+ghost use Rattle.std.specs.Prelude.{◌≡◌, ◌+◌, ◌*◌, ◌≤◌, false, true, [], length, Ok, None, IsTrue, OnOk, OnErr};
+ghost use Rattle.file_disk.specs.Written.{written_over};
+ghost use Rattle.serve_run.specs.Filed.{filed};
+ghost use Rattle.serve_run.specs.Sessions.{Answers, Replies, Transmitted};
+ghost use Rattle.serve_run.specs.Serves.{is_disconnection, refusal_of};
+ghost use Rattle.serve_run.specs.Transcript.{has_fua};
 
 use crate::fault::ServeFault;
-use crate::handshake::MOST_BYTES;
-use crate::link::{drop_rest, read_message, send};
-use crate::requests::{give, take};
+use crate::messages::{FUA, read_data, read_request, refusal_of, refuse, send_part, tell};
 use byte_io::{Sink, Source};
-use disk_server::Server;
-use image_file::Image;
-use nbd::{Command, ErrorNumber, REQUEST_BYTES, Reply, Request, request_writes_back};
+use file_disk::{Blocks, DiskFault, FileDisk};
+use nbd::{Command, ErrorNumber, REPLY_BYTES, Request};
 use std::alloc::{AllocError, Global};
 
-/// The flag FUA, the one that is offered.
-pub const FUA: u16 = 1;
-
-/// What is kept from one request to the next: room for a write's data, and for a read's reply.
-#[derive(Drop)]
-struct Room {
-    taken: Vec<u8>,
-    given: Vec<u8>,
-}
-
-impl Room {
-    fn new(alloc: Global) -> Room {
-        Room {
-            taken: Vec::new(alloc),
-            given: Vec::new(alloc),
-        }
-    }
-}
-
 /// Reads requests and answers them, each before the next one is read, until the client leaves, or a fault ends that. Where the client
-/// left, its requests and what they brought are what was read, and what was written are the replies, each as the server was by then; at a
-/// fault the server has done what was asked, and told all of it but perhaps the last.
-pub fn transmit<I: Image, S: Source, O: Sink>(
+/// left, its requests and what they brought are what was read, and what was written are the replies, each by the file as it was by then.
+pub fn transmit<B: Blocks, S: Source, O: Sink>(
     alloc: Global,
-    server: &mut Server,
-    image: &mut I,
+    disk: &mut FileDisk,
+    file: &mut B,
     input: &mut S,
     output: &mut O,
 ) -> Result<Option<ServeFault>, AllocError>
-    requires { IsBehind (I.tells image.old) (I.holds image.old) server.old }
-    ensures answered { result ≡ Ok None → Transmitted (I.can_fail image.old) server.old server.new
+    requires { IsTrue (B.tells file.old) → length (B.holds file.old) ≡ 512 * disk.old }
+    ensures answered { result ≡ Ok None → Transmitted (B.can_fail file.old) (B.tells file.old) (512 * disk.old)
+        (filed (B.holds file.old) (B.synced file.old)) (filed (B.holds file.new) (B.synced file.new))
         (S.left input.old) (S.left input.new) (O.written output.old) (O.written output.new) }
-    ensures done { OnOk result (Done (I.can_fail image.old) server.old server.new (S.left input.old) (O.written output.old)) }
-    ensures behind { OnOk result (IsBehind (I.tells image.new) (I.holds image.new) server.new) }
-    ensures told { OnOk result (I.tells image.new ≡ I.tells image.old) }
-    ensures same { OnOk result (I.can_fail image.new ≡ I.can_fail image.old) }
+    ensures disk { disk.new ≡ disk.old }
+    ensures told { B.tells file.new ≡ B.tells file.old }
+    ensures same { B.can_fail file.new ≡ B.can_fail file.old }
+    ensures len { IsTrue (B.tells file.old) → length (B.holds file.new) ≡ length (B.holds file.old) }
 {
-    let mut room = Room::new(alloc);
+    let mut room = Vec::new(alloc);
     for turn in 0..u64::MAX {
         let request = match read_request(input) {
             Ok(Some(request)) => request,
             Ok(None) => return Ok(None),
             Err(fault) => return Ok(Some(fault)),
         };
-        let fault = answer(server, &mut room, image, input, output, &request)?;
+        let fault = serve_request(disk, &mut room, file, input, output, &request)?;
         if fault.is_some() {
             return Ok(fault);
         }
@@ -73,133 +49,162 @@ pub fn transmit<I: Image, S: Source, O: Sink>(
     Ok(Some(ServeFault::Stream))
 }
 
-/// Reads a request of the client; none where it leaves, by the end of its bytes or by a disconnection.
-pub fn read_request<S: Source>(input: &mut S) -> Result<Option<Request>, ServeFault>
-    ensures request { IfOk result (λ found. IfSome found (λ request. Consumes (S.left input.old) (S.left input.new) (request_text request))) }
-    ensures stays { IfOk result (λ found. IfSome found (λ request. is_disconnection request.command ≡ false)) }
-    ensures leaves { result ≡ Ok None → Leaves (S.left input.old) (S.left input.new) }
-{
-    let mut bytes = [0; REQUEST_BYTES];
-    if !read_message(input, &mut bytes)? {
-        return Ok(None);
-    }
-    let request = Request::from_bytes(&bytes).map_err(|_| ServeFault::Request)?;
-    request_writes_back(&bytes);
-    if is_disconnection(request.command) {
-        return Ok(None);
-    }
-    Ok(Some(request))
-}
-
-/// Whether a client leaves by this.
-fn is_disconnection(command: Command) -> bool
-    ensures { result ≡ is_disconnection command }
-{
-    match command {
-        Command::Disconnect => true,
-        Command::Read | Command::Write | Command::Flush | Command::Other(_) => false,
-    }
-}
-
-/// Answers a request that isn't a disconnection.
-fn answer<I: Image, S: Source, O: Sink>(
-    server: &mut Server,
-    room: &mut Room,
-    image: &mut I,
+/// Answers a request that isn't a disconnection: what it brings is read, and its reply is written. `room` holds the data of the request
+/// while it is served.
+pub fn serve_request<B: Blocks, S: Source, O: Sink>(
+    disk: &mut FileDisk,
+    room: &mut Vec<u8>,
+    file: &mut B,
     input: &mut S,
     output: &mut O,
     request: &Request,
 ) -> Result<Option<ServeFault>, AllocError>
-    requires behind { IsBehind (I.tells image.old) (I.holds image.old) server.old }
+    requires file { IsTrue (B.tells file.old) → length (B.holds file.old) ≡ 512 * disk.old }
     requires stays { is_disconnection request.now.command ≡ false }
-    ensures answered { result ≡ Ok None → Answers (I.can_fail image.old) request.now server.old server.new
+    ensures answered { result ≡ Ok None → Answers (B.can_fail file.old) (B.tells file.old) (512 * disk.old)
+        (filed (B.holds file.old) (B.synced file.old)) (filed (B.holds file.new) (B.synced file.new)) request.now
         (S.left input.old) (S.left input.new) (O.written output.old) (O.written output.new) }
-    ensures untold { IfOk result (λ ended. IfSome ended (λ fault.
-        (server.new ≡ server.old) ⊎ Untold (I.can_fail image.old) request.now server.old server.new (S.left input.old))) }
-    ensures behind { OnOk result (IsBehind (I.tells image.new) (I.holds image.new) server.new) }
-    ensures told { OnOk result (I.tells image.new ≡ I.tells image.old) }
-    ensures same { OnOk result (I.can_fail image.new ≡ I.can_fail image.old) }
+    ensures disk { disk.new ≡ disk.old }
+    ensures told { B.tells file.new ≡ B.tells file.old }
+    ensures same { B.can_fail file.new ≡ B.can_fail file.old }
+    ensures len { IsTrue (B.tells file.old) → length (B.holds file.new) ≡ length (B.holds file.old) }
 {
-    let refusal = refusal_of(server.size(), request);
+    let refusal = refusal_of(disk.size(), request);
     if refusal != ErrorNumber::None {
         return Ok(refuse(input, output, request, refusal));
     }
     match request.command {
-        Command::Read => {
-            let fault = give(server, &mut room.given, output, request)?;
-            Ok(fault)
-        }
-        Command::Write => {
-            let fault = take(server, &mut room.taken, image, input, output, request)?;
-            Ok(fault)
-        }
+        Command::Read => give(disk, room, file, output, request),
+        Command::Write => take(disk, room, file, input, output, request),
         Command::Flush | Command::Disconnect | Command::Other(_) => {
-            let error = server.flush(image)?;
-            Ok(tell(output, request.cookie, error))
+            Ok(make_safe(disk, file, output, request))
         }
     }
 }
 
-/// Answers a request that isn't served, for this reason; a WRITE's data are dropped.
-pub fn refuse<S: Source, O: Sink>(
+/// Serves a READ: its bytes stand in `room` behind the place of the reply's head.
+fn give<B: Blocks, O: Sink>(
+    disk: &mut FileDisk,
+    room: &mut Vec<u8>,
+    file: &B,
+    output: &mut O,
+    request: &Request,
+) -> Result<Option<ServeFault>, AllocError>
+    requires served { refusal_of (512 * disk.old) request.now ≡ ErrorNumber.None }
+    requires command { request.now.command ≡ Command.Read }
+    requires fits { request.now.offset + request.now.length ≤ 512 * disk.old }
+    requires file { IsTrue (B.tells file.now) → length (B.holds file.now) ≡ 512 * disk.old }
+    ensures answered { result ≡ Ok None → Replies (B.can_fail file.now) (B.tells file.now) (512 * disk.old)
+        (filed (B.holds file.now) (B.synced file.now)) (filed (B.holds file.now) (B.synced file.now))
+        request.now [] (O.written output.old) (O.written output.new) }
+    ensures disk { disk.new ≡ disk.old }
+{
+    let end = REPLY_BYTES + request.length as usize;
+    if room.len() < end {
+        room.resize(end, 0)?;
+    }
+    Ok(give_part(disk, &mut room[..end], file, output, request))
+}
+
+/// Serves a READ of as many bytes as `part` has behind the place of the reply's head.
+fn give_part<B: Blocks, O: Sink>(
+    disk: &mut FileDisk,
+    part: &mut [u8],
+    file: &B,
+    output: &mut O,
+    request: &Request,
+) -> Option<ServeFault>
+    requires served { refusal_of (512 * disk.old) request.now ≡ ErrorNumber.None }
+    requires command { request.now.command ≡ Command.Read }
+    requires len { length part.old ≡ 16 + request.now.length }
+    requires fits { request.now.offset + request.now.length ≤ 512 * disk.old }
+    requires file { IsTrue (B.tells file.now) → length (B.holds file.now) ≡ 512 * disk.old }
+    ensures answered { result ≡ None → Replies (B.can_fail file.now) (B.tells file.now) (512 * disk.old)
+        (filed (B.holds file.now) (B.synced file.now)) (filed (B.holds file.now) (B.synced file.now))
+        request.now [] (O.written output.old) (O.written output.new) }
+    ensures disk { disk.new ≡ disk.old }
+{
+    match disk.read(file, request.offset, &mut part[REPLY_BYTES..]) {
+        Ok(()) => send_part(output, part, ErrorNumber::None, request.cookie),
+        Err(DiskFault) => tell(output, request.cookie, ErrorNumber::Io),
+    }
+}
+
+/// Reads the data of a WRITE, all of it before anything is written, and serves it.
+fn take<B: Blocks, S: Source, O: Sink>(
+    disk: &mut FileDisk,
+    room: &mut Vec<u8>,
+    file: &mut B,
     input: &mut S,
     output: &mut O,
     request: &Request,
-    refusal: ErrorNumber,
+) -> Result<Option<ServeFault>, AllocError>
+    requires served { refusal_of (512 * disk.old) request.now ≡ ErrorNumber.None }
+    requires command { request.now.command ≡ Command.Write }
+    requires fits { request.now.offset + request.now.length ≤ 512 * disk.old }
+    requires file { IsTrue (B.tells file.old) → length (B.holds file.old) ≡ 512 * disk.old }
+    ensures answered { result ≡ Ok None → Answers (B.can_fail file.old) (B.tells file.old) (512 * disk.old)
+        (filed (B.holds file.old) (B.synced file.old)) (filed (B.holds file.new) (B.synced file.new)) request.now
+        (S.left input.old) (S.left input.new) (O.written output.old) (O.written output.new) }
+    ensures disk { disk.new ≡ disk.old }
+    ensures told { B.tells file.new ≡ B.tells file.old }
+    ensures same { B.can_fail file.new ≡ B.can_fail file.old }
+    ensures len { IsTrue (B.tells file.old) → length (B.holds file.new) ≡ length (B.holds file.old) }
+{
+    if let Some(fault) = read_data(room, input, request)? {
+        return Ok(Some(fault));
+    }
+    let data = &room[..request.length as usize];
+    match store(disk, file, request, data) {
+        Ok(()) => Ok(tell(output, request.cookie, ErrorNumber::None)),
+        Err(DiskFault) => Ok(tell(output, request.cookie, ErrorNumber::Io)),
+    }
+}
+
+/// Writes the data of a WRITE, and makes them safe where it has FUA.
+fn store<B: Blocks>(
+    disk: &mut FileDisk,
+    file: &mut B,
+    request: &Request,
+    bytes: &[u8],
+) -> Result<(), DiskFault>
+    requires fits { request.now.offset + length bytes.now ≤ 512 * disk.old }
+    requires file { IsTrue (B.tells file.old) → length (B.holds file.old) ≡ 512 * disk.old }
+    ensures disk { disk.new ≡ disk.old }
+    ensures bytes { OnOk result (IsTrue (B.tells file.old) → B.holds file.new ≡ written_over (B.holds file.old) request.now.offset bytes.now) }
+    ensures safe { OnOk result (has_fua request.now ≡ true → IsTrue (B.tells file.old) → B.synced file.new ≡ B.holds file.new) }
+    ensures kept { has_fua request.now ≡ false → B.synced file.new ≡ B.synced file.old }
+    ensures fault { OnErr result (IsTrue (B.can_fail file.old)) }
+    ensures told { B.tells file.new ≡ B.tells file.old }
+    ensures same { B.can_fail file.new ≡ B.can_fail file.old }
+    ensures len { IsTrue (B.tells file.old) → length (B.holds file.new) ≡ length (B.holds file.old) }
+{
+    disk.write(file, request.offset, bytes)?;
+    if request.flags.0 == FUA {
+        return disk.flush(file);
+    }
+    Ok(())
+}
+
+/// Serves a FLUSH.
+fn make_safe<B: Blocks, O: Sink>(
+    disk: &mut FileDisk,
+    file: &mut B,
+    output: &mut O,
+    request: &Request,
 ) -> Option<ServeFault>
-    ensures read { result ≡ None → Gave (S.left input.old) (S.left input.new) (brought_bytes request.now request.now.command) }
-    ensures sent { result ≡ None → Appends (O.written output.old) (O.written output.new)
-        (reply_text (record { error = refusal; cookie = request.now.cookie })) }
+    requires served { refusal_of (512 * disk.old) request.now ≡ ErrorNumber.None }
+    requires command { request.now.command ≡ Command.Flush }
+    ensures answered { result ≡ None → Replies (B.can_fail file.old) (B.tells file.old) (512 * disk.old)
+        (filed (B.holds file.old) (B.synced file.old)) (filed (B.holds file.new) (B.synced file.new))
+        request.now [] (O.written output.old) (O.written output.new) }
+    ensures disk { disk.new ≡ disk.old }
+    ensures told { B.tells file.new ≡ B.tells file.old }
+    ensures same { B.can_fail file.new ≡ B.can_fail file.old }
+    ensures len { IsTrue (B.tells file.old) → length (B.holds file.new) ≡ length (B.holds file.old) }
 {
-    if request.command == Command::Write {
-        if let Err(fault) = drop_rest(input, request.length) {
-            return Some(fault);
-        }
+    match disk.flush(file) {
+        Ok(()) => tell(output, request.cookie, ErrorNumber::None),
+        Err(DiskFault) => tell(output, request.cookie, ErrorNumber::Io),
     }
-    tell(output, request.cookie, refusal)
-}
-
-/// What a request to an export of so many bytes is refused for: EINVAL for a length of 0 or above 33,554,432, a flag that isn't offered,
-/// a command that isn't known and a READ beyond the end, ENOSPC for a WRITE beyond the end; `None` for one that is served.
-pub fn refusal_of(size: u64, request: &Request) -> ErrorNumber
-    ensures { result ≡ refusal_of size request.now }
-{
-    if request.flags.0 > FUA {
-        return ErrorNumber::Invalid;
-    }
-    match request.command {
-        Command::Read if has_bad_length(request) || is_beyond(size, request) => {
-            ErrorNumber::Invalid
-        }
-        Command::Write if has_bad_length(request) => ErrorNumber::Invalid,
-        Command::Write if is_beyond(size, request) => ErrorNumber::NoSpace,
-        Command::Read | Command::Write | Command::Flush | Command::Disconnect => {
-            ErrorNumber::None
-        }
-        Command::Other(_) => ErrorNumber::Invalid,
-    }
-}
-
-/// Whether a request names no byte or too many.
-fn has_bad_length(request: &Request) -> bool
-    ensures { result ≡ has_bad_length request.now }
-{
-    request.length == 0 || request.length > MOST_BYTES
-}
-
-/// Whether a request goes beyond the end.
-fn is_beyond(size: u64, request: &Request) -> bool
-    ensures { result ≡ is_beyond size request.now }
-{
-    match request.offset.checked_add(u64::from(request.length)) {
-        Some(end) => end > size,
-        None => true,
-    }
-}
-
-/// Writes a reply without data.
-pub fn tell<O: Sink>(output: &mut O, cookie: u64, error: ErrorNumber) -> Option<ServeFault>
-    ensures { result ≡ None → Appends (O.written output.old) (O.written output.new) (reply_text (record { error = error; cookie = cookie })) }
-{
-    send(output, &Reply { error, cookie }.to_bytes()).err()
 }

@@ -1,8 +1,8 @@
 use Rattle.std.proofs.Common.{◌≡◌, ◌+◌, ◌-◌, ◌≤◌, ◌++◌, ℕ, Bool, List, length, take, drop, refl, ap, sym, ◌∙◌, arith, subst}
 use Rattle.std.specs.Prelude.{IsTrue}
 use Rattle.std.proofs.lemmas.List.{length-take-le}
-use Rattle.image_file.specs.Written.{written_over}
-use Rattle.image_file.proofs.Parts.{take-part}
+use Rattle.file_disk.specs.Written.{written_over}
+use Rattle.file_disk.proofs.Parts.{take-part}
 use Rattle.file_disk.proofs.Bytes.{written_more, written_none}
 use Rattle.file_disk.proofs.disk.write_all.Goals as goal
 

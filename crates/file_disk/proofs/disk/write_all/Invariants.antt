@@ -1,6 +1,6 @@
 use Rattle.std.proofs.Common.{◌≡◌, ◌-◌, ◌≤◌, length, take}
 use Rattle.std.specs.Prelude.{IsTrue}
-use Rattle.image_file.specs.Written.{written_over}
+use Rattle.file_disk.specs.Written.{written_over}
 use Rattle.file_disk.specs.Device.{IsReady}
 use Rattle.file_disk.proofs.disk.write_all.Given as goal
 

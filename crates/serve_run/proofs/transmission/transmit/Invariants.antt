@@ -1,13 +1,16 @@
-use Rattle.std.proofs.Common.{◌≡◌}
-use Rattle.disk_server.specs.Serving.{IsBehind}
+use Rattle.std.proofs.Common.{◌≡◌, ◌*◌, length}
+use Rattle.std.specs.Prelude.{IsTrue}
+use Rattle.serve_run.specs.Filed.{filed}
 use Rattle.serve_run.specs.Sessions.{Turns}
 use Rattle.serve_run.proofs.transmission.transmit.Given as goal
 
 abbrev pub invariant-loop-turn : goal.invariant-loop-turn
 invariant-loop-turn g l = record {
-  behind : IsBehind (g.I.Image.tells l.image) (g.I.Image.holds l.image) l.server;
-  told : g.I.Image.tells l.image ≡ g.I.Image.tells l.fn.image;
-  same : g.I.Image.can_fail l.image ≡ g.I.Image.can_fail l.fn.image;
-  turns : Turns (g.I.Image.can_fail l.fn.image) l.fn.server l.server (g.S.Source.left l.fn.input) (g.S.Source.left l.input)
-      (g.O.Sink.written l.fn.output) (g.O.Sink.written l.output);
+  disk : l.disk ≡ l.fn.disk;
+  told : g.B.Blocks.tells l.file ≡ g.B.Blocks.tells l.fn.file;
+  same : g.B.Blocks.can_fail l.file ≡ g.B.Blocks.can_fail l.fn.file;
+  len : IsTrue (g.B.Blocks.tells l.fn.file) → length (g.B.Blocks.holds l.file) ≡ 512 * l.fn.disk;
+  turns : Turns (g.B.Blocks.can_fail l.fn.file) (g.B.Blocks.tells l.fn.file) (512 * l.fn.disk)
+      (filed (g.B.Blocks.holds l.fn.file) (g.B.Blocks.synced l.fn.file)) (filed (g.B.Blocks.holds l.file) (g.B.Blocks.synced l.file))
+      (g.S.Source.left l.fn.input) (g.S.Source.left l.input) (g.O.Sink.written l.fn.output) (g.O.Sink.written l.output);
 }

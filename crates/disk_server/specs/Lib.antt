@@ -1,3 +1,0 @@
-pub mod Pieces
-pub mod Answers
-pub mod Serving

@@ -15,12 +15,12 @@
 #include <errno.h>
 #include <fcntl.h>
 #include <pthread.h>
-#include <stdatomic.h>
 #include <stdio.h>
 #include <string.h>
 #include <unistd.h>
 
-enum { PART_BLOCKS = 128, PART_BYTES = PART_BLOCKS * UAS_BLOCK_BYTES };
+/* A VERIFY may be of a whole disk: so much of it is looked through at once. */
+enum { LOOK_BLOCKS = 8192 };
 
 struct image {
     int file, syncing; /* two open files of the same: of reads and writes, and of syncs */
@@ -28,7 +28,6 @@ struct image {
     uint64_t bad;          /* a block that can't be read or written, for tests; UINT64_MAX is none */
     pthread_mutex_t order; /* one thread syncs, and sees what came of the syncs before */
     bool lost;             /* a block that was written may not be on the medium, whatever a sync says */
-    atomic_bool stops;     /* nobody waits for what is being looked through */
 };
 
 enum image_fault { IMAGE_GOOD, IMAGE_FAILED, IMAGE_LOCKED, IMAGE_NOT_WHOLE };
@@ -112,21 +111,28 @@ static inline bool sync_image(struct image *image)
     return good;
 }
 
-/* What comes of reading a request's blocks a part at a time, against its bytes where it compares. */
+/* What comes of reading a request's blocks, against its bytes where it compares. */
 static inline uint8_t look_through(struct image *image, const struct uas_request *request, const uint8_t *bytes)
 {
-    uint8_t part[PART_BYTES];
+    uint8_t part[16 * UAS_BLOCK_BYTES];
     uint64_t at = request->block * UAS_BLOCK_BYTES, length = request->count * UAS_BLOCK_BYTES;
     for (uint64_t done = 0; done < length; done += sizeof part) {
         size_t size = length - done < sizeof part ? (size_t)(length - done) : sizeof part;
-        if (image->stops)
-            return UAS_NOT_READY;
         if (!move_bytes(image->file, part, size, at + done, false))
             return UAS_MEDIUM_ERROR;
         if (request->kind == UAS_REQUEST_COMPARE && memcmp(part, bytes + done, size) != 0)
             return UAS_DIFFERS;
     }
     return UAS_DONE;
+}
+
+/* What is looked through at once of a VERIFY of which so many blocks are done: its caller can leave the others. */
+static inline struct uas_request next_look(const struct uas_request *request, uint64_t done)
+{
+    struct uas_request next = *request;
+    next.block += done;
+    next.count = request->count - done < LOOK_BLOCKS ? request->count - done : LOOK_BLOCKS;
+    return next;
 }
 
 /* Does a request of a disk, whose bytes are these, and returns what came of it. */

@@ -17,6 +17,7 @@
 #include <pthread.h>
 #include <stdio.h>
 #include <string.h>
+#include <sys/file.h>
 #include <unistd.h>
 
 /* A VERIFY may be of a whole disk: so much of it is looked through at once. */
@@ -46,11 +47,12 @@ static inline void close_image(struct image *image)
     image->file = image->syncing = -1;
 }
 
-/* Locks all of an open file against whoever else locks it, until it is closed. */
+/* Locks all of an open file against whoever else locks it, until it is closed: by the lock that QEMU asks for, and by that of `uasdisk serve`. Linux
+ * has both, and neither knows of the other. */
 static inline enum image_fault lock_file(int file)
 {
     struct flock whole = { .l_type = F_WRLCK, .l_whence = SEEK_SET };
-    if (fcntl(file, F_OFD_SETLK, &whole) == 0)
+    if (fcntl(file, F_OFD_SETLK, &whole) == 0 && flock(file, LOCK_EX | LOCK_NB) == 0)
         return IMAGE_GOOD;
     return errno == EAGAIN || errno == EACCES ? IMAGE_LOCKED : IMAGE_FAILED;
 }

@@ -20,7 +20,7 @@ int example_main(int words, char **word);
 
 #include <stdatomic.h>
 
-enum { WRITERS = 8, TRIES = 200, PART = 1000 };
+enum { WRITERS = 8, TRIES = 50, PART = 1000 };
 
 static struct job tries[WRITERS];
 static atomic_int syncs, calls;

@@ -22,12 +22,12 @@ static uint8_t rings[0x790000] __attribute__((aligned(4096))), first_block[3 * 0
 #undef main
 #undef uas_xhci_work
 
-enum { PAGE = 4096, MOST_ACCESSES = 4096, CELL = 16, MIXES = 16, AFTER = 4, CHILD_SECONDS = 20, MOST_RACES = 16 };
+enum { PAGE = 4096, MOST_LOADS = 4096, CELL = 16, MIXES = 16, AFTER = 4, CHILD_SECONDS = 20, MOST_RACES = 16 };
 
 /* What a process of a step tells: the cells that were loaded, one for each load, and what came of the step. */
 static struct told {
     size_t loads;
-    uint8_t *loaded[MOST_ACCESSES];
+    uint8_t *loaded[MOST_LOADS];
     uint64_t outcome;
 } *told;
 
@@ -69,11 +69,11 @@ static void touched(int number, siginfo_t *about, void *context)
 {
     ucontext_t *state = context;
     uint8_t *place = about->si_addr;
-    if (!is_trapped(place) || opened_count == 4 || told->loads == MOST_ACCESSES) {
+    if (!is_trapped(place) || opened_count == 4) {
         signal(number, SIG_DFL);
         return;
     }
-    if ((state->uc_mcontext.gregs[REG_ERR] & 2) == 0)
+    if ((state->uc_mcontext.gregs[REG_ERR] & 2) == 0 && told->loads < MOST_LOADS)
         told->loaded[told->loads++] = (uint8_t *)((uintptr_t)place / CELL * CELL);
     opened[opened_count] = (uint8_t *)((uintptr_t)place / PAGE * PAGE);
     mprotect(opened[opened_count++], PAGE, PROT_READ | PROT_WRITE);
@@ -168,7 +168,7 @@ static void take_apart(uint8_t *cell, bool races, size_t behind, uint32_t mix)
     }
     int status;
     waitpid(process, &status, 0);
-    MUST(status == 0);
+    SAME(status, 0);
 }
 
 /* Whether some mix of both contents, from the beginning on, comes to this. */
@@ -201,7 +201,7 @@ static void draw_other(const uint8_t *cell)
 /* Races the step that is next with each of its loads, of data with some; whether it was one of a copy each time. */
 static bool try_step(void)
 {
-    static uint8_t *loaded[MOST_ACCESSES];
+    static uint8_t *loaded[MOST_LOADS];
     take_apart(NULL, false, 0, 0);
     size_t loads = told->loads;
     memcpy(loaded, told->loaded, loads * sizeof loaded[0]);

@@ -1,8 +1,8 @@
-/* A file as a network block device: uas_tasks behind NBD (nbd.h), up to eight clients with up to 32 requests
- * each at once; the ninth waits until one leaves. Each request is one command: READ(16), WRITE(16) or SYNCHRONIZE CACHE(16). Each client has a
- * disk of its own over the file, in one call at a time, under a lock; each tag has a thread, which receives a request, does its command's moves of
- * blocks on the image (files.h), and replies. So no request goes from thread to thread, and clients don't wait for each other. No command is
- * aborted, so a tag that waits (UAS_WAITS) does so for the answer to its own request.
+/* A file as a network block device: uas_tasks behind NBD (nbd.h), up to eight clients with up to 32 requests each at once; the ninth waits until
+ * one leaves. Each request is one command: READ(16), WRITE(16) or SYNCHRONIZE CACHE(16). Each client has a disk of its own over the file, in one
+ * call at a time, under a lock; each tag has a thread, which receives a request, does its command's moves of blocks on the image (files.h), and
+ * replies. So no request goes from thread to thread, and clients don't wait for each other. No command is aborted, so a tag that waits (UAS_WAITS)
+ * does so for the answer to its own request.
  *
  *   cc -O2 -Iinclude examples/file_server.c $(bindings/archive tasks) -lpthread -o file_server && ./file_server FILE SOCKET [SERIAL]
  *   nbdcopy nbd+unix:///?socket=SOCKET copy
@@ -14,7 +14,8 @@
 #include "sockets.h"
 #include <stdlib.h>
 
-enum { SEATS = 8, MOST_CLIENTS = 72, TAGS = 32, CHUNK = 128, MOST_BLOCKS = 65528 };
+enum { SEATS = 8, MOST_CLIENTS = 72, TAGS = 32, CHUNK = 128, MOST_BLOCKS = 65528, MOST_SERIAL = 99999999 };
+
 struct seat;
 
 /* A request under its tag, in the host's order, with its data behind the place of a reply. `moved` bytes of them were given or taken; what the
@@ -304,7 +305,7 @@ static bool read_serial(const char *word)
     char *end;
     unsigned long number = strtoul(word, &end, 10);
     serial = (uint32_t)number;
-    return word[0] >= '0' && word[0] <= '9' && *end == '\0' && number <= 99999999;
+    return word[0] >= '0' && word[0] <= '9' && *end == '\0' && number <= MOST_SERIAL;
 }
 
 /* Opens the image, and tries whether a disk can be made of it; the exit status. */

@@ -124,7 +124,7 @@ static inline bool greet(const struct client *client, uint64_t size)
     struct __attribute__((packed)) { uint64_t size; uint16_t flags; uint8_t zeros[124]; } old = { htobe64(size), flags, { 0 } };
     struct __attribute__((packed)) { uint64_t magic; uint32_t option, length; } asked;
     uint32_t theirs;
-    if (!put(client, "NBDMAGICIHAVEOPT", 16) || !put(client, &ours, 2) || !get(client, &theirs, 4))
+    if (!put(client, "NBDMAGICIHAVEOPT", 16) || !put(client, &ours, 2) || !get(client, &theirs, 4) || be32toh(theirs) > 3)
         return false;
     while (get(client, &asked, sizeof asked) && be64toh(asked.magic) == OPTION_MAGIC) {
         uint32_t option = be32toh(asked.option), length = be32toh(asked.length);

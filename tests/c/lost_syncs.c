@@ -1,6 +1,6 @@
 /* The disk in a file of examples/file_disk.c, whose file system tells once that it couldn't bring blocks to the medium, as Linux does: from then on no
  * SYNCHRONIZE CACHE and no WRITE with FUA is told as done until the file is opened anew, whichever thread has it. What is only read or written
- * goes on. Reads and writes move a part at a time, and are interrupted now and then.
+ * goes on. Reads and writes move a part at a time, and are interrupted now and then. First the file is one that another program has locked.
  *
  *   lost_syncs FILE
  *
@@ -111,10 +111,25 @@ static void live(const char *path, int version)
     close_image(&image);
 }
 
+/* The file isn't opened while somebody has either lock on it, and isn't changed. */
+static void is_refused(const char *path)
+{
+    struct flock whole = { .l_type = F_RDLCK, .l_whence = SEEK_SET };
+    int other = open(path, O_RDWR | O_CREAT | O_TRUNC, 0600);
+    need(other >= 0 && fcntl(other, F_OFD_SETLK, &whole) == 0, "no lock");
+    need(open_disk(path) == 3, "a locked file was opened");
+    whole.l_type = F_UNLCK;
+    need(fcntl(other, F_OFD_SETLK, &whole) == 0 && flock(other, LOCK_SH) == 0, "no lock");
+    need(open_disk(path) == 3, "a locked file was opened");
+    need(lseek(other, 0, SEEK_END) == 0, "a locked file was changed");
+    close(other);
+}
+
 int main(int words, char **word)
 {
     pthread_t thread;
     need(words == 2, "usage: lost_syncs FILE");
+    is_refused(word[1]);
     for (int k = 0; k < WRITERS; k++)
         need(pthread_create(&thread, NULL, serve, NULL) == 0, "no thread");
     for (int i = 0; i < TRIES; i++)

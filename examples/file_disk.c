@@ -1,14 +1,12 @@
-/* A disk in a sparse file: uas_tasks, whose requests 32 threads do by pread, pwrite and fdatasync, as many as 32 at once. The program is its
- * own host: each of 32 tags writes a zone of its own, with FUA or with a SYNCHRONIZE CACHE behind it, reads it back and compares.
+/* A disk in a sparse file: uas_tasks, whose requests 32 threads do on an image (files.h), as many as 32 at once. The program is its own host:
+ * each of 32 tags writes a zone of its own, with FUA or with a SYNCHRONIZE CACHE behind it, reads it back and compares. No command is aborted,
+ * so a tag that waits (UAS_WAITS) does so for the answer to its own request.
  *
- *   cc -Iinclude examples/file_disk.c $(bindings/archive tasks) -lpthread -o file_disk && ./file_disk FILE */
-#include "uas_tasks.h"
-#include <fcntl.h>
-#include <pthread.h>
-#include <stdio.h>
+ *   cc -Iinclude examples/file_disk.c $(bindings/archive tasks) -lpthread -o file_disk && ./file_disk FILE
+ *
+ * The status is 3 where another program has the file locked, and 1 where a command fails. */
+#include "files.h"
 #include <stdlib.h>
-#include <string.h>
-#include <unistd.h>
 
 enum { TAGS = 32, CHUNK = 64, ZONE = 128, BLOCKS = 1 << 24 /* 8 GiB */ };
 
@@ -28,7 +26,7 @@ struct queue {
 
 static struct queue asked = { .more = PTHREAD_COND_INITIALIZER }, done = { .more = PTHREAD_COND_INITIALIZER };
 static pthread_mutex_t lock = PTHREAD_MUTEX_INITIALIZER;
-static int file;
+static struct image image;
 
 static void put(struct queue *queue, struct job *job)
 {
@@ -58,17 +56,7 @@ static void *serve(void *none)
 {
     for (;;) {
         struct job *job = get(&asked);
-        const struct uas_request *request = &job->request;
-        ssize_t size = (ssize_t)(request->count * UAS_BLOCK_BYTES);
-        off_t at = (off_t)(request->block * UAS_BLOCK_BYTES);
-        bool good = true;
-        if (request->kind == UAS_REQUEST_READ)
-            good = pread(file, job->bytes, (size_t)size, at) == size;
-        if (request->kind == UAS_REQUEST_WRITE)
-            good = pwrite(file, job->bytes, (size_t)size, at) == size;
-        if (request->kind == UAS_REQUEST_SYNC || request->through)
-            good = good && fdatasync(file) == 0;
-        job->outcome = good ? UAS_DONE : UAS_MEDIUM_ERROR;
+        job->outcome = do_request(&image, &job->request, job->bytes);
         put(&done, job);
     }
     return none;
@@ -99,7 +87,7 @@ static void submit(uint16_t tag)
     static const uint8_t code[] = { 0x2a, 0x35, 0x28 };
     uint32_t block = (uint32_t)tag * 100000;
     uint8_t flags = command[tag] == 0 && tag % 2 == 1 ? 0x08 : 0;
-    uint8_t cdb[10] = { code[command[tag]], flags, block >> 24, block >> 16 & 0xff, block >> 8 & 0xff, block & 0xff, 0, 0, ZONE, 0 };
+    uint8_t cdb[10] = { code[command[tag]], flags, (uint8_t)(block >> 24), block >> 16 & 0xff, block >> 8 & 0xff, block & 0xff, 0, 0, ZONE, 0 };
     uint8_t unit[32] = { UAS_UNIT_COMMAND, 0, (uint8_t)(tag >> 8), (uint8_t)tag };
     memcpy(unit + 16, cdb, sizeof cdb);
     for (size_t at = 0; at < sizeof data[tag]; at++)
@@ -115,11 +103,13 @@ static bool end(uint16_t tag)
     uint64_t length;
     must(uas_tasks_status(tasks, tag, status, sizeof status, &length));
     must(uas_tasks_sent(tasks, tag));
-    for (size_t at = 0; command[tag] == 2 && at < sizeof data[tag]; at++)
-        if (status[6] != UAS_GOOD || data[tag][at] != pattern(tag, at)) {
-            fprintf(stderr, "file_disk: tag %u: status %u, byte %zu\n", tag, status[6], at);
-            exit(1);
-        }
+    size_t at = 0;
+    while (command[tag] == 2 && at < sizeof data[tag] && data[tag][at] == pattern(tag, at))
+        at++;
+    if (status[6] != UAS_GOOD || (command[tag] == 2 && at < sizeof data[tag])) {
+        fprintf(stderr, "file_disk: tag %u: command %d: status %u, byte %zu\n", tag, command[tag], status[6], at);
+        exit(1);
+    }
     if (++command[tag] == 3)
         return running--, false;
     submit(tag);
@@ -148,15 +138,31 @@ static void go_on(uint16_t tag)
     }
 }
 
+/* Opens the image, which is made where none is there; the exit status. */
+static int open_disk(const char *path)
+{
+    int made = open(path, O_RDWR | O_CREAT | O_CLOEXEC, 0600);
+    enum image_fault fault = made < 0 ? IMAGE_FAILED : open_image(&image, path);
+    if (made >= 0)
+        close(made);
+    if (fault == IMAGE_GOOD && ftruncate(image.file, (off_t)BLOCKS * UAS_BLOCK_BYTES) != 0)
+        fault = IMAGE_FAILED;
+    if (fault != IMAGE_GOOD)
+        fprintf(stderr, "file_disk: %s\n", image_fault_name(fault));
+    return fault == IMAGE_GOOD ? 0 : fault == IMAGE_LOCKED ? 3 : 1;
+}
+
 int main(int words, char **word)
 {
     struct uas_tasks_unit unit = { BLOCKS, 1, UAS_BLOCK_BYTES };
     pthread_t thread;
-    file = words == 2 ? open(word[1], O_RDWR | O_CREAT, 0600) : -1;
-    if (file < 0 || ftruncate(file, (off_t)BLOCKS * UAS_BLOCK_BYTES) != 0) {
+    if (words != 2) {
         fprintf(stderr, "usage: file_disk FILE\n");
         return 2;
     }
+    int status = open_disk(word[1]);
+    if (status != 0)
+        return status;
     must(uas_tasks_new(&unit, 1, UAS_SET_HOST, 1024, CHUNK, &tasks));
     for (int k = 0; k < TAGS; k++)
         if (pthread_create(&thread, NULL, serve, NULL) != 0)

@@ -1,49 +1,27 @@
-/* A file as a network block device: uas_tasks behind NBD (fixed newstyle handshake, simple replies), up to eight connections with up to 32 requests
- * each at once. Each request is one command: READ(16), WRITE(16) or SYNCHRONIZE CACHE(16). Each connection has a disk of its own over the file, in
- * one call at a time, under a lock; each tag has a thread, which receives a request, does its command's moves of blocks by pread, pwrite and
- * fdatasync, and replies. So no request goes from thread to thread, and connections don't wait for each other.
+/* A file as a network block device: uas_tasks behind NBD (nbd.h), up to eight clients with up to 32 requests each at once; the ninth waits until
+ * one leaves. Each request is one command: READ(16), WRITE(16) or SYNCHRONIZE CACHE(16). Each client has a disk of its own over the file, in one
+ * call at a time, under a lock; each tag has a thread, which receives a request, does its command's moves of blocks on the image (files.h), and
+ * replies. So no request goes from thread to thread, and clients don't wait for each other. No command is aborted, so a tag that waits (UAS_WAITS)
+ * does so for the answer to its own request.
  *
- *   cc -O2 -Iinclude examples/file_server.c $(bindings/archive tasks) -lpthread -o file_server && ./file_server FILE SOCKET
- *   nbdcopy nbd+unix:///?socket=SOCKET copy */
-#include "uas_tasks.h"
-#include <endian.h>
-#include <fcntl.h>
-#include <pthread.h>
-#include <stdio.h>
+ *   cc -O2 -Iinclude examples/file_server.c $(bindings/archive tasks) -lpthread -o file_server && ./file_server FILE SOCKET [SERIAL]
+ *   nbdcopy nbd+unix:///?socket=SOCKET copy
+ *
+ * SERIAL is the disk's number, of at most eight digits, 1 where none is named. The status is 3 where another program has the file locked. What a
+ * client does wrong, or memory that it can't have, ends that client alone; one that hasn't ended its handshake after some seconds is dropped. */
+#include "files.h"
+#include "nbd.h"
+#include "sockets.h"
 #include <stdlib.h>
-#include <string.h>
-#include <sys/socket.h>
-#include <sys/stat.h>
-#include <sys/un.h>
-#include <unistd.h>
 
-enum { CONNECTIONS = 8, TAGS = 32, CHUNK = 128, MOST_BLOCKS = 65528, MOST_BYTES = 32768 * UAS_BLOCK_BYTES };
-enum { READ = 0, WRITE = 1, LEAVE = 2, FLUSH = 3, FUA = 1, HAS_FLAGS = 1, SENDS_FLUSH = 4, SENDS_FUA = 8, MANY = 256 };
-enum { DONE = 0, NO_IO = 5, INVALID = 22 };
-enum { EXPORT_NAME = 1, ABORT = 2, INFO = 6, GO = 7, ACK = 1, ABOUT = 3 };
+enum { SEATS = 8, MOST_CLIENTS = 72, TAGS = 32, CHUNK = 128, MOST_BLOCKS = 65528, MOST_SERIAL = 99999999 };
 
-static const uint64_t OPTION_MAGIC = 0x49484156454f5054, REPLY_MAGIC = 0x3e889045565a9;
-static const uint32_t UNSUPPORTED = 0x80000001;
-
-/* The messages as they are on the wire, big endian. */
-struct __attribute__((packed)) request {
-    uint32_t magic;
-    uint16_t flags, type;
-    uint64_t cookie, offset;
-    uint32_t length;
-};
-
-struct __attribute__((packed)) reply {
-    uint32_t magic, error;
-    uint64_t cookie;
-};
-
-struct connection;
+struct seat;
 
 /* A request under its tag, in the host's order, with its data behind the place of a reply. `moved` bytes of them were given or taken; what the
  * disk asks for are the `size` bytes at `place`. */
 struct job {
-    struct connection *from;
+    struct seat *seat;
     uint16_t tag;
     struct request request;
     struct reply *reply;
@@ -54,47 +32,28 @@ struct job {
     size_t size;
 };
 
-struct connection {
-    pthread_t thread;
-    int socket;
+/* What serves a client. */
+struct seat {
+    bool taken;
+    struct client client;
     bool left; /* the client has */
     pthread_mutex_t reading, device, writing;
     uas_tasks *tasks;
     struct job jobs[TAGS];
 };
 
-static struct connection connections[CONNECTIONS];
-static uint64_t size;
-static int file, listener;
+static struct seat seats[SEATS];
+static struct image image;
+static uint32_t serial = 1;
 
-static void must(bool good, const char *what)
-{
-    if (good)
-        return;
-    fprintf(stderr, "file_server: %s\n", what);
-    exit(1);
-}
+/* How many clients are there, with a seat or without. */
+static int clients;
+static pthread_mutex_t hall = PTHREAD_MUTEX_INITIALIZER;
+static pthread_cond_t hall_changed = PTHREAD_COND_INITIALIZER;
 
-static bool get(int from, void *bytes, size_t length)
-{
-    return length == 0 || recv(from, bytes, length, MSG_WAITALL) == (ssize_t)length;
-}
+/* ---- A command of the disk: false where the library refuses what it never should ---- */
 
-static bool put(int to, const void *bytes, size_t length)
-{
-    for (const uint8_t *at = bytes; length > 0;) {
-        ssize_t part = send(to, at, length, MSG_NOSIGNAL);
-        if (part <= 0)
-            return false;
-        at += part;
-        length -= (size_t)part;
-    }
-    return true;
-}
-
-/* ---- A command of the disk ---- */
-
-static void begin(struct job *job)
+static bool begin(struct job *job)
 {
     static const uint8_t code[] = { 0x88, 0x8a, 0, 0x91 };
     uint8_t unit[32] = { UAS_UNIT_COMMAND, 0, 0, (uint8_t)job->tag };
@@ -105,227 +64,284 @@ static void begin(struct job *job)
     unit[17] = job->request.type == WRITE && job->request.flags & FUA ? 8 : 0;
     memcpy(unit + 18, &block, 8);
     memcpy(unit + 26, &count, 4);
-    must(uas_tasks_receive(job->from->tasks, unit, sizeof unit, &began) == UAS_OK && began == job->tag, "no command");
+    return uas_tasks_receive(job->seat->tasks, unit, sizeof unit, &began) == UAS_OK && began == job->tag;
 }
 
 /* Finds the place of a request's bytes: behind those that were moved, or, of a write, the last of them. */
-static void find_place(struct job *job)
+static bool find_place(struct job *job)
 {
     bool writes = job->asked.kind == UAS_REQUEST_WRITE;
     job->size = job->asked.kind == UAS_REQUEST_SYNC ? 0 : (size_t)job->asked.count * UAS_BLOCK_BYTES;
     job->place = job->data + job->moved - (writes ? job->size : 0);
-    must(!writes || uas_tasks_data(job->from->tasks, job->asked.number, job->place, job->size) == UAS_OK, "no bytes");
+    return !writes || uas_tasks_data(job->seat->tasks, job->asked.number, job->place, job->size) == UAS_OK;
 }
 
-/* Goes on with a tag, under the lock of the disk, until it asks or ends. */
-static bool asks(struct job *job)
+/* Goes on with a tag, under the lock of the disk, until it asks or ends: *phase. */
+static bool go_on(struct job *job, uint8_t *phase)
 {
-    uas_tasks *tasks = job->from->tasks;
+    uas_tasks *tasks = job->seat->tasks;
     for (;;) {
-        uint8_t phase;
         uint64_t length;
-        must(uas_tasks_next(tasks, job->tag, &phase, &length, &job->asked) == UAS_OK, "no task");
-        if (phase == UAS_GIVES)
-            must(uas_tasks_give(tasks, job->tag, job->data + job->moved, (size_t)length) == UAS_OK, "no data");
-        else if (phase == UAS_TAKES)
-            must(uas_tasks_take(tasks, job->tag, job->data + job->moved, (size_t)length) == UAS_OK, "no data");
-        else if (phase != UAS_ASKS)
+        if (uas_tasks_next(tasks, job->tag, phase, &length, &job->asked) != UAS_OK)
             return false;
-        else {
-            find_place(job);
-            return true;
-        }
+        if (*phase == UAS_ASKS)
+            return find_place(job);
+        if (*phase != UAS_GIVES && *phase != UAS_TAKES)
+            return *phase == UAS_ENDS;
+        uint8_t *at = job->data + job->moved;
+        if ((*phase == UAS_GIVES ? uas_tasks_give(tasks, job->tag, at, (size_t)length) : uas_tasks_take(tasks, job->tag, at, (size_t)length)) != UAS_OK)
+            return false;
         job->moved += (size_t)length;
     }
 }
 
-/* Moves the bytes of what is asked between the file and their place. */
-static uint8_t move(const struct job *job)
+/* Does what the tag asked for, without the lock, and tells what came of it. */
+static bool answer(struct job *job)
 {
-    off_t at = (off_t)job->asked.block * UAS_BLOCK_BYTES;
-    bool good = true;
-    if (job->asked.kind == UAS_REQUEST_READ)
-        good = pread(file, job->place, job->size, at) == (ssize_t)job->size;
-    if (job->asked.kind == UAS_REQUEST_WRITE)
-        good = pwrite(file, job->place, job->size, at) == (ssize_t)job->size;
-    if (job->asked.kind == UAS_REQUEST_SYNC || job->asked.through)
-        good = good && fdatasync(file) == 0;
-    return good ? UAS_DONE : UAS_MEDIUM_ERROR;
+    pthread_mutex_t *device = &job->seat->device;
+    pthread_mutex_unlock(device);
+    uint8_t outcome = do_request(&image, &job->asked, job->place);
+    size_t moved = job->asked.kind == UAS_REQUEST_READ && outcome == UAS_DONE ? job->size : 0;
+    pthread_mutex_lock(device);
+    return uas_tasks_answered(job->seat->tasks, job->asked.number, outcome, job->place, moved) == UAS_OK;
 }
 
-/* A command from its beginning to its end; the error of its reply. */
-static uint32_t run(struct job *job)
+/* A command from its beginning to its end; *error is that of its reply. */
+static bool run(struct job *job, uint32_t *error)
 {
-    uas_tasks *tasks = job->from->tasks;
-    pthread_mutex_t *device = &job->from->device;
-    uint8_t status[UAS_MOST_UNIT_BYTES];
+    uint8_t phase = UAS_ASKS, status[UAS_MOST_UNIT_BYTES];
     uint64_t length;
     job->moved = 0;
-    pthread_mutex_lock(device);
-    begin(job);
-    while (asks(job)) {
-        pthread_mutex_unlock(device);
-        uint8_t outcome = move(job);
-        size_t moved = job->asked.kind == UAS_REQUEST_READ && outcome == UAS_DONE ? job->size : 0;
-        pthread_mutex_lock(device);
-        must(uas_tasks_answered(tasks, job->asked.number, outcome, job->place, moved) == UAS_OK, "no request");
-    }
-    must(uas_tasks_status(tasks, job->tag, status, sizeof status, &length) == UAS_OK && uas_tasks_sent(tasks, job->tag) == UAS_OK, "no status");
-    pthread_mutex_unlock(device);
-    return status[6] == UAS_GOOD ? DONE : NO_IO;
+    pthread_mutex_lock(&job->seat->device);
+    bool good = begin(job);
+    while (good && phase == UAS_ASKS)
+        good = go_on(job, &phase) && (phase != UAS_ASKS || answer(job));
+    good = good && uas_tasks_status(job->seat->tasks, job->tag, status, sizeof status, &length) == UAS_OK &&
+           uas_tasks_sent(job->seat->tasks, job->tag) == UAS_OK;
+    pthread_mutex_unlock(&job->seat->device);
+    *error = good && status[6] == UAS_GOOD ? DONE : NO_IO;
+    return good;
 }
 
 /* ---- Requests ---- */
 
-static void make_room(struct job *job, size_t length)
+static bool make_room(struct job *job, size_t length)
 {
-    free(job->reply);
-    job->reply = malloc(sizeof *job->reply + length);
-    must(job->reply != NULL, "no memory");
-    job->data = (uint8_t *)(job->reply + 1);
-    job->room = length;
-}
-
-/* Receives a request into a job; false at the client's end. */
-static bool receive(struct job *job)
-{
-    struct request *now = &job->request;
-    int from = job->from->socket;
-    if (!get(from, now, sizeof *now) || be32toh(now->magic) != 0x25609513)
+    struct reply *reply = realloc(job->reply, sizeof *reply + length);
+    if (reply == NULL)
         return false;
-    now->flags = be16toh(now->flags);
-    now->type = be16toh(now->type);
-    now->offset = be64toh(now->offset);
-    now->length = be32toh(now->length);
-    bool moves = now->type == READ || now->type == WRITE;
-    if (moves && now->length > job->room && now->length <= MOST_BYTES)
-        make_room(job, now->length);
-    return now->type != LEAVE && (now->type != WRITE || (now->length <= MOST_BYTES && get(from, job->data, now->length)));
+    job->reply = reply;
+    job->data = (uint8_t *)(reply + 1);
+    job->room = length;
+    return true;
 }
 
-static bool receive_next(struct job *job)
+static uint32_t refusal(const struct request *request)
 {
-    pthread_mutex_lock(&job->from->reading);
-    bool more = !job->from->left && receive(job);
-    job->from->left = !more;
-    pthread_mutex_unlock(&job->from->reading);
+    bool moves = request->type == READ || request->type == WRITE;
+    bool fits = request->length > 0 && request->length <= MOST_BYTES && request->length % UAS_BLOCK_BYTES == 0 &&
+                request->offset % UAS_BLOCK_BYTES == 0 && request->offset <= image.bytes && request->length <= image.bytes - request->offset;
+    return request->type == FLUSH || (moves && fits) ? DONE : INVALID;
+}
+
+/* Receives a request into a job, and its data where it isn't refused; false at the client's end. */
+static bool receive(struct job *job, uint32_t *error)
+{
+    struct request *request = &job->request;
+    const struct client *from = &job->seat->client;
+    if (!get(from, request, sizeof *request) || be32toh(request->magic) != 0x25609513)
+        return false;
+    request->flags = be16toh(request->flags);
+    request->type = be16toh(request->type);
+    request->offset = be64toh(request->offset);
+    request->length = be32toh(request->length);
+    *error = refusal(request);
+    if (*error == DONE && request->type != FLUSH && request->length > job->room && !make_room(job, request->length))
+        *error = NO_MEMORY;
+    if (request->type != WRITE)
+        return request->type != LEAVE;
+    return *error == DONE ? get(from, job->data, request->length) : request->length <= MOST_BYTES && skip(from, request->length);
+}
+
+static bool receive_next(struct job *job, uint32_t *error)
+{
+    pthread_mutex_lock(&job->seat->reading);
+    bool more = !job->seat->left && receive(job, error);
+    job->seat->left = !more;
+    pthread_mutex_unlock(&job->seat->reading);
     return more;
 }
 
-static bool is_valid(const struct request *request)
+static bool send_reply(struct job *job, uint32_t error)
 {
-    bool moves = request->type == READ || request->type == WRITE;
-    return request->type == FLUSH || (moves && request->length > 0 && request->length <= MOST_BYTES && request->length % UAS_BLOCK_BYTES == 0 &&
-           request->offset % UAS_BLOCK_BYTES == 0 && request->offset <= size && request->length <= size - request->offset);
+    size_t length = job->request.type == READ && error == DONE ? job->request.length : 0;
+    *job->reply = (struct reply){ htobe32(0x67446698), htobe32(error), job->request.cookie };
+    pthread_mutex_lock(&job->seat->writing);
+    bool sent = put(&job->seat->client, job->reply, sizeof *job->reply + length);
+    pthread_mutex_unlock(&job->seat->writing);
+    return sent;
 }
 
 /* The thread of a tag, until the client leaves. */
-static void *serve(void *whole)
+static void *serve_tag(void *whole)
 {
     struct job *job = whole;
-    while (receive_next(job)) {
-        uint32_t error = is_valid(&job->request) ? run(job) : INVALID;
-        size_t length = job->request.type == READ && error == DONE ? job->request.length : 0;
-        *job->reply = (struct reply){ htobe32(0x67446698), htobe32(error), job->request.cookie };
-        pthread_mutex_lock(&job->from->writing);
-        put(job->from->socket, job->reply, sizeof *job->reply + length);
-        pthread_mutex_unlock(&job->from->writing);
+    uint32_t error;
+    while (receive_next(job, &error)) {
+        bool good = error != DONE || run(job, &error);
+        if (!send_reply(job, error) || !good)
+            shutdown(job->seat->client.socket, SHUT_RDWR);
     }
     return NULL;
 }
 
-/* ---- Connections ---- */
+/* ---- Clients ---- */
 
-static bool answer_option(int to, uint32_t option, uint32_t kind, const void *data, uint32_t length)
+/* The disk of a seat's client, and room for its requests. */
+static uint8_t open_seat(struct seat *seat)
 {
-    struct __attribute__((packed)) { uint64_t magic; uint32_t option, kind, length; } head = { htobe64(REPLY_MAGIC), htobe32(option), htobe32(kind), htobe32(length) };
-    return put(to, &head, sizeof head) && put(to, data, length);
-}
-
-/* The handshake; whether requests come. */
-static bool greet(int client)
-{
-    const uint16_t ours = htobe16(3), flags = htobe16(HAS_FLAGS | SENDS_FLUSH | SENDS_FUA | MANY);
-    struct __attribute__((packed)) { uint64_t size; uint16_t flags; uint8_t zeros[124]; } old = { htobe64(size), flags, { 0 } };
-    struct __attribute__((packed)) { uint16_t kind; uint64_t size; uint16_t flags; } export = { 0, htobe64(size), flags };
-    struct __attribute__((packed)) { uint16_t kind; uint32_t least, best, most; } sizes = { htobe16(3), htobe32(UAS_BLOCK_BYTES), htobe32(4096), htobe32(MOST_BYTES) };
-    struct __attribute__((packed)) { uint64_t magic; uint32_t option, length; } asked;
-    uint32_t theirs;
-    if (!put(client, "NBDMAGICIHAVEOPT", 16) || !put(client, &ours, 2) || !get(client, &theirs, 4))
-        return false;
-    while (get(client, &asked, sizeof asked) && be64toh(asked.magic) == OPTION_MAGIC) {
-        uint32_t option = be32toh(asked.option), length = be32toh(asked.length);
-        uint8_t skipped;
-        for (uint32_t i = 0; i < length; i++)
-            if (!get(client, &skipped, 1))
-                return false;
-        if (option == EXPORT_NAME)
-            return put(client, &old, be32toh(theirs) & 2 ? 10 : sizeof old);
-        bool tells = option == INFO || option == GO;
-        if (tells && !(answer_option(client, option, ABOUT, &export, sizeof export) && answer_option(client, option, ABOUT, &sizes, sizeof sizes)))
-            return false;
-        if (!answer_option(client, option, tells || option == ABORT ? ACK : UNSUPPORTED, NULL, 0) || option == ABORT)
-            return false;
-        if (option == GO)
-            return true;
-    }
-    return false;
-}
-
-/* The tags of a connection serve a client. The disk is made for the first. */
-static void serve_client(struct connection *here)
-{
-    struct uas_tasks_unit unit = { size / UAS_BLOCK_BYTES, 1, UAS_BLOCK_BYTES };
-    pthread_t threads[TAGS];
-    must(here->tasks != NULL || uas_tasks_new(&unit, 1, UAS_SET_HOST, MOST_BLOCKS, CHUNK, &here->tasks) == UAS_OK, "no disk");
-    here->left = false;
-    for (int k = 0; k < TAGS; k++)
-        must(pthread_create(&threads[k], NULL, serve, &here->jobs[k]) == 0, "no thread");
-    for (int k = 0; k < TAGS; k++)
-        pthread_join(threads[k], NULL);
-}
-
-/* The thread of a connection, a client after the other. */
-static void *accept_clients(void *whole)
-{
-    struct connection *here = whole;
-    while ((here->socket = accept(listener, NULL, NULL)) >= 0) {
-        if (greet(here->socket))
-            serve_client(here);
-        close(here->socket);
-    }
-    return NULL;
-}
-
-static void open_connection(struct connection *here)
-{
-    pthread_mutex_init(&here->reading, NULL);
-    pthread_mutex_init(&here->device, NULL);
-    pthread_mutex_init(&here->writing, NULL);
+    struct uas_tasks_unit unit = { image.bytes / UAS_BLOCK_BYTES, serial, UAS_BLOCK_BYTES };
     for (int k = 0; k < TAGS; k++) {
-        here->jobs[k].from = here;
-        here->jobs[k].tag = (uint16_t)(k + 1);
-        make_room(&here->jobs[k], 0);
+        seat->jobs[k] = (struct job){ .seat = seat, .tag = (uint16_t)(k + 1) };
+        if (!make_room(&seat->jobs[k], 0))
+            return UAS_NO_MEMORY;
     }
-    must(pthread_create(&here->thread, NULL, accept_clients, here) == 0, "no thread");
+    return uas_tasks_new(&unit, 1, UAS_SET_HOST, MOST_BLOCKS, CHUNK, &seat->tasks);
+}
+
+static void close_seat(struct seat *seat)
+{
+    for (int k = 0; k < TAGS; k++)
+        free(seat->jobs[k].reply);
+    memset(seat->jobs, 0, sizeof seat->jobs);
+    uas_tasks_free(seat->tasks);
+    seat->tasks = NULL;
+}
+
+/* The tags of a seat serve its client. */
+static void serve_tags(struct seat *seat)
+{
+    pthread_t threads[TAGS];
+    int started = 0;
+    seat->left = false;
+    while (started < TAGS && pthread_create(&threads[started], NULL, serve_tag, &seat->jobs[started]) == 0)
+        started++;
+    while (started > 0)
+        pthread_join(threads[--started], NULL);
+}
+
+static struct seat *free_seat(void)
+{
+    for (int k = 0; k < SEATS; k++)
+        if (!seats[k].taken)
+            return &seats[k];
+    return NULL;
+}
+
+/* Serves a client as soon as there is a seat. */
+static void seat_client(struct client client)
+{
+    struct seat *seat;
+    pthread_mutex_lock(&hall);
+    while ((seat = free_seat()) == NULL)
+        pthread_cond_wait(&hall_changed, &hall);
+    seat->taken = true;
+    pthread_mutex_unlock(&hall);
+    seat->client = client;
+    if (open_seat(seat) == UAS_OK)
+        serve_tags(seat);
+    close_seat(seat);
+    pthread_mutex_lock(&hall);
+    seat->taken = false;
+    pthread_cond_broadcast(&hall_changed);
+    pthread_mutex_unlock(&hall);
+}
+
+static void count_client(int change)
+{
+    pthread_mutex_lock(&hall);
+    while (change > 0 && clients == MOST_CLIENTS)
+        pthread_cond_wait(&hall_changed, &hall);
+    clients += change;
+    pthread_cond_broadcast(&hall_changed);
+    pthread_mutex_unlock(&hall);
+}
+
+/* The thread of a client. */
+static void *receive_client(void *number)
+{
+    struct client client = { (int)(intptr_t)number, now() + 1000 * GREETING_SECONDS };
+    if (greet(&client, image.bytes)) {
+        client.deadline = 0;
+        seat_client(client);
+    }
+    close(client.socket);
+    count_client(-1);
+    return NULL;
+}
+
+/* Takes clients until the socket itself fails, each for a thread of its own. */
+static void accept_clients(int listener)
+{
+    for (;;) {
+        pthread_t thread;
+        count_client(1);
+        int number = accept(listener, NULL, NULL);
+        if (number >= 0 && pthread_create(&thread, NULL, receive_client, (void *)(intptr_t)number) == 0) {
+            pthread_detach(thread);
+            continue;
+        }
+        if (number >= 0)
+            close(number);
+        else if (errno == EBADF || errno == EINVAL)
+            return;
+        count_client(-1);
+        poll(NULL, 0, 100); /* what the machine lacks comes back as others leave */
+    }
+}
+
+static bool read_serial(const char *word)
+{
+    char *end;
+    unsigned long number = strtoul(word, &end, 10);
+    serial = (uint32_t)number;
+    return word[0] >= '0' && word[0] <= '9' && *end == '\0' && number <= MOST_SERIAL;
+}
+
+/* Opens the image, and tries whether a disk can be made of it; the exit status. */
+static int open_export(const char *path)
+{
+    enum image_fault fault = open_image(&image, path);
+    if (fault != IMAGE_GOOD) {
+        fprintf(stderr, "file_server: %s\n", image_fault_name(fault));
+        return fault == IMAGE_LOCKED ? 3 : 1;
+    }
+    uint8_t refused = open_seat(&seats[0]);
+    close_seat(&seats[0]);
+    if (refused != UAS_OK)
+        fprintf(stderr, "file_server: %s\n", uas_fault_name(refused));
+    return refused != UAS_OK ? 1 : 0;
 }
 
 int main(int words, char **word)
 {
-    struct sockaddr_un name = { .sun_family = AF_UNIX };
-    struct stat about;
-    file = words == 3 ? open(word[1], O_RDWR) : -1;
-    if (file < 0 || fstat(file, &about) != 0 || about.st_size < UAS_BLOCK_BYTES || strlen(word[2]) >= sizeof name.sun_path) {
-        fprintf(stderr, "usage: file_server FILE SOCKET\n");
+    if (words < 3 || words > 4 || (words == 4 && !read_serial(word[3]))) {
+        fprintf(stderr, "usage: file_server FILE SOCKET [SERIAL]\n");
         return 2;
     }
-    size = (uint64_t)about.st_size / UAS_BLOCK_BYTES * UAS_BLOCK_BYTES;
-    strcpy(name.sun_path, word[2]);
-    unlink(word[2]);
-    listener = socket(AF_UNIX, SOCK_STREAM, 0);
-    must(listener >= 0 && bind(listener, (struct sockaddr *)&name, sizeof name) == 0 && listen(listener, CONNECTIONS) == 0, "no socket");
-    for (int k = 0; k < CONNECTIONS; k++)
-        open_connection(&connections[k]);
-    pthread_join(connections[0].thread, NULL);
+    int status = open_export(word[1]);
+    if (status != 0)
+        return status;
+    int listener = listen_at(word[2], SEATS);
+    if (listener < 0) {
+        fprintf(stderr, "file_server: %s: %s\n", word[2], strerror(errno));
+        return 1;
+    }
+    for (int k = 0; k < SEATS; k++) {
+        pthread_mutex_init(&seats[k].reading, NULL);
+        pthread_mutex_init(&seats[k].device, NULL);
+        pthread_mutex_init(&seats[k].writing, NULL);
+    }
+    accept_clients(listener);
     return 1;
 }

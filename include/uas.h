@@ -15,7 +15,8 @@
  * Each part with a handle is called through a door: one function, uas_device_call and its likes, with a struct that has the number of
  * the call, what goes in and what comes out. The functions below a door are easier to use: each makes one call of it.
  *
- * What the caller must uphold; all else is tested and answered by a fault:
+ * What the caller must uphold; all else is tested and answered by a fault. An archive of bindings/archive --checked tests what it can of 1, 3
+ * and 4 too: null pointers, and handles that are of another kind, closed or in another thread's call. It ends the program at each.
  *
  *   1. No pointer is null, but that of a handle given to its free, and, where the length beside it is 0, the bytes or data of a call on
  *      a handle. A door, a codec, a new and an open want an address also for no bytes, whatever stands there. A pointer is aligned for
@@ -29,6 +30,7 @@
  *      taken by each new and each open, and for the data of uas_controller_lend, uas_driver_submit and uas_bus_submit alone.
  *   6. A call finds 64 KiB of stack. None is made from a signal handler, nor in the child of a fork of a program with threads.
  *   7. A bool is 0 or 1.
+ *   8. The program is one of x86-64, as the archive is.
  *
  * Sections are those of xHCI 1.2, of INCITS 471 (UAS), and of SPC, SBC and SAM by name. */
 #ifndef UAS_H
@@ -150,7 +152,7 @@ enum uas_fault {
     /* the controller over a caller's memory (uas_xhci.h) */
     UAS_XHCI_MANY = 160,    /* more regions than a call takes */
     UAS_XHCI_WRAPS = 161,   /* a region that goes past the last address */
-    UAS_XHCI_OVERLAP = 162, /* an address is in two regions */
+    UAS_XHCI_OVERLAP = 162, /* an address, or a byte of the caller's memory, is in two regions */
     UAS_XHCI_NULL = 163     /* a region whose bytes are a null pointer */
 };
 

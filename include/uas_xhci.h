@@ -37,9 +37,12 @@ enum {
 };
 
 /* A region of memory that is lent for a call: `length` bytes from an address on, as the driver's rings and pointers name it. What crosses
- * from one region into another that begins at its end is read and written as if they were one; a region of no bytes is none. Nobody else
- * writes them during the call: where a guest's processors do, a read may have bytes of two moments, so the controller reads each TRB,
- * context and information unit once and decides on that copy. */
+ * from one region into another that begins at its end is read and written as if they were one; a region of no bytes is none. No byte of the
+ * caller's memory is in two regions.
+ *
+ * What is proved of a call is so where nobody else writes these bytes meanwhile. A guest's processors may: a read then has bytes of one moment
+ * or of two. So the sources read each TRB, context and information unit once into a copy and decide on that. That the compiler keeps to one read
+ * isn't proved; what was tried of it is in docs/LIBRARY.md. */
 struct uas_region {
     uint64_t address;
     uint8_t *bytes;
@@ -138,18 +141,20 @@ uint8_t uas_xhci_work(uas_xhci *xhci, const struct uas_region *regions, size_t c
 uint8_t uas_xhci_work_noting(uas_xhci *xhci, const struct uas_region *regions, size_t count, struct uas_xhci_turn *turn,
                              struct uas_range *written, size_t room);
 
-/* The same, of which both make one call: the regions' bytes are no null pointers.
+/* The same, of which both make one call: the regions' bytes are no null pointers, and no two regions have a byte of them in common.
  * Faults: UAS_XHCI_MANY, UAS_XHCI_WRAPS, UAS_XHCI_OVERLAP. */
 uint8_t uas_xhci_take_turn(uas_xhci *xhci, struct uas_xhci_turn *turn, struct uas_region *regions, size_t count, struct uas_range *written,
                            size_t room);
 
 /* What the next step lacks, for a caller who can't lend all of a guest's memory: the first range that it may read or write of which a byte
- * isn't lent, or one of length 0. Copy that range in and ask again, until the length is 0; then call uas_xhci_work with a budget of 1 over
- * these copies, and write them back. A range that the guest has no memory for can't be copied in: take the step without it.
+ * isn't lent, or one of length 0. Copy that range in and ask again, until the length is 0; then call uas_xhci_work_noting with a budget of 1
+ * over these copies, and write back the ranges that it notes and nothing beside them: there the guest may have written since, as its next TRB.
+ * Where turn->lost is 1 all copies have to be written back, so give it room enough. A range that the guest has no memory for can't be copied
+ * in: take the step without it.
  * Faults: those of uas_xhci_work. */
 uint8_t uas_xhci_wants(uas_xhci *xhci, const struct uas_region *regions, size_t count, struct uas_range *wanted);
 
-/* The same, which makes that call: the regions' bytes are no null pointers.
+/* The same, which makes that call, with regions as of uas_xhci_take_turn.
  * Faults: UAS_XHCI_MANY, UAS_XHCI_WRAPS, UAS_XHCI_OVERLAP. */
 uint8_t uas_xhci_look(uas_xhci *xhci, struct uas_range *wanted, struct uas_region *regions, size_t count);
 

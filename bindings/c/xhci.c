@@ -43,19 +43,45 @@ struct lent {
     size_t count;
 };
 
-/* False where a region's bytes are a null pointer. */
-static bool lend(struct lent *lent, const struct uas_region *regions, size_t count)
+static bool share_bytes(const struct uas_region *one, const struct uas_region *other)
+{
+    uintptr_t first = (uintptr_t)one->bytes, second = (uintptr_t)other->bytes;
+    return first < second ? second - first < one->length : first - second < other->length;
+}
+
+static bool any_share_bytes(const struct lent *lent)
+{
+    for (size_t i = 1; i < lent->count; i++)
+        for (size_t j = 0; j < i; j++)
+            if (share_bytes(&lent->regions[i], &lent->regions[j]))
+                return true;
+    return false;
+}
+
+/* The first fault of regions of which some share bytes: these the library may not see. It tells the faults of all others. */
+static uint8_t fault_of_shared(const struct lent *lent)
+{
+    if (lent->count > UAS_XHCI_REGIONS)
+        return UAS_XHCI_MANY;
+    for (size_t i = 0; i < lent->count; i++)
+        if (lent->regions[i].length - 1 > UINT64_MAX - lent->regions[i].address)
+            return UAS_XHCI_WRAPS;
+    return UAS_XHCI_OVERLAP;
+}
+
+/* Lends regions; the fault where the library isn't asked. */
+static uint8_t lend(struct lent *lent, const struct uas_region *regions, size_t count)
 {
     lent->count = 0;
     for (size_t i = 0; i < count; i++) {
         if (regions[i].length == 0)
             continue;
         if (regions[i].bytes == NULL)
-            return false;
+            return UAS_XHCI_NULL;
         if (lent->count <= UAS_XHCI_REGIONS)
             lent->regions[lent->count++] = regions[i];
     }
-    return true;
+    return any_share_bytes(lent) ? fault_of_shared(lent) : UAS_OK;
 }
 
 uint8_t uas_xhci_work_noting(uas_xhci *xhci, const struct uas_region *regions, size_t count, struct uas_xhci_turn *turn, struct uas_range *written,
@@ -63,9 +89,8 @@ uint8_t uas_xhci_work_noting(uas_xhci *xhci, const struct uas_region *regions, s
 {
     struct lent lent;
     struct uas_range none;
-    if (!lend(&lent, regions, count))
-        return UAS_XHCI_NULL;
-    return uas_xhci_take_turn(xhci, turn, lent.regions, lent.count, room > 0 ? written : &none, room);
+    uint8_t fault = lend(&lent, regions, count);
+    return fault != UAS_OK ? fault : uas_xhci_take_turn(xhci, turn, lent.regions, lent.count, room > 0 ? written : &none, room);
 }
 
 uint8_t uas_xhci_work(uas_xhci *xhci, const struct uas_region *regions, size_t count, uint32_t budget, uint32_t *steps, bool *more)
@@ -82,7 +107,8 @@ uint8_t uas_xhci_work(uas_xhci *xhci, const struct uas_region *regions, size_t c
 uint8_t uas_xhci_wants(uas_xhci *xhci, const struct uas_region *regions, size_t count, struct uas_range *wanted)
 {
     struct lent lent;
-    return lend(&lent, regions, count) ? uas_xhci_look(xhci, wanted, lent.regions, lent.count) : UAS_XHCI_NULL;
+    uint8_t fault = lend(&lent, regions, count);
+    return fault != UAS_OK ? fault : uas_xhci_look(xhci, wanted, lent.regions, lent.count);
 }
 
 bool uas_xhci_interrupt(uas_xhci *xhci)

@@ -1,6 +1,7 @@
 /* uas_xhci_work for a caller who lends copies alone. Before each step it asks what that lacks, copies the grains of the guest's memory that this
- * touches, and asks again; behind the step it writes them back. What would be more regions than a call takes is copied whole instead; a range
- * of which nothing more is there is left out. With WORK_OVER_COPIES every call of uas_xhci_work is one of copied_work. */
+ * touches, and asks again; behind the step it writes back what the step wrote, or all where that isn't known. What would be more regions than a
+ * call takes is copied whole instead; a range of which nothing more is there is left out. With WORK_OVER_COPIES every call of uas_xhci_work is one
+ * of copied_work. */
 #ifndef COPIED_WORK_H
 #define COPIED_WORK_H
 
@@ -8,11 +9,17 @@
 #include <stdlib.h>
 #include <string.h>
 
-/* Bytes of a grain. */
+/* Bytes of a grain, and how many ranges a step has room to note. */
+enum { MOST_NOTED = 64 };
 static uint64_t grain = 4096;
+static size_t note_room = MOST_NOTED;
 
-/* How many ranges were copied and how many bytes that were, how many ranges weren't there, and how many steps had all. */
-static uint64_t ranges_copied, bytes_copied, ranges_absent, steps_crowded;
+/* What the guest's processors do between a step over copies and what is written back. */
+static void (*meanwhile)(void);
+
+/* How many ranges were copied and how many bytes that were, how many ranges weren't there, how many steps had all, and of how many isn't known
+ * what they wrote. */
+static uint64_t ranges_copied, bytes_copied, ranges_absent, steps_crowded, steps_lost;
 
 /* The guest's memory, and room for a copy of each region of it. */
 static const struct uas_region *guest;
@@ -131,11 +138,30 @@ static void lend_runs(struct uas_region *lent)
     }
 }
 
-static void write_back(void)
+/* Writes back what a run has of a range. */
+static void put_back(const struct run *run, const struct uas_range *range)
 {
+    uint64_t from = range->address - (guest[run->region].address + run->from), bytes = run->to - run->from, skipped = 0;
+    if (from >= bytes) {
+        skipped = -from;
+        from = 0;
+    }
+    if (skipped >= range->length)
+        return;
+    bytes = bytes - from < range->length - skipped ? bytes - from : range->length - skipped;
+    memcpy(guest[run->region].bytes + run->from + from, room[run->region] + run->from + from, bytes);
+}
+
+/* Beside what was written a copy may be older than what the guest has there by now. */
+static void write_back(const struct uas_xhci_turn *turn, const struct uas_range *written)
+{
+    steps_lost += turn->lost;
     for (size_t i = 0; i < run_count; i++) {
-        const struct run *run = &runs[i];
-        memcpy(guest[run->region].bytes + run->from, room[run->region] + run->from, run->to - run->from);
+        struct uas_range all = { guest[runs[i].region].address + runs[i].from, runs[i].to - runs[i].from };
+        for (size_t k = 0; k < turn->noted && turn->lost == 0; k++)
+            put_back(&runs[i], &written[k]);
+        if (turn->lost != 0)
+            put_back(&runs[i], &all);
     }
 }
 
@@ -143,7 +169,8 @@ static void write_back(void)
 static uint8_t copied_step(uas_xhci *xhci, uint32_t *steps, bool *more)
 {
     struct uas_region lent[UAS_XHCI_REGIONS];
-    struct uas_range wanted;
+    struct uas_range wanted, written[MOST_NOTED];
+    struct uas_xhci_turn turn = { .budget = 1 };
     uint8_t fault = UAS_OK;
     run_count = 0;
     do {
@@ -151,9 +178,15 @@ static uint8_t copied_step(uas_xhci *xhci, uint32_t *steps, bool *more)
         fault = uas_xhci_wants(xhci, lent, run_count, &wanted);
     } while (fault == UAS_OK && wanted.length > 0 && copy_range(&wanted));
     if (fault == UAS_OK)
-        fault = uas_xhci_work(xhci, lent, run_count, 1, steps, more);
-    write_back();
-    return fault;
+        fault = uas_xhci_work_noting(xhci, lent, run_count, &turn, written, note_room);
+    if (fault != UAS_OK)
+        return fault;
+    if (meanwhile != NULL)
+        meanwhile();
+    write_back(&turn, written);
+    *steps = turn.steps;
+    *more = turn.more != 0;
+    return UAS_OK;
 }
 
 static uint8_t copied_work(uas_xhci *xhci, const struct uas_region *regions, size_t count, uint32_t budget, uint32_t *steps, bool *more)

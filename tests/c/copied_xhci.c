@@ -49,6 +49,7 @@ static void work(uint32_t budget)
 {
     static const uint32_t grains[] = { 1, 16, PAGE };
     grain = grains[draw(3)];
+    note_room = draw(4) ? MOST_NOTED : draw(3);
     while (budget-- > 0 && step())
         ;
 }
@@ -175,6 +176,6 @@ int main(int words, char **word)
     printf("%llu register writes, %llu steps, %llu events, %llu requests, %llu answers, %llu host errors\n", (unsigned long long)writes,
            (unsigned long long)steps_taken, (unsigned long long)events, (unsigned long long)requests, (unsigned long long)moves,
            (unsigned long long)failures);
-    printf("%llu ranges copied of %llu bytes, %llu that weren't there, all for %llu steps\n", (unsigned long long)ranges_copied,
-           (unsigned long long)bytes_copied, (unsigned long long)ranges_absent, (unsigned long long)steps_crowded);
+    printf("%llu ranges copied of %llu bytes, %llu that weren't there, all for %llu steps, and written back of %llu\n", (unsigned long long)ranges_copied,
+           (unsigned long long)bytes_copied, (unsigned long long)ranges_absent, (unsigned long long)steps_crowded, (unsigned long long)steps_lost);
 }

@@ -77,14 +77,23 @@ int __wrap_fdatasync(int number)
     return 0;
 }
 
-static int opened(const char *folder, const char *name, off_t length)
+static int opened(const char *path)
+{
+    int number = open(path, O_RDWR | O_CREAT, 0600);
+    if (number < 0)
+        fail("no file can be made", 0);
+    return number;
+}
+
+/* The disk's file, of zeros; whether this file system has one of that length. */
+static bool open_cache(const char *folder, const char *name, uint64_t blocks)
 {
     char path[4096];
     snprintf(path, sizeof path, "%s/%s", folder, name);
-    int number = open(path, O_RDWR | O_CREAT, 0600);
-    if (number < 0 || ftruncate(number, length) != 0)
-        fail("no file can be made", 0);
-    return number;
+    close(opened(path));
+    if (open_image(&image, path) != IMAGE_GOOD || ftruncate(image.file, 0) != 0)
+        fail("no cache", 0);
+    return ftruncate(image.file, (off_t)(blocks * UAS_BLOCK_BYTES)) == 0;
 }
 
 /* ---- The disk, and its host ---- */
@@ -215,11 +224,10 @@ static uint64_t kill_once(const char *folder, uint32_t *least)
     static uint8_t bytes[PART];
     if (pipe(ends) != 0)
         fail("no pipe", 0);
-    file = opened(folder, "cache", 0);
-    if (ftruncate(file, (off_t)DISK_BLOCKS * UAS_BLOCK_BYTES) != 0)
+    if (!open_cache(folder, "cache", DISK_BLOCKS))
         fail("no cache", 0);
     for (off_t part = 0; part < PARTS; part++)
-        if (pread(medium, bytes, PART, part * PART) != PART || __real_pwrite(file, bytes, PART, part * PART) != PART)
+        if (pread(medium, bytes, PART, part * PART) != PART || __real_pwrite(image.file, bytes, PART, part * PART) != PART)
             fail("no cache", (uint64_t)part);
     uint32_t most = 1 + below(60);
     pid_t process = fork();
@@ -244,7 +252,7 @@ static uint64_t kill_once(const char *folder, uint32_t *least)
     }
     waitpid(process, NULL, 0);
     close(ends[0]);
-    close(file);
+    close_image(&image);
     look(least);
     return count;
 }
@@ -253,7 +261,9 @@ static void kill_often(const char *folder, unsigned long times)
 {
     uint32_t least[DISK_TAGS + 1] = { 0 };
     uint64_t count = 0;
-    medium = opened(folder, "medium", 0);
+    char path[4096];
+    snprintf(path, sizeof path, "%s/medium", folder);
+    medium = opened(path);
     if (ftruncate(medium, (off_t)DISK_BLOCKS * UAS_BLOCK_BYTES) != 0)
         fail("no medium", 0);
     for (unsigned long i = 0; i < times; i++)
@@ -285,8 +295,7 @@ static unsigned long most_memory(void)
 static void measure(const char *folder)
 {
     const uint64_t far = 1ull << 31;
-    file = opened(folder, "large", 0);
-    if (ftruncate(file, (off_t)(far * UAS_BLOCK_BYTES)) != 0) {
+    if (!open_cache(folder, "large", far)) {
         printf("kills: this file system has no sparse file of 1 TiB, so memory isn't measured\n");
         return;
     }

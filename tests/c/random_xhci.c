@@ -55,7 +55,7 @@ static void noted_work(uint32_t budget)
 static void refused_work(void)
 {
     static struct uas_region many[UAS_XHCI_REGIONS + 2];
-    uint32_t steps = 1234, kind = draw(4), which = draw((uint32_t)lent);
+    uint32_t steps = 1234, kind = draw(5), which = draw((uint32_t)lent);
     bool more = true;
     uint8_t fault, byte = 0, before = (uint8_t)uas_xhci_read(xhci, 0x44, 1);
     struct uas_region extra = regions[which];
@@ -68,6 +68,11 @@ static void refused_work(void)
         extra.length = (size_t)(UINT64_MAX - extra.address) + 2 + draw(1000);
     } else if (kind == 2)
         extra.bytes = NULL;
+    else if (kind == 4) { /* some of a region's bytes at other addresses */
+        extra.address ^= 1ull << 62;
+        extra.bytes += draw((uint32_t)extra.length);
+        extra.length = 1 + draw((uint32_t)extra.length);
+    }
     memcpy(many, regions, sizeof regions);
     if (kind == 3) /* single bytes, more than a call takes */
         for (count = 0; count < UAS_XHCI_REGIONS + 1 + draw(2); count++)
@@ -76,7 +81,7 @@ static void refused_work(void)
         many[lent] = many[which];
         many[which] = extra;
     }
-    static const uint8_t faults[] = { UAS_XHCI_OVERLAP, UAS_XHCI_WRAPS, UAS_XHCI_NULL, UAS_XHCI_MANY };
+    static const uint8_t faults[] = { UAS_XHCI_OVERLAP, UAS_XHCI_WRAPS, UAS_XHCI_NULL, UAS_XHCI_MANY, UAS_XHCI_OVERLAP };
     fault = uas_xhci_work(xhci, many, count, 9, &steps, &more);
     check(fault == faults[kind], "regions weren't refused by their name");
     check(steps == 1234 && more && uas_xhci_read(xhci, 0x44, 1) == before && byte == 0, "a refused call changed something");

@@ -5,21 +5,24 @@
 //! ```
 //!
 //! It is `serve_run`'s run, or with `--file` that of `file_serve`, over the standard streams and the files of the machine, and the words of
-//! the command line. The exit status is 2 where the words are refused, 3 at a fault, 4 for want of memory, else 0.
+//! the command line. While an image is served this program has the lock on it. The exit status is 2 where the words are refused, 3 at a fault,
+//! 4 for want of memory, else 0.
 #![tactic(auto)]
 
+mod lock;
 mod words;
 
-use byte_io::{Files, HostFiles, Reader, Writer};
+use byte_io::{Files, HostFiles, Reader, Sink, Writer};
 use file_disk::HostBlocks;
 use file_serve::run_file_serve;
 use image_file::HostImage;
+use lock::{ImageLock, Locked};
 use serve_run::run_serve;
 use std::io::Write;
 use std::process::ExitCode;
 use std::{env, io};
-use uas_replay::{RunFault, WORDS_REFUSED};
-use words::asked_of;
+use uas_replay::{FAULT, RunFault, WORDS_REFUSED};
+use words::{Asked, asked_of};
 
 fn main(rt: HostRuntime) -> ExitCode {
     let words: io::Result<Vec<String>> = env::args(&rt).and_then(|words| Ok(words.collect(
@@ -44,22 +47,41 @@ fn start(rt: &HostRuntime, words: &[String]) -> u8 {
     let is_output_open = rt.stdout().write(b"").is_ok();
     let mut output = is_output_open.then(|| Writer(rt.stdout()));
     match asked_of(rt.alloc(), words) {
-        Ok(asked) if asked.in_file => run_file_serve(
+        Ok(asked) => serve_locked(rt, asked, &mut output),
+        Err(error) => words::refuse(rt.alloc(), &error, &mut output, &mut rt.stderr()),
+    }
+}
+
+/// Serves an image with the lock on it, and answers the exit status.
+fn serve_locked<O: Sink>(rt: &HostRuntime, asked: Asked, output: &mut O) -> u8 {
+    match ImageLock::take(rt, asked.file) {
+        // the lock is held until the run has ended
+        Ok(_lock) => serve(rt, asked, output),
+        Err(Locked) => {
+            let _ = writeln!(rt.stderr(), "image: locked");
+            FAULT
+        }
+    }
+}
+
+/// Serves an image by the run that is asked for, and answers the exit status.
+fn serve<O: Sink>(rt: &HostRuntime, asked: Asked, output: &mut O) -> u8 {
+    if asked.in_file {
+        return run_file_serve(
             rt.alloc(),
             &mut HostBlocks::open(rt, asked.file),
             &mut Reader(rt.reader()),
-            &mut output,
+            output,
             &mut rt.stderr(),
-        ),
-        Ok(asked) => run_serve(
-            rt.alloc(),
-            asked.bad,
-            &mut HostFiles(rt).open(asked.file),
-            &mut HostImage::open(rt, asked.file),
-            &mut Reader(rt.reader()),
-            &mut output,
-            &mut rt.stderr(),
-        ),
-        Err(error) => words::refuse(rt.alloc(), &error, &mut output, &mut rt.stderr()),
+        );
     }
+    run_serve(
+        rt.alloc(),
+        asked.bad,
+        &mut HostFiles(rt).open(asked.file),
+        &mut HostImage::open(rt, asked.file),
+        &mut Reader(rt.reader()),
+        output,
+        &mut rt.stderr(),
+    )
 }

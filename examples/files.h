@@ -1,0 +1,159 @@
+/* A file with a disk's blocks, for the examples: opened and locked, read, written, looked through and synced, by any number of threads.
+ *
+ * Linux tells of a block that it couldn't write back once for each open file. So of two threads that sync one open file a single one hears of
+ * it, and on a network's file system that may be one that writes. An image therefore has an open file that does nothing but sync, for one
+ * thread at a time. Once that has failed no write is told as synced until the image is opened anew: fdatasync would tell of nothing, and the
+ * block is lost.
+ *
+ * It stands before the C library's headers, of which it asks for more. */
+#ifndef FILES_H
+#define FILES_H
+#ifndef _GNU_SOURCE
+#define _GNU_SOURCE /* locks of an open file */
+#endif
+#include "uas_tasks.h"
+#include <errno.h>
+#include <fcntl.h>
+#include <pthread.h>
+#include <stdio.h>
+#include <string.h>
+#include <sys/file.h>
+#include <unistd.h>
+
+/* A VERIFY may be of a whole disk: so much of it is looked through at once. */
+enum { LOOK_BLOCKS = 8192 };
+
+struct image {
+    int file, syncing; /* two open files of the same: of reads and writes, and of syncs */
+    uint64_t bytes;
+    uint64_t bad;          /* a block that can't be read or written, for tests; UINT64_MAX is none */
+    pthread_mutex_t order; /* one thread syncs, and sees what came of the syncs before */
+    bool lost;             /* a block that was written may not be on the medium, whatever a sync says */
+};
+
+enum image_fault { IMAGE_GOOD, IMAGE_FAILED, IMAGE_LOCKED, IMAGE_NOT_WHOLE };
+
+static inline const char *image_fault_name(enum image_fault fault)
+{
+    return fault == IMAGE_LOCKED ? "locked" : fault == IMAGE_NOT_WHOLE ? "not of whole blocks" : fault == IMAGE_FAILED ? strerror(errno) : "good";
+}
+
+static inline void close_image(struct image *image)
+{
+    if (image->file >= 0)
+        close(image->file);
+    if (image->syncing >= 0)
+        close(image->syncing);
+    image->file = image->syncing = -1;
+}
+
+/* Locks all of an open file against whoever else locks it, until it is closed: by the lock that QEMU asks for, and by that of `uasdisk serve`. Linux
+ * has both, and neither knows of the other. */
+static inline enum image_fault lock_file(int file)
+{
+    struct flock whole = { .l_type = F_WRLCK, .l_whence = SEEK_SET };
+    if (fcntl(file, F_OFD_SETLK, &whole) == 0 && flock(file, LOCK_EX | LOCK_NB) == 0)
+        return IMAGE_GOOD;
+    return errno == EAGAIN || errno == EACCES ? IMAGE_LOCKED : IMAGE_FAILED;
+}
+
+/* Opens and locks a file. The second open file is of the first one's file, whatever stands at the path meanwhile. */
+static inline enum image_fault open_files(struct image *image, const char *path)
+{
+    char same[40];
+    image->syncing = -1;
+    image->file = open(path, O_RDWR | O_CLOEXEC);
+    if (image->file < 0)
+        return IMAGE_FAILED;
+    snprintf(same, sizeof same, "/proc/self/fd/%d", image->file);
+    image->syncing = open(same, O_RDWR | O_CLOEXEC);
+    off_t end = lseek(image->file, 0, SEEK_END);
+    if (image->syncing < 0 || end < 0)
+        return IMAGE_FAILED;
+    image->bytes = (uint64_t)end;
+    return image->bytes % UAS_BLOCK_BYTES != 0 ? IMAGE_NOT_WHOLE : lock_file(image->file);
+}
+
+/* An image of the file at a path, which nobody else has until close_image. Where there is a fault nothing is left open. */
+static inline enum image_fault open_image(struct image *image, const char *path)
+{
+    *image = (struct image){ .bad = UINT64_MAX, .order = PTHREAD_MUTEX_INITIALIZER };
+    enum image_fault fault = open_files(image, path);
+    if (fault != IMAGE_GOOD) {
+        int why = errno;
+        close_image(image);
+        errno = why;
+    }
+    return fault;
+}
+
+/* Reads or writes all of some bytes of a file. */
+static inline bool move_bytes(int file, uint8_t *bytes, size_t length, uint64_t at, bool writes)
+{
+    while (length > 0) {
+        ssize_t done = writes ? pwrite(file, bytes, length, (off_t)at) : pread(file, bytes, length, (off_t)at);
+        if (done == 0 || (done < 0 && errno != EINTR))
+            return false;
+        if (done > 0) {
+            bytes += done;
+            length -= (size_t)done;
+            at += (uint64_t)done;
+        }
+    }
+    return true;
+}
+
+/* Whether all that was written before is on the medium. */
+static inline bool sync_image(struct image *image)
+{
+    pthread_mutex_lock(&image->order);
+    image->lost = image->lost || fdatasync(image->syncing) != 0;
+    bool good = !image->lost;
+    pthread_mutex_unlock(&image->order);
+    return good;
+}
+
+/* What comes of reading a request's blocks, against its bytes where it compares. */
+static inline uint8_t look_through(struct image *image, const struct uas_request *request, const uint8_t *bytes)
+{
+    uint8_t part[16 * UAS_BLOCK_BYTES];
+    uint64_t at = request->block * UAS_BLOCK_BYTES, length = request->count * UAS_BLOCK_BYTES;
+    for (uint64_t done = 0; done < length; done += sizeof part) {
+        size_t size = length - done < sizeof part ? (size_t)(length - done) : sizeof part;
+        if (!move_bytes(image->file, part, size, at + done, false))
+            return UAS_MEDIUM_ERROR;
+        if (request->kind == UAS_REQUEST_COMPARE && memcmp(part, bytes + done, size) != 0)
+            return UAS_DIFFERS;
+    }
+    return UAS_DONE;
+}
+
+/* What is looked through at once of a VERIFY of which so many blocks are done: its caller can leave the others. */
+static inline struct uas_request next_look(const struct uas_request *request, uint64_t done)
+{
+    struct uas_request next = *request;
+    next.block += done;
+    next.count = request->count - done < LOOK_BLOCKS ? request->count - done : LOOK_BLOCKS;
+    return next;
+}
+
+/* Does a request of a disk, whose bytes are these, and returns what came of it. */
+static inline uint8_t do_request(struct image *image, const struct uas_request *request, uint8_t *bytes)
+{
+    uint64_t at = request->block * UAS_BLOCK_BYTES;
+    size_t length = (size_t)request->count * UAS_BLOCK_BYTES;
+    bool good = false;
+    if (request->kind == UAS_REQUEST_SYNC)
+        return sync_image(image) ? UAS_DONE : UAS_MEDIUM_ERROR;
+    if (image->bad - request->block < request->count)
+        return UAS_MEDIUM_ERROR;
+    if (request->kind == UAS_REQUEST_VERIFY || request->kind == UAS_REQUEST_COMPARE)
+        return look_through(image, request, bytes);
+    if (request->kind == UAS_REQUEST_READ)
+        good = move_bytes(image->file, bytes, length, at, false);
+    if (request->kind == UAS_REQUEST_WRITE)
+        good = move_bytes(image->file, bytes, length, at, true) && (!request->through || sync_image(image));
+    return good ? UAS_DONE : UAS_MEDIUM_ERROR;
+}
+
+#endif

@@ -1,0 +1,154 @@
+/* Mistakes in calls of the checked archives of the device without blocks and of the controller over a caller's memory.
+ *
+ *   misused */
+#include "misused.h"
+#include "uas_xhci.h"
+#include <pthread.h>
+
+static const struct uas_tasks_unit unit = { 64, 1, UAS_BLOCK_BYTES };
+static uas_tasks *tasks;
+static uas_xhci *xhci;
+static uint8_t bytes[UAS_BLOCK_BYTES];
+
+/* ---- Null pointers ---- */
+
+static void null_tasks(void) { uas_tasks_reset(NULL); }
+static void null_xhci(void) { uas_xhci_read(NULL, 0, 4); }
+static void null_units(void) { uas_tasks_new(NULL, 1, UAS_SET_HOST, 64, 8, &tasks); }
+static void null_made(void) { uas_xhci_new(&unit, 1, UAS_SET_HOST, 64, 8, NULL); }
+static void null_data(void) { uas_xhci_data(xhci, 1, NULL, sizeof bytes); }
+static void null_answer(void) { uas_tasks_answered(tasks, 1, UAS_DONE, NULL, sizeof bytes); }
+static void null_cdb(void)
+{
+    struct uas_tasks_target target = { .unit = unit };
+    struct uas_tasks_work work;
+    struct uas_sense sense;
+    uas_tasks_cdb_parse(NULL, &target, &work, &sense);
+}
+
+static void null_tag(void) { uas_tasks_receive(tasks, bytes, sizeof bytes, NULL); }
+
+static void null_more(void)
+{
+    uint32_t steps;
+    uas_xhci_work(xhci, NULL, 0, 1, &steps, NULL);
+}
+
+/* A door wants an address of bytes also where there are none. */
+static void null_bytes(void)
+{
+    struct uas_xhci_door door = { .call = UAS_XHCI_CALL_RESET };
+    uas_xhci_call(xhci, &door, NULL, 0);
+}
+
+static void null_regions(void)
+{
+    struct uas_range range;
+    uas_xhci_look(xhci, &range, NULL, 0);
+}
+
+/* ---- Handles ---- */
+
+static void other_kind(void) { uas_xhci_interrupt((uas_xhci *)(void *)tasks); }
+static void other_kind_freed(void) { uas_tasks_free((uas_tasks *)(void *)xhci); }
+static void no_handle(void) { uas_xhci_interrupt((uas_xhci *)(void *)bytes); }
+
+static void closed_tasks(void)
+{
+    uas_tasks_free(tasks);
+    uas_tasks_sent(tasks, 1);
+}
+
+static void closed_xhci(void)
+{
+    uas_xhci_free(xhci);
+    uas_xhci_take_message(xhci);
+}
+
+static void closed_by_close(void)
+{
+    uas_xhci_close(xhci);
+    uas_xhci_plug(xhci, true);
+}
+
+static void freed_twice(void)
+{
+    uas_xhci_free(xhci);
+    uas_xhci_free(xhci);
+}
+
+/* Others that are freed meanwhile don't hide that one is closed. */
+static void closed_before_others(void)
+{
+    uas_tasks *others[100];
+    uas_tasks_free(tasks);
+    for (int i = 0; i < 100; i++)
+        if (uas_tasks_new(&unit, 1, UAS_SET_PROFILE, 0, 1, &others[i]) != UAS_OK)
+            return;
+    for (int i = 0; i < 100; i++)
+        uas_tasks_free(others[i]);
+    uas_tasks_reset(tasks);
+}
+
+static void *reads_on(void *none)
+{
+    for (;;)
+        uas_xhci_read(xhci, 0, 4);
+    return none;
+}
+
+static void in_two_threads(void)
+{
+    pthread_t thread;
+    if (pthread_create(&thread, NULL, reads_on, NULL) == 0)
+        reads_on(NULL);
+}
+
+static const struct mistake mistakes[] = {
+    { "uas_tasks_reset: tasks is a null pointer\n", null_tasks },
+    { "uas_xhci_read: xhci is a null pointer\n", null_xhci },
+    { "uas_tasks_new: units is a null pointer\n", null_units },
+    { "uas_xhci_new: xhci is a null pointer\n", null_made },
+    { "uas_xhci_data: bytes is a null pointer\n", null_data },
+    { "uas_tasks_answered: bytes is a null pointer\n", null_answer },
+    { "uas_tasks_cdb_parse: cdb is a null pointer\n", null_cdb },
+    { "uas_tasks_receive: tag is a null pointer\n", null_tag },
+    { "uas_xhci_work: more is a null pointer\n", null_more },
+    { "uas_xhci_call: bytes is a null pointer\n", null_bytes },
+    { "uas_xhci_look: regions is a null pointer\n", null_regions },
+    { "uas_xhci_interrupt: xhci is no uas_xhci\n", other_kind },
+    { "uas_tasks_free: tasks is no uas_tasks\n", other_kind_freed },
+    { "uas_xhci_interrupt: xhci is no uas_xhci\n", no_handle },
+    { "uas_tasks_sent: tasks is closed\n", closed_tasks },
+    { "uas_xhci_take_message: xhci is closed\n", closed_xhci },
+    { "uas_xhci_plug: xhci is closed\n", closed_by_close },
+    { "uas_xhci_free: xhci is closed\n", freed_twice },
+    { "uas_tasks_reset: tasks is closed\n", closed_before_others },
+    { "uas_xhci_read: xhci is in another thread's call\n", in_two_threads },
+};
+
+/* What looks like a mistake and is none. */
+static void is_allowed(void)
+{
+    uint64_t length;
+    uint8_t phase;
+    struct uas_request request;
+    uas_xhci_free(NULL);
+    uas_tasks_free(NULL);
+    CHECK(uas_xhci_data(xhci, 1, NULL, 0) == UAS_TASKS_NOT_OUT);
+    CHECK(uas_tasks_give(tasks, 1, NULL, 0) == UAS_TASKS_PHASE);
+    CHECK(uas_tasks_next(tasks, 1, &phase, &length, &request) == UAS_OK && phase == UAS_ABSENT);
+    CHECK(uas_tasks_new(&unit, 1, 9, 64, 8, &tasks) == UAS_TASKS_SET && uas_tasks_reset(tasks) == UAS_OK);
+    uas_tasks_free(tasks);
+    uas_xhci_free(xhci);
+}
+
+int main(void)
+{
+    if (uas_tasks_new(&unit, 1, UAS_SET_HOST, 64, 8, &tasks) != UAS_OK || uas_xhci_new(&unit, 1, UAS_SET_HOST, 64, 8, &xhci) != UAS_OK)
+        return 2;
+    for (size_t i = 0; i < sizeof mistakes / sizeof mistakes[0]; i++)
+        is_told(&mistakes[i]);
+    is_allowed();
+    return tell("misused");
+}

@@ -10,6 +10,8 @@
 /* A READ or WRITE moves at most 1 MiB, which page B0h tells, and so does a transfer; a request to the files is of at most 64 KiB. */
 enum { MOST_BLOCKS = 2048, MOST_BYTES = MOST_BLOCKS * UAS_BLOCK_BYTES, CHUNK_BLOCKS = 128, CHUNK_BYTES = CHUNK_BLOCKS * UAS_BLOCK_BYTES };
 
+enum { MOST_LINES = 200 };
+
 /* A transfer that waits, of a pipe's stream. */
 struct transfer {
     bool waits;
@@ -47,10 +49,23 @@ struct server {
     struct look looks[UAS_GREATEST_TAG + 1];
     uint16_t looked; /* the tag whose VERIFY went on last */
     uint8_t configuration;
-    unsigned long commands;
+    unsigned long commands, lines;
 };
 
 static void serve(struct server *server, uint16_t tag);
+
+/* Tells a line on standard error. A peer that has many told fills no log by it, and no byte of its own reaches a terminal that isn't a character. */
+static void tell(struct server *server, const char *line)
+{
+    if (server->lines >= MOST_LINES)
+        return;
+    fputs("uas_usbredir: ", stderr);
+    for (; *line != '\0'; line++)
+        fputc(*line >= ' ' && *line <= '~' ? *line : '?', stderr);
+    fputc('\n', stderr);
+    if (++server->lines == MOST_LINES)
+        fputs("uas_usbredir: and more, which isn't told\n", stderr);
+}
 
 /* ---- Transfers ---- */
 
@@ -198,7 +213,7 @@ static void serve(struct server *server, uint16_t tag)
     }
     if (phase == UAS_ENDS)
         answer(server, tag);
-    else if (phase == UAS_ABSENT)
+    else if (phase == UAS_ABSENT && !server->moved[tag].lost)
         forget(server, tag);
 }
 
@@ -208,7 +223,7 @@ static void receive(struct server *server, const uint8_t *bytes, size_t length)
     uint16_t tag = 0;
     uint8_t fault = uas_tasks_receive(server->disk, bytes, length, &tag);
     if (fault != UAS_OK) {
-        fprintf(stderr, "uas_usbredir: %s\n", uas_fault_name(fault));
+        tell(server, uas_fault_name(fault));
         return;
     }
     if (tag == 0)

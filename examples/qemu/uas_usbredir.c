@@ -56,8 +56,10 @@ static void on_hello(void *whole, struct usb_redir_hello_header *hello)
 {
     struct server *server = whole;
     struct usb_redir_device_connect_header device = { .speed = usb_redir_speed_super, .vendor_id = 0x46f4, .product_id = 0x0003 };
-    fprintf(stderr, "uas_usbredir: %.64s, %s streams\n", hello->version,
-            usbredirparser_peer_has_cap(server->parser, usb_redir_cap_bulk_streams) ? "with" : "without");
+    char line[100];
+    snprintf(line, sizeof line, "%.64s, %s streams", hello->version,
+             usbredirparser_peer_has_cap(server->parser, usb_redir_cap_bulk_streams) ? "with" : "without");
+    tell(server, line);
     tell_endpoints(server);
     usbredirparser_send_device_connect(server->parser, &device);
 }
@@ -106,7 +108,9 @@ static void on_get_alternate(void *whole, uint64_t id, struct usb_redir_get_alt_
 static void tell_streams(struct server *server, uint64_t id, uint32_t endpoints, uint32_t streams)
 {
     struct usb_redir_bulk_streams_status_header told = { .endpoints = endpoints, .no_streams = streams, .status = usb_redir_success };
-    fprintf(stderr, "uas_usbredir: %u streams on the endpoints %08x\n", streams, endpoints);
+    char line[100];
+    snprintf(line, sizeof line, "%u streams on the endpoints %08x", streams, endpoints);
+    tell(server, line);
     usbredirparser_send_bulk_streams_status(server->parser, id, &told);
 }
 
@@ -124,9 +128,8 @@ static void on_free_streams(void *whole, uint64_t id, struct usb_redir_free_bulk
 
 static void print_log(void *whole, int level, const char *line)
 {
-    (void)whole;
     if (level <= usbredirparser_warning)
-        fprintf(stderr, "uas_usbredir: %s\n", line);
+        tell(whole, line);
 }
 
 /* As the parser wants it: -1 at the end of input, as at an error. */

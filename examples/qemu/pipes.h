@@ -10,6 +10,7 @@
 /* A READ or WRITE moves at most 1 MiB, which page B0h tells, and so does a transfer; a request to the files is of at most 64 KiB. */
 enum { MOST_BLOCKS = 2048, MOST_BYTES = MOST_BLOCKS * UAS_BLOCK_BYTES, CHUNK_BLOCKS = 128, CHUNK_BYTES = CHUNK_BLOCKS * UAS_BLOCK_BYTES };
 
+/* So many lines are told of what a peer does. */
 enum { MOST_LINES = 200 };
 
 /* A transfer that waits, of a pipe's stream. */
@@ -87,20 +88,21 @@ static void complete(struct server *server, struct transfer *transfer, uint8_t s
     memset(transfer, 0, sizeof *transfer);
 }
 
-/* Ends a tag's data transfer with what its command moved: that goes with one transfer, of its own way, as far as there is room in it. */
+/* Ends a tag's data transfer with what its command moved: that goes with one transfer, of its own way, as far as there is room in it. Any other
+ * ends with nothing. */
 static void end_data(struct server *server, uint16_t tag)
 {
     struct transfer *data = &server->data[tag];
     struct moved *moved = &server->moved[tag];
-    bool first = !moved->ended || moved->lost;
-    uint32_t count = first && moved->in == is_in(data) ? moved->count : 0;
-    if (first) {
+    uint32_t count = 0;
+    if ((!moved->ended || moved->lost) && (moved->count == 0 || moved->in == is_in(data))) {
+        count = moved->count < data->length ? moved->count : data->length;
         moved->in = is_in(data);
         moved->ended = true;
         moved->lost = false;
         moved->id = data->id;
     }
-    complete(server, data, usb_redir_success, moved->bytes, count < data->length ? count : data->length);
+    complete(server, data, usb_redir_success, moved->bytes, count);
 }
 
 /* A tag's task is gone: so is what it moved, and nobody waits for its VERIFY. */

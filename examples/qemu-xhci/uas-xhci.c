@@ -1,6 +1,6 @@
 /* A PCI device for QEMU 7.2: the library's xHCI controller with its UAS disk, over the guest's memory, with its blocks in a file.
  *
- *   -device uas-xhci,file=PATH[,msi=on|off|auto][,attached=off][,bad=BLOCK]
+ *   -device uas-xhci,file=PATH[,serial=N][,msi=on|off|auto][,attached=off][,bad=BLOCK]
  *
  * QEMU's part is the bus: configuration space, the page of registers, the guest's memory by address, an interrupt, and threads for the file.
  * Rings, contexts, commands and the disk are the library's. A register write notes what is to be done and takes a number of steps; what is
@@ -20,6 +20,7 @@
 #include "qemu/module.h"
 #include "qemu/timer.h"
 #include "qom/object.h"
+#include "files.h"
 #include "uas_xhci.h"
 
 /* A READ or WRITE moves at most 1 MiB, which page B0h tells; a request to the file is of at most 64 KiB. */
@@ -41,11 +42,13 @@ struct UasXhci {
     QEMUBH *turn;
     uas_xhci *xhci;
     uint32_t jobs; /* requests that are at work */
+    bool drains;   /* they are waited for, and none begins */
     bool attached;
     char *path;
     OnOffAuto msi;
+    uint32_t serial;
     uint64_t bad;
-    int file;
+    struct image image;
 };
 
 /* ---- Blocks: each request is a job of QEMU's thread pool ---- */
@@ -53,75 +56,43 @@ struct UasXhci {
 struct job {
     UasXhci *device;
     struct uas_request request;
+    uint64_t looked; /* blocks of a VERIFY that are looked through */
     uint8_t bytes[CHUNK_BYTES];
 };
 
-/* Reads or writes all of some bytes of a file. */
-static bool move_all(int file, uint8_t *bytes, size_t length, uint64_t at, bool writes)
-{
-    while (length > 0) {
-        ssize_t done = writes ? pwrite(file, bytes, length, (off_t)at) : pread(file, bytes, length, (off_t)at);
-        if (done == 0 || (done < 0 && errno != EINTR))
-            return false;
-        if (done > 0) {
-            bytes += done;
-            length -= (size_t)done;
-            at += (uint64_t)done;
-        }
-    }
-    return true;
-}
-
-/* What comes of reading a request's blocks a part at a time, against its bytes where it compares. */
-static int look_through(const struct job *job, uint64_t at, uint64_t length)
-{
-    uint8_t part[16 * UAS_BLOCK_BYTES];
-    for (uint64_t done = 0; done < length; done += sizeof part) {
-        size_t size = MIN(sizeof part, length - done);
-        if (!move_all(job->device->file, part, size, at + done, false))
-            return UAS_MEDIUM_ERROR;
-        if (job->request.kind == UAS_REQUEST_COMPARE && memcmp(part, job->bytes + done, size) != 0)
-            return UAS_DIFFERS;
-    }
-    return UAS_DONE;
-}
-
-/* Does a request, in a thread of the pool, and returns what came of it. */
-static int do_request(void *opaque)
+/* Does a request, or the next part of a VERIFY, in a thread of the pool, and returns what came of it. */
+static int do_job(void *opaque)
 {
     struct job *job = opaque;
-    const struct uas_request *request = &job->request;
-    int file = job->device->file;
-    uint64_t at = request->block * UAS_BLOCK_BYTES, length = request->count * UAS_BLOCK_BYTES;
-    bool good = false;
-    if (request->kind != UAS_REQUEST_SYNC && job->device->bad - request->block < request->count)
-        return UAS_MEDIUM_ERROR;
-    switch (request->kind) {
-    case UAS_REQUEST_READ:
-        good = move_all(file, job->bytes, length, at, false);
-        break;
-    case UAS_REQUEST_WRITE:
-        good = move_all(file, job->bytes, length, at, true) && (!request->through || fdatasync(file) == 0);
-        break;
-    case UAS_REQUEST_SYNC:
-        good = fdatasync(file) == 0;
-        break;
-    default:
-        return look_through(job, at, length);
-    }
-    return good ? UAS_DONE : UAS_MEDIUM_ERROR;
+    struct uas_request next = job->request.kind == UAS_REQUEST_VERIFY ? next_look(&job->request, job->looked) : job->request;
+    return do_request(&job->device->image, &next, job->bytes);
 }
 
-/* In QEMU's main loop again. The controller drops the answer itself where the task is gone. */
-static void request_done(void *opaque, int outcome)
+static void submit(struct job *job);
+
+/* In QEMU's main loop again. A VERIFY goes on, unless the device is going. The controller drops the answer itself where the task is gone. */
+static void job_done(void *opaque, int outcome)
 {
     struct job *job = opaque;
+    UasXhci *device = job->device;
     bool has_bytes = job->request.kind == UAS_REQUEST_READ && outcome == UAS_DONE;
-    uas_xhci_answered(job->device->xhci, job->request.number, (uint8_t)outcome, job->bytes,
-                      has_bytes ? job->request.count * UAS_BLOCK_BYTES : 0);
-    job->device->jobs--;
-    qemu_bh_schedule(job->device->turn);
+    if (job->request.kind == UAS_REQUEST_VERIFY && outcome == UAS_DONE) {
+        job->looked += LOOK_BLOCKS;
+        if (job->looked < job->request.count && !device->drains) {
+            submit(job);
+            return;
+        }
+        outcome = job->looked < job->request.count ? UAS_NOT_READY : UAS_DONE;
+    }
+    uas_xhci_answered(device->xhci, job->request.number, (uint8_t)outcome, job->bytes, has_bytes ? job->request.count * UAS_BLOCK_BYTES : 0);
+    device->jobs--;
+    qemu_bh_schedule(device->turn);
     g_free(job);
+}
+
+static void submit(struct job *job)
+{
+    thread_pool_submit_aio(aio_get_thread_pool(qemu_get_aio_context()), do_job, job, job_done, job);
 }
 
 static void begin_request(UasXhci *device, const struct uas_request *request)
@@ -129,10 +100,20 @@ static void begin_request(UasXhci *device, const struct uas_request *request)
     struct job *job = g_new(struct job, 1);
     job->device = device;
     job->request = *request;
+    job->looked = 0;
     if (request->kind == UAS_REQUEST_WRITE || request->kind == UAS_REQUEST_COMPARE)
         uas_xhci_data(device->xhci, request->number, job->bytes, request->count * UAS_BLOCK_BYTES);
     device->jobs++;
-    thread_pool_submit_aio(aio_get_thread_pool(qemu_get_aio_context()), do_request, job, request_done, job);
+    submit(job);
+}
+
+/* Waits for the requests that are at work, so that nothing of them lands in the file later. */
+static void drain(UasXhci *device)
+{
+    device->drains = true;
+    while (device->jobs > 0)
+        aio_poll(qemu_get_aio_context(), true);
+    device->drains = false;
 }
 
 /* ---- Memory: the machine's RAM, wherever it stands ---- */
@@ -203,6 +184,8 @@ static void turn(void *opaque)
 {
     UasXhci *device = opaque;
     struct uas_request request;
+    if (device->drains)
+        return;
     work(device);
     while (uas_xhci_next_request(device->xhci, &request))
         begin_request(device, &request);
@@ -234,28 +217,27 @@ static const MemoryRegionOps register_ops = {
 static void reset(DeviceState *state)
 {
     UasXhci *device = UAS_XHCI(state);
+    drain(device);
     uas_xhci_reset(device->xhci);
     interrupt(device);
 }
 
 /* ---- The device ---- */
 
-/* Opens the file and makes a controller with a disk of as many blocks; the serial number is the file's inode. */
+/* Opens the file and makes a controller with a disk of as many blocks. */
 static bool open_disk(UasXhci *device, Error **errp)
 {
-    struct stat told;
     if (device->path == NULL) {
         error_setg(errp, "uas-xhci: file=PATH is missing");
         return false;
     }
-    device->file = qemu_open(device->path, O_RDWR, errp);
-    if (device->file < 0)
-        return false;
-    if (fstat(device->file, &told) != 0 || told.st_size % UAS_BLOCK_BYTES != 0) {
-        error_setg(errp, "uas-xhci: %s isn't a file of whole blocks of %d bytes", device->path, UAS_BLOCK_BYTES);
+    enum image_fault wrong = open_image(&device->image, device->path);
+    if (wrong != IMAGE_GOOD) {
+        error_setg(errp, "uas-xhci: %s: %s", device->path, image_fault_name(wrong));
         return false;
     }
-    struct uas_tasks_unit unit = { (uint64_t)told.st_size / UAS_BLOCK_BYTES, (uint32_t)(told.st_ino % 100000000), UAS_BLOCK_BYTES };
+    device->image.bad = device->bad;
+    struct uas_tasks_unit unit = { device->image.bytes / UAS_BLOCK_BYTES, device->serial, UAS_BLOCK_BYTES };
     uint8_t fault = uas_xhci_new(&unit, 1, UAS_SET_HOST, MOST_BLOCKS, CHUNK_BLOCKS, &device->xhci);
     if (fault != UAS_OK)
         error_setg(errp, "uas-xhci: %s: %s", device->path, uas_fault_name(fault));
@@ -266,8 +248,17 @@ static void close_disk(UasXhci *device)
 {
     uas_xhci_free(device->xhci);
     device->xhci = NULL;
-    if (device->file >= 0)
-        close(device->file);
+    close_image(&device->image);
+}
+
+/* A bottom half, in which the device's registers can't be reached by its own hand, where this QEMU has such. */
+static QEMUBH *new_turn(UasXhci *device)
+{
+#ifdef qemu_bh_new_guarded
+    return qemu_bh_new_guarded(turn, device, &DEVICE(device)->mem_reentrancy_guard);
+#else
+    return qemu_bh_new(turn, device);
+#endif
 }
 
 /* With msi=auto a machine without messages has the pin. */
@@ -287,7 +278,7 @@ static bool add_message(UasXhci *device, Error **errp)
 static void realize(PCIDevice *parent, Error **errp)
 {
     UasXhci *device = UAS_XHCI(parent);
-    device->file = -1;
+    device->image.file = device->image.syncing = -1;
     if (!open_disk(device, errp) || !add_message(device, errp)) {
         close_disk(device);
         return;
@@ -298,7 +289,7 @@ static void realize(PCIDevice *parent, Error **errp)
     pci_config_set_interrupt_pin(parent->config, 1);
     memory_region_init_io(&device->registers, OBJECT(device), &register_ops, device, TYPE_UAS_XHCI, UAS_XHCI_REGISTER_BYTES);
     pci_register_bar(parent, 0, PCI_BASE_ADDRESS_SPACE_MEMORY | PCI_BASE_ADDRESS_MEM_TYPE_64, &device->registers);
-    device->turn = qemu_bh_new(turn, device);
+    device->turn = new_turn(device);
     device->listener = (MemoryListener){ .name = TYPE_UAS_XHCI, .commit = memory_changed };
     memory_listener_register(&device->listener, pci_get_address_space(parent));
 }
@@ -309,8 +300,7 @@ static void unrealize(PCIDevice *parent)
     UasXhci *device = UAS_XHCI(parent);
     memory_listener_unregister(&device->listener);
     device->lent = 0;
-    while (device->jobs > 0)
-        aio_poll(qemu_get_aio_context(), true);
+    drain(device);
     qemu_bh_delete(device->turn);
     msi_uninit(parent);
     close_disk(device);
@@ -328,6 +318,7 @@ static void attach(Object *object, bool attached, Error **errp)
     device->attached = attached;
     if (device->xhci == NULL)
         return;
+    drain(device);
     uas_xhci_plug(device->xhci, attached);
     qemu_bh_schedule(device->turn);
 }
@@ -339,6 +330,7 @@ static void init(Object *object)
 
 static Property properties[] = {
     DEFINE_PROP_STRING("file", UasXhci, path),
+    DEFINE_PROP_UINT32("serial", UasXhci, serial, 1), /* eight digits: a host joins two disks of one number into one */
     DEFINE_PROP_ON_OFF_AUTO("msi", UasXhci, msi, ON_OFF_AUTO_AUTO),
     DEFINE_PROP_UINT64("bad", UasXhci, bad, UINT64_MAX), /* a block that can't be read or written, for tests */
     DEFINE_PROP_END_OF_LIST(),

@@ -1,6 +1,7 @@
 /* Numbered blocks: who writes them tells which are synced, and who looks finds them.
  *
- *   synced write DISK WRITER FIRST    in the guest: blocks of 4 KiB with the numbers from FIRST on, each at its place, until the disk is gone
+ *   synced write DISK WRITER FIRST    in the guest: blocks of 4 KiB with the numbers from FIRST on, each at its place, until the disk is gone;
+ *                                     it tells nothing of those that fail
  *   synced look IMAGE                 on the host: standard input is what the guest told; each block has the number that was told last, or a
  *                                     later one
  *
@@ -34,7 +35,7 @@ static bool write_number(int disk, uint8_t *bytes, uint64_t writer, uint64_t num
     return pwrite(disk, bytes, BYTES, place(writer, number)) == BYTES;
 }
 
-/* Writes and tells until something fails. */
+/* Writes and tells until the disk is gone. */
 static int write_all(const char *name, uint64_t writer, uint64_t number)
 {
     static const int flags[WRITERS] = { O_DIRECT | O_DSYNC, O_DIRECT, 0 };
@@ -45,8 +46,14 @@ static int write_all(const char *name, uint64_t writer, uint64_t number)
         uint64_t first = number, last = number + (unsigned)rand() % MOST;
         while (number <= last && write_number(disk, bytes, writer, number))
             number++;
-        if (number <= last || (writer > 0 && fdatasync(disk) != 0))
+        bool good = number > last && (writer == 0 || fdatasync(disk) == 0);
+        number = last + 1;
+        if (!good && access(name, F_OK) != 0)
             break;
+        if (!good) {
+            usleep(100000);
+            continue;
+        }
         int length = snprintf(line, sizeof line, "guest: synced %" PRIu64 " %" PRIu64 " %" PRIu64 "\n", writer, first, last);
         if (write(1, line, (size_t)length) != length)
             break;

@@ -116,17 +116,17 @@ build() { # NAME
 
 # Builds the proved program, or that of decode or serve, and puts it into the cache.
 prove() { # [decode | serve]
-    local name of words watched=() minutes='20 to 60 minutes'
+    local name of words watched=()
     case $#:${1:-} in
         0:) name=uasdisk of='' words=(-- --version) ;;
-        1:decode) name=decode_program of=' of decode' words=() minutes='some 10 minutes' ;;
+        1:decode) name=decode_program of=' of decode' words=() ;;
         1:serve) name=serve_program of=' of serve' words=(-- --help) ;;
         *) refuse "prove takes no word, or decode or serve: './uasdisk help prove' tells more" ;;
     esac
     find_program "$name"
     if [ "$is_proved" = 1 ]; then say "proved: $found"; exit; fi
     needs_toolchain
-    say "building the proved program$of: $minutes on four processors where nothing is kept, else what changed alone"
+    say "building the proved program$of: $(minutes_of "$name") on four processors where nothing is kept, else what changed alone"
     if [ -t 2 ] && [ -x "$top/tests/progress" ]; then watched=("$top/tests/progress" --quiet "$name" --); fi
     begin "$top/crates/$name" "${watched[@]}" rt run "${words[@]}" </dev/null >&2
     finish || exit

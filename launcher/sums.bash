@@ -64,9 +64,3 @@ find_program() { # NAME..
     done
     found=
 }
-
-# Becomes the program that was found, which is told the name that its usage lines say.
-start() { # WORDS..
-    # one that couldn't be kept goes with the launcher
-    if [ -n "$room" ]; then (exec -a uasdisk "$found" "$@"); else exec -a uasdisk "$found" "$@"; fi
-}

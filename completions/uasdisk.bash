@@ -1,6 +1,6 @@
-# Completion of uasdisk for bash, written by completions/write from the program's help.
+# Completion of uasdisk for bash, written by completions/write from the texts of help/.
 _uasdisk() {
-    local word=${COMP_WORDS[COMP_CWORD]} before=${COMP_WORDS[COMP_CWORD - 1]} words= files=
+    local word=${COMP_WORDS[COMP_CWORD]} before=${COMP_WORDS[COMP_CWORD - 1]} words= files= name
     COMPREPLY=()
     case $before in
         --bad) return ;;
@@ -9,11 +9,10 @@ _uasdisk() {
         --sync) return ;;
     esac
     if [ "$COMP_CWORD" = 1 ]; then
-        COMPREPLY=($(compgen -W 'replay trace work decode make info dump fill audit draw capture serve prove many completions help --help --version' -- "$word"))
+        COMPREPLY=($(compgen -W 'replay trace work decode make info dump fill audit draw capture help serve prove many completions --help --version' -- "$word"))
         return
     fi
     case ${COMP_WORDS[1]} in
-        help) words='replay trace work decode make info dump fill audit draw capture' ;;
         replay) words='--bad -h --help' ;;
         trace) words='--bad --color -h --help' ;;
         work) words='--sync -h --help' files=1 ;;
@@ -25,12 +24,17 @@ _uasdisk() {
         audit) words='--head -h --help' files=1 ;;
         draw) words='--bad --page -h --help' ;;
         capture) words='--bad -h --help' files=1 ;;
-        serve) words='--bad --file --help' files=1 ;;
-        prove) words='' ;;
-        many) words='' files=1 ;;
-        completions) words='bash zsh fish' ;;
+        help) words='replay trace work decode make info dump fill audit draw capture serve prove many completions' ;;
+        serve) words='--bad --file -h --help' files=1 ;;
+        prove) words='-h --help decode serve' ;;
+        many) words='-h --help replay trace work decode make info dump fill audit draw capture' files=1 ;;
+        completions) words='-h --help bash zsh fish' ;;
     esac
     COMPREPLY=($(compgen -W "$words" -- "$word"))
-    if [ -n "$files" ]; then compopt -o filenames 2>/dev/null; COMPREPLY+=($(compgen -f -- "$word")); fi
+    if [ -n "$files" ]; then
+        # a name is one word, whatever stands in it
+        compopt -o filenames 2>/dev/null
+        while IFS= read -r name; do COMPREPLY+=("$name"); done < <(compgen -f -- "$word")
+    fi
 }
 complete -F _uasdisk uasdisk ./uasdisk

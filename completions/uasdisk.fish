@@ -1,4 +1,4 @@
-# Completion of uasdisk for fish, written by completions/write from the program's help.
+# Completion of uasdisk for fish, written by completions/write from the texts of help/.
 complete -c uasdisk -f
 complete -c uasdisk -n __fish_use_subcommand -a replay -d 'Reads a script from standard input and runs it on zeroed units'
 complete -c uasdisk -n '__fish_seen_subcommand_from replay' -l bad -x -d 'A block that is bad in every unit: 0 to 65535'
@@ -38,13 +38,20 @@ complete -c uasdisk -n __fish_use_subcommand -a capture -d 'Runs a script as rep
 complete -c uasdisk -n '__fish_seen_subcommand_from capture' -l bad -x -d 'A block that is bad in every unit: 0 to 65535'
 complete -c uasdisk -n '__fish_seen_subcommand_from capture' -s h -l help -d 'Print help'
 complete -c uasdisk -n '__fish_seen_subcommand_from capture' -F
-complete -c uasdisk -n __fish_use_subcommand -a serve -d 'an image as a disk for any client of NBD'
+complete -c uasdisk -n __fish_use_subcommand -a help -d 'Print this message or the help of the given subcommand(s)'
+complete -c uasdisk -n '__fish_seen_subcommand_from help' -a 'replay trace work decode make info dump fill audit draw capture serve prove many completions'
+complete -c uasdisk -n __fish_use_subcommand -a serve -d 'Serves an image as a disk over standard input and output, to any client of NBD'
 complete -c uasdisk -n '__fish_seen_subcommand_from serve' -l bad -x -d 'A block that is bad: 0 to 65535'
 complete -c uasdisk -n '__fish_seen_subcommand_from serve' -l file -d 'Leaves the blocks in the file, which may be of any length'
-complete -c uasdisk -n '__fish_seen_subcommand_from serve' -l help -d 'Print help'
+complete -c uasdisk -n '__fish_seen_subcommand_from serve' -s h -l help -d 'Print help'
 complete -c uasdisk -n '__fish_seen_subcommand_from serve' -F
-complete -c uasdisk -n __fish_use_subcommand -a prove -d 'builds the proved program, or that of decode or serve, and puts it into the cache'
-complete -c uasdisk -n __fish_use_subcommand -a many -d 'runs the words on each file of a folder as standard input; unproved, on one build for all'
+complete -c uasdisk -n __fish_use_subcommand -a prove -d 'Builds the proved program, which later calls take'
+complete -c uasdisk -n '__fish_seen_subcommand_from prove' -s h -l help -d 'Print help'
+complete -c uasdisk -n '__fish_seen_subcommand_from prove' -a 'decode serve'
+complete -c uasdisk -n __fish_use_subcommand -a many -d 'Runs a command on each file of a folder as standard input'
+complete -c uasdisk -n '__fish_seen_subcommand_from many' -s h -l help -d 'Print help'
+complete -c uasdisk -n '__fish_seen_subcommand_from many' -a 'replay trace work decode make info dump fill audit draw capture'
 complete -c uasdisk -n '__fish_seen_subcommand_from many' -F
-complete -c uasdisk -n __fish_use_subcommand -a completions -d 'prints what completes these words in bash, zsh or fish'
+complete -c uasdisk -n __fish_use_subcommand -a completions -d 'Prints what completes these words in a shell'
+complete -c uasdisk -n '__fish_seen_subcommand_from completions' -s h -l help -d 'Print help'
 complete -c uasdisk -n '__fish_seen_subcommand_from completions' -a 'bash zsh fish'

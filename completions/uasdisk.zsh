@@ -1,5 +1,5 @@
 #compdef uasdisk
-# Completion of uasdisk for zsh, written by completions/write from the program's help.
+# Completion of uasdisk for zsh, written by completions/write from the texts of help/.
 _uasdisk() {
   local -a commands
   commands=(
@@ -14,10 +14,11 @@ _uasdisk() {
     'audit:Replays a saved log and audits each client’s account in it'
     'draw:Runs a script as replay does, and draws the run as a picture (SVG)'
     'capture:Runs a script as replay does, and writes the run to a file that Wireshark reads'
-    'serve:an image as a disk for any client of NBD'
-    'prove:builds the proved program, or that of decode or serve, and puts it into the cache'
-    'many:runs the words on each file of a folder as standard input; unproved, on one build for all'
-    'completions:prints what completes these words in bash, zsh or fish'
+    'help:Print this message or the help of the given subcommand(s)'
+    'serve:Serves an image as a disk over standard input and output, to any client of NBD'
+    'prove:Builds the proved program, which later calls take'
+    'many:Runs a command on each file of a folder as standard input'
+    'completions:Prints what completes these words in a shell'
   )
   if (( CURRENT == 2 )); then
     _describe command commands
@@ -38,10 +39,11 @@ _uasdisk() {
     audit) _arguments '--head[Tell at which step of a log that was kept this checksum stands: 1 to 8 hexadecimal digits]:HEX:' '(-h --help)'{-h,--help}'[Print help]' ':LOG:_files' ;;
     draw) _arguments '--bad[A block that is bad in every unit: 0 to 65535]:LBA:' '--page[Write a page (HTML) that shows the run step by step, in place of the picture]' '(-h --help)'{-h,--help}'[Print help]' ':CLIENTS:' ':BLOCKS:' ;;
     capture) _arguments '--bad[A block that is bad in every unit: 0 to 65535]:LBA:' '(-h --help)'{-h,--help}'[Print help]' ':CLIENTS:' ':BLOCKS:' ':FILE:_files' ;;
-    serve) _arguments '--bad[A block that is bad: 0 to 65535]:LBA:' '--file[Leaves the blocks in the file, which may be of any length]' '--help[Print help]' ':FILE:_files' ;;
-    prove) _arguments ':NAME:' ;;
-    many) _arguments ':FOLDER:_files' ':WORDS:' ;;
-    completions) _arguments ':SHELL:(bash zsh fish)' ;;
+    help) _arguments ':COMMAND:(replay trace work decode make info dump fill audit draw capture serve prove many completions)' ;;
+    serve) _arguments '--bad[A block that is bad: 0 to 65535]:LBA:' '--file[Leaves the blocks in the file, which may be of any length]' '(-h --help)'{-h,--help}'[Print help]' ':FILE:_files' ;;
+    prove) _arguments '(-h --help)'{-h,--help}'[Print help]' ':PROGRAM:(decode serve)' ;;
+    many) _arguments '(-h --help)'{-h,--help}'[Print help]' ':FOLDER:_files' ':WORDS:(replay trace work decode make info dump fill audit draw capture)' ;;
+    completions) _arguments '(-h --help)'{-h,--help}'[Print help]' ':SHELL:(bash zsh fish)' ;;
   esac
 }
 compdef _uasdisk uasdisk

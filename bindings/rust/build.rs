@@ -2,6 +2,7 @@
 
 use std::env;
 use std::path::PathBuf;
+use std::process::exit;
 
 fn main() {
     println!("cargo:rerun-if-env-changed=UAS_ARCHIVE_DIR");
@@ -12,7 +13,12 @@ fn main() {
     let archive = folder.join("libuas.a");
     println!("cargo:rerun-if-changed={}", archive.display());
     if !archive.exists() {
-        println!("cargo:warning={} isn't there: bindings/archive makes it", archive.display());
+        eprintln!(
+            "{} isn't there. bindings/archive proves and makes it, in some 10 minutes where the crates below are proved and some 40 on a \
+             fresh clone and four processors; UAS_ARCHIVE_DIR names another folder that has it.",
+            archive.display()
+        );
+        exit(1);
     }
     println!("cargo:rustc-link-search=native={}", folder.display());
     println!("cargo:rustc-link-lib=static=uas");

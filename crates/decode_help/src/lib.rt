@@ -14,5 +14,7 @@ The first word of a line tells what its bytes are, in hexadecimal digits of eith
   sense BYTES                   18 bytes of fixed sense data
 Behind the line is printed what they say, or that they are refused and why. Every other line stays as it is.
 
+Exit status: 1 where a line was refused, 2 where a word is refused, 3 at a fault of a stream, 4 for want of memory, else 0.
+
 Example:
   uasdisk trace 1 100 < examples/first-reply.script | uasdisk decode";

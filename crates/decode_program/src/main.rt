@@ -10,7 +10,7 @@ ghost use Rattle.decode_program.specs.Words.{asked_by, asked_of, is_word, own_wo
 
 use byte_io::{Reader, Writer};
 use decode_help::DECODE_HELP;
-use line_colours::Painted;
+use line_colours::{Painted, takes_colours};
 use std::io::{IsTerminal, Write};
 use std::process::ExitCode;
 use std::{env, io};
@@ -99,7 +99,7 @@ fn run(rt: &HostRuntime) -> u8
 {
     // a standard output that is closed takes nothing
     let is_output_open = rt.stdout().write(b"").is_ok();
-    let is_coloured = rt.stdout().is_terminal();
+    let is_coloured = rt.stdout().is_terminal() && takes_colours(rt);
     let mut output = is_output_open.then(|| Painted::new(
         rt.alloc(),
         Writer(rt.stdout()),

@@ -3,6 +3,9 @@ ghost use Rattle.std.specs.Prelude.{◌≡◌, ◌++◌, codes, map, slice_get};
 ghost use Rattle.std.specs.String.{string_bytes};
 ghost use Rattle.line_colours.specs.When.{are_coloured, asks, is_word};
 
+use std::env;
+use std::env::VarError;
+
 /// Whether a word of the command line is there and is this one.
 #[tactic(auto, unfolding(crate::specs::When::is_word))]
 fn is_word(words: &[String], place: usize, wanted: &str) -> bool
@@ -39,4 +42,18 @@ pub fn are_coloured(words: &[String], is_terminal: bool) -> bool
     is_run
         && (asks(words, "always", "--color=always")
             || (!asks(words, "never", "--color=never") && is_terminal))
+}
+
+/// Whether a terminal takes colours, by the environment: `NO_COLOR` has no text and `TERM` is another than `dumb`.
+pub fn takes_colours(rt: &HostRuntime) -> bool {
+    let has_refused = match env::var(rt, "NO_COLOR") {
+        Ok(text) => !text.is_empty(),
+        Err(VarError::NotPresent) => false,
+        Err(_) => true,
+    };
+    let is_dumb = match env::var(rt, "TERM") {
+        Ok(text) => text.as_str() == "dumb",
+        Err(_) => false,
+    };
+    !has_refused && !is_dumb
 }

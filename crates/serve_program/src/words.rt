@@ -11,6 +11,14 @@ use uas_replay::{DONE, RunFault, WORDS_REFUSED, output_fault};
 /// The greatest number of a block that a unit can have.
 const LAST_BLOCK: u32 = MAX_BLOCKS - 1;
 
+/// What each exit status says, and an example.
+const SERVE_HELP: &str = "\
+Exit status: 2 where a word is refused, 3 at a fault of the image, of a message or of a stream, 4 for want of memory,
+else 0.
+
+Example:
+  nbdinfo -- [ examples/activated ./uasdisk serve disk.img ]";
+
 /// What is asked to be served.
 #[derive(Clone, Copy, Debug)]
 pub struct Asked<'a> {
@@ -33,6 +41,7 @@ pub fn asked_of<'a>(alloc: Global, words: &'a [String]) -> Result<Asked<'a>, Err
 
 fn command<'a>(alloc: Global) -> Result<Command<'a>, AllocError> {
     Command::new(alloc, "uasdisk")
+        .bin_name("uasdisk")?
         .about("Runs disks of many clients over USB Attached SCSI, simulated and verified")
         .subcommand_required(true)
         .arg_required_else_help(true)
@@ -42,7 +51,7 @@ fn command<'a>(alloc: Global) -> Result<Command<'a>, AllocError> {
 fn serve_command<'a>(alloc: Global) -> Result<Command<'a>, AllocError> {
     Command::new(alloc, "serve")
         .about("Serves an image as a disk over standard input and output, to any client of NBD")
-        .after_help("Example:\n  nbdinfo -- [ examples/activated ./uasdisk serve disk.img ]")
+        .after_help(SERVE_HELP)
         .arg(
             Arg::new(alloc, "FILE")
                 .required(true)

@@ -6,8 +6,9 @@ ghost use Rattle.uas_words.specs.CommandLine.{replay_app, top_app, trace_app, wi
 
 use crate::arguments::{flag, log, number, number_option, option, required};
 use crate::helps::{
-    AUDIT_HELP, BYTE_HELP, COLOR_HELP, DRAW_HELP, HEAD_HELP, LBA_HELP, LOG_HELP, PAGE_HELP,
-    ROUNDS_HELP, SCRIPT_HELP, SYNC_HELP, WORK_HELP,
+    AUDIT_HELP, BYTE_HELP, CAPTURE_HELP, COLOR_HELP, DRAW_HELP, DUMP_HELP, FILL_HELP, HEAD_HELP,
+    INFO_HELP, LBA_HELP, LOG_HELP, MAKE_HELP, PAGE_HELP, PROGRAM_HELP, ROUNDS_HELP, SCRIPT_HELP,
+    SYNC_HELP, TRACE_HELP, WORK_HELP,
 };
 use crate::{LAST_BLOCK, MAX_BYTE, MAX_ROUNDS, MOST_CLIENTS, MOST_MOVED, VERSION};
 use clap::Command;
@@ -19,7 +20,8 @@ use uas_profile::{CLIENTS_HELP, MAX_BLOCKS};
 pub(crate) fn command<'a>(alloc: Global) -> Result<Command<'a>, AllocError>
     ensures { IfOk result (λ command. app_of command ≡ program_app) }
 {
-    let command = with(top_command(alloc), replay_command(alloc))?;
+    let top = top_command(alloc)?;
+    let command = with(top, replay_command(alloc))?;
     let command = with(command, trace_command(alloc))?;
     let command = with(command, work_command(alloc))?;
     let command = with(command, decode_command(alloc))?;
@@ -44,15 +46,17 @@ fn with<'a>(
     command.subcommand(sub?)
 }
 
-/// The command without its subcommands.
-fn top_command<'a>(alloc: Global) -> Command<'a>
-    ensures { app_of result ≡ top_app }
+/// The command without its subcommands. Its name in usage lines is the launcher's, whatever file it is run from.
+fn top_command<'a>(alloc: Global) -> Result<Command<'a>, AllocError>
+    ensures { IfOk result (λ command. app_of command ≡ top_app) }
 {
-    Command::new(alloc, "uasdisk")
+    let command = Command::new(alloc, "uasdisk")
         .about("Runs disks of many clients over USB Attached SCSI, simulated and verified")
         .version(VERSION)
+        .after_help(PROGRAM_HELP)
         .subcommand_required(true)
-        .arg_required_else_help(true)
+        .arg_required_else_help(true);
+    command.bin_name("uasdisk")
 }
 
 fn replay_command<'a>(alloc: Global) -> Result<Command<'a>, AllocError>
@@ -69,7 +73,7 @@ fn trace_command<'a>(alloc: Global) -> Result<Command<'a>, AllocError>
 {
     let command = Command::new(alloc, "trace")
         .about("Runs a script as replay does, and prints each step with the bytes that it wrote")
-        .after_help("Example:\n  uasdisk trace 1 100 < examples/first-reply.script");
+        .after_help(TRACE_HELP);
     add_disks(alloc, command)?.arg(option(alloc, "color", "WHEN", COLOR_HELP))
 }
 
@@ -128,7 +132,7 @@ fn make_command<'a>(alloc: Global) -> Result<Command<'a>, AllocError>
 {
     Command::new(alloc, "make")
         .about("Makes an image file of zeroed blocks")
-        .after_help("Example:\n  uasdisk make disk.image 100")
+        .after_help(MAKE_HELP)
         .arg(required(
             alloc,
             "FILE",
@@ -149,7 +153,7 @@ fn info_command<'a>(alloc: Global) -> Result<Command<'a>, AllocError>
 {
     Command::new(alloc, "info")
         .about("Tells how many blocks an image file has, and the number of the last")
-        .after_help("Example:\n  uasdisk info disk.image")
+        .after_help(INFO_HELP)
         .arg(required(
             alloc,
             "FILE",
@@ -162,7 +166,7 @@ fn dump_command<'a>(alloc: Global) -> Result<Command<'a>, AllocError>
 {
     let command = Command::new(alloc, "dump")
         .about("Reads blocks of an image file by one READ, and prints their bytes")
-        .after_help("Example:\n  uasdisk dump disk.image 0 1");
+        .after_help(DUMP_HELP);
     add_extent(alloc, command)
 }
 
@@ -171,7 +175,7 @@ fn fill_command<'a>(alloc: Global) -> Result<Command<'a>, AllocError>
 {
     let command = Command::new(alloc, "fill")
         .about("Fills blocks of an image file with a byte by one WRITE, and writes the file")
-        .after_help("Example:\n  uasdisk fill disk.image 0 1 255");
+        .after_help(FILL_HELP);
     add_extent(alloc, command)?.arg(number(alloc, "BYTE", 0, MAX_BYTE, BYTE_HELP))
 }
 
@@ -203,7 +207,7 @@ fn capture_command<'a>(alloc: Global) -> Result<Command<'a>, AllocError>
 {
     let command = Command::new(alloc, "capture")
         .about("Runs a script as replay does, and writes the run to a file that Wireshark reads")
-        .after_help("Example:\n  uasdisk capture 2 100 run.pcapng < examples/two-clients.script");
+        .after_help(CAPTURE_HELP);
     add_disks(alloc, command)?.arg(required(
         alloc,
         "FILE",

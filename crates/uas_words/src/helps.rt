@@ -4,6 +4,11 @@ pub(crate) const LBA_HELP: &str = "The number of the first block: 0 to 429496729
 
 pub(crate) const BYTE_HELP: &str = "The byte that the blocks are filled with: 0 to 255";
 
+/// What each exit status of the program says.
+pub(crate) const PROGRAM_HELP: &str = "\
+Exit status: 0 done; 1 a command ended other than GOOD or was refused, a READ of work brought other bytes, an audit of
+work is false or decode refused a line; 2 a word is refused; 3 a fault of a script, a file or a stream; 4 want of memory.";
+
 /// What a script has, and an example.
 pub(crate) const SCRIPT_HELP: &str = "\
 A script has a line for each command, task management or step; words stand between spaces, and # begins a remark:
@@ -18,8 +23,52 @@ A script has a line for each command, task management or step; words stand betwe
   drain                                     all steps that are due
 A drain follows by itself at the end.
 
+Exit status: 1 where a command ended other than GOOD or was refused, 2 where a word is refused, 3 at a fault of the
+script or of a stream, 4 for want of memory, else 0.
+
 Example:
   uasdisk replay 2 100 < examples/two-clients.script";
+
+pub(crate) const TRACE_HELP: &str = "\
+Exit status: 1 where a command ended other than GOOD or was refused, 2 where a word is refused, 3 at a fault of the
+script or of a stream, 4 for want of memory, else 0.
+
+Example:
+  uasdisk trace 1 100 < examples/first-reply.script";
+
+pub(crate) const MAKE_HELP: &str = "\
+Exit status: 2 where a word is refused, 3 at a fault of the file or of a stream, 4 for want of memory, else 0.
+
+Example:
+  uasdisk make disk.image 100";
+
+pub(crate) const INFO_HELP: &str = "\
+Exit status: 2 where a word is refused, 3 where the file is no image or at a fault of it or of a stream, 4 for want of
+memory, else 0.
+
+Example:
+  uasdisk info disk.image";
+
+pub(crate) const DUMP_HELP: &str = "\
+Exit status: 1 where the READ ended other than GOOD, 2 where a word is refused, 3 where the file is no image or at a
+fault of it or of a stream, 4 for want of memory, else 0.
+
+Example:
+  uasdisk dump disk.image 0 1";
+
+pub(crate) const FILL_HELP: &str = "\
+Exit status: 1 where the WRITE ended other than GOOD, 2 where a word is refused, 3 where the file is no image or at a
+fault of it or of a stream, 4 for want of memory, else 0.
+
+Example:
+  uasdisk fill disk.image 0 1 255";
+
+pub(crate) const CAPTURE_HELP: &str = "\
+Exit status: 1 where a command ended other than GOOD or was refused, 2 where a word is refused, 3 at a fault of the
+script, of the file or of a stream, 4 for want of memory, else 0.
+
+Example:
+  uasdisk capture 2 100 run.pcapng < examples/two-clients.script";
 
 pub(crate) const ROUNDS_HELP: &str =
     "How many rounds each client takes, a WRITE and a READ of the same 8 blocks: 1 to 1000";
@@ -40,6 +89,9 @@ With LOG a second line follows of each client, by number, and then the log is sa
 With --sync the log is written while the clients work, so that LOG has its beginning whatever ends the program. With
 --sync 1 a client has a reply only once the step that gave it is synced.
 
+Exit status: 1 where a command ended other than GOOD, a READ brought other bytes or an audit is false, 2 where a word is
+refused, 3 at a fault of the log's file or of a stream, 4 for want of memory or a full log, else 0.
+
 Examples:
   uasdisk work 4 3
   uasdisk work 4 3 work.log
@@ -53,6 +105,9 @@ pub(crate) const AUDIT_HELP: &str = "\
 A log that work kept by --sync has behind each record a checksum of all that came before. With --head the last line is
   head HEX at step N                        HEX, in 8 digits, stands first behind N of its steps; 0: behind its head
 Where no whole record has that checksum, and of a log without any, the fault is OtherHead.
+
+Exit status: 0 where each client's audit is true, 2 where a word is refused, 3 where the log is no true one or at a fault
+of a file, 4 for want of memory.
 
 Examples:
   uasdisk audit work.log
@@ -68,6 +123,9 @@ pub(crate) const PAGE_HELP: &str =
 pub(crate) const DRAW_HELP: &str = "\
 The page needs a browser and nothing else: it shows each step's bytes with what they say, and the rings, stream
 contexts, events, tasks and replies behind it. Its keys are told on it.
+
+Exit status: 1 where a command ended other than GOOD or was refused, 2 where a word is refused, 3 at a fault of the
+script or of a stream, 4 for want of memory, else 0.
 
 Examples:
   uasdisk draw 3 100 < examples/abort.script > abort.svg

@@ -56,8 +56,8 @@ pub(crate) const MAX_BYTE: u32 = u8::MAX as u32;
 
 const _: () = prove!(MAX_BYTE == 255);
 
-/// The version of the program, and the logic of the prover that it was proved with.
-pub const VERSION: &str = "0.1.0, proved with Rattle's logic dac8208d650f15bf";
+/// The version of the program and of its libraries for C and Rust, and the logic of the prover that it was proved with.
+pub const VERSION: &str = "1.0.0, proved with Rattle's logic dac8208d650f15bf";
 
 /// What the program is to do.
 #[derive(Clone, Copy, Debug, PartialEq, Eq)]

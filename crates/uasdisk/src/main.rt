@@ -17,7 +17,7 @@
 //!                                                        runs a script and writes the run to a file that Wireshark reads
 //! ```
 //!
-//! With `--color always`, and on a terminal without `--color never`, the lines of `trace` and `decode` are in colours (`line_colours`).
+//! With `--color always`, and on a terminal that takes colours without `--color never`, the lines of `trace` and `decode` are in colours (`line_colours`).
 //! With `--bad LBA` the block of this number can neither be read nor written, in every unit that has it. With LOG each client of `work`
 //! is audited, and the log of their bus is saved in that file, or with `--sync N` kept there while it grows. With `--head HEX`
 //! `audit` tells behind which step of a kept log the checksum HEX stands.
@@ -51,7 +51,7 @@ use edges::{Faults, Output};
 use hints::{Ended, say_hint};
 use host::MachineFiles;
 use kept::HostKeptFiles;
-use line_colours::{Painted, are_coloured};
+use line_colours::{Painted, are_coloured, takes_colours};
 use program::run_words;
 use script_hints::Kept;
 use std::cell::Cell;
@@ -92,7 +92,7 @@ fn start<R: Threads + Wait + Clock + Sync>(rt: &HostRuntime, threads: &R, words:
     let mut faults = Faults::new(rt.stderr(), &is_unread);
     // A file that is opened takes the place of a standard output that is closed, and would get its text.
     let is_output_open = rt.stdout().write(b"").is_ok();
-    let is_coloured = are_coloured(words, rt.stdout().is_terminal());
+    let is_coloured = are_coloured(words, rt.stdout().is_terminal() && takes_colours(rt));
     let mut output = is_output_open.then(|| Painted::new(
         rt.alloc(),
         Output::new(rt.stdout(), &is_unread, &written),

@@ -6,7 +6,7 @@ use Rattle.uas_words.proofs.commands.command.Goals as goal
 
 pub returns : goal.returns
 returns c =
-    let one = c.in_ok-command.ensures replay_app c.replay_command.ensures refl ∙ ap (λ (a : App). with_subcommand a replay_app.top) c.top_command.ensures in
+    let one = c.in_ok-command.ensures replay_app c.replay_command.ensures refl ∙ ap (λ (a : App). with_subcommand a replay_app.top) c.in_ok-top.ensures in
     let two = c.in_ok-command-2.ensures trace_app c.trace_command.ensures refl ∙ ap (λ (a : App). with_subcommand a trace_app.top) one in
     let three = c.in_ok-command-3.ensures work_app c.work_command.ensures refl ∙ ap (λ (a : App). with_subcommand a work_app.top) two in
     let four = c.in_ok-command-4.ensures decode_app c.decode_command.ensures refl ∙ ap (λ (a : App). with_subcommand a decode_app.top) three in

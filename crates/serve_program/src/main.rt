@@ -1,21 +1,18 @@
 //! The program `serve`: an image as a disk for any client of NBD, over standard input and output.
 //!
 //! ```text
-//! uasdisk serve FILE [--bad LBA | --file]
+//! uasdisk serve FILE [--bad LBA]
 //! ```
 //!
-//! It is `serve_run`'s run, or with `--file` that of `file_serve`, over the standard streams and the files of the machine, and the words of
-//! the command line. While an image is served this program has the lock on it. The exit status is 2 where the words are refused, 3 at a fault,
-//! 4 for want of memory, else 0.
+//! It is `serve_run`'s run over the standard streams and a file of the machine, and the words of the command line. While the file is served
+//! this program has the lock on it. The exit status is 2 where the words are refused, 3 at a fault, 4 for want of memory, else 0.
 #![tactic(auto)]
 
 mod lock;
 mod words;
 
-use byte_io::{Files, HostFiles, Reader, Sink, Writer};
+use byte_io::{Reader, Sink, Writer};
 use file_disk::HostBlocks;
-use file_serve::run_file_serve;
-use image_file::HostImage;
 use lock::{ImageLock, Locked};
 use serve_run::run_serve;
 use std::io::Write;
@@ -56,32 +53,16 @@ fn start(rt: &HostRuntime, words: &[String]) -> u8 {
 fn serve_locked<O: Sink>(rt: &HostRuntime, asked: Asked, output: &mut O) -> u8 {
     match ImageLock::take(rt, asked.file) {
         // the lock is held until the run has ended
-        Ok(_lock) => serve(rt, asked, output),
+        Ok(_lock) => run_serve(
+            rt.alloc(),
+            &mut HostBlocks::open(rt, asked.file, asked.bad.map(u64::from)),
+            &mut Reader(rt.reader()),
+            output,
+            &mut rt.stderr(),
+        ),
         Err(Locked) => {
             let _ = writeln!(rt.stderr(), "image: locked");
             FAULT
         }
     }
-}
-
-/// Serves an image by the run that is asked for, and answers the exit status.
-fn serve<O: Sink>(rt: &HostRuntime, asked: Asked, output: &mut O) -> u8 {
-    if asked.in_file {
-        return run_file_serve(
-            rt.alloc(),
-            &mut HostBlocks::open(rt, asked.file),
-            &mut Reader(rt.reader()),
-            output,
-            &mut rt.stderr(),
-        );
-    }
-    run_serve(
-        rt.alloc(),
-        asked.bad,
-        &mut HostFiles(rt).open(asked.file),
-        &mut HostImage::open(rt, asked.file),
-        &mut Reader(rt.reader()),
-        output,
-        &mut rt.stderr(),
-    )
 }

@@ -5,11 +5,7 @@ use clap::error::ErrorKind;
 use clap::{Arg, ArgAction, ArgMatches, Command, Error};
 use std::alloc::{AllocError, Global};
 use std::io::Write;
-use uas_profile::MAX_BLOCKS;
 use uas_replay::{DONE, RunFault, WORDS_REFUSED, output_fault};
-
-/// The greatest number of a block that a unit can have.
-const LAST_BLOCK: u32 = MAX_BLOCKS - 1;
 
 /// What each exit status says, and an example.
 const SERVE_HELP: &str = "\
@@ -25,8 +21,6 @@ pub struct Asked<'a> {
     pub file: &'a str,
     /// The block that is bad, where the disk has it.
     pub bad: Option<u32>,
-    /// Whether the blocks stay in the file, which may be of any length.
-    pub in_file: bool,
 }
 
 /// Reads the words, the program's own name first. An error has the text to print, help among them.
@@ -63,15 +57,14 @@ fn serve_command<'a>(alloc: Global) -> Result<Command<'a>, AllocError> {
                 .long("bad")
                 .value_name("LBA")
                 .action(ArgAction::Set)
-                .value_parser(clap::value_parser!(u32).range(0..=i64::from(LAST_BLOCK)))
-                .help("A block that is bad: 0 to 65535"),
+                .value_parser(clap::value_parser!(u32).range(0..=i64::from(u32::MAX)))
+                .help("A block that is bad: 0 to 4294967295"),
         )?
         .arg(
             Arg::new(alloc, "file")
                 .long("file")
                 .action(ArgAction::SetTrue)
-                .conflicts_with("bad")?
-                .help("Leaves the blocks in the file, which may be of any length"),
+                .help("Changes nothing: blocks always stay in the file"),
         )
 }
 
@@ -82,7 +75,6 @@ fn found<'a>(matches: &ArgMatches<'a>) -> Option<Asked<'a>> {
     Some(Asked {
         file,
         bad: words.get_one::<u32>("bad"),
-        in_file: words.get_flag("file"),
     })
 }
 

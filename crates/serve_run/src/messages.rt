@@ -1,6 +1,6 @@
 //! A request, as it is read or refused, and the bytes behind it and behind its reply.
 
-ghost use Rattle.std.specs.Prelude.{◌≡◌, ◌≤◌, ◌++◌, length, take, drop, Ok, None, IfOk, IfSome};
+ghost use Rattle.std.specs.Prelude.{◌≡◌, ◌≤◌, ◌++◌, false, length, take, drop, Ok, None, IfOk, IfSome};
 ghost use Rattle.std.specs.Io.KnownBytes.{Appends, Consumes};
 ghost use Rattle.nbd.specs.Streams.{Gave};
 ghost use Rattle.nbd.specs.Transmission.{reply_text, request_text};

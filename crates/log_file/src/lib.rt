@@ -1,7 +1,7 @@
 //! A log, saved in a file of its own.
 //!
-//! [`save_file`] creates the file of a name, writes the log's text (`log_text` in log_text specs/Text.antt) and closes it, so that the
-//! name has the whole text or what it had before. The text is never in memory as a whole: its parts wait for the file until there are
+//! [`begin_file`] creates the file of a name, so that a fault of it is told before there is a log; [`save_begun`] writes the log's text
+//! (`log_text` in log_text specs/Text.antt) and closes it, so that the name has the whole text or what it had before. The text is never in memory as a whole: its parts wait for the file until there are
 //! enough of them, and then go out together.
 //!
 //! ```text
@@ -17,4 +17,4 @@
 mod pieces;
 mod saving;
 
-pub use saving::save_file;
+pub use saving::{begin_file, save_begun};

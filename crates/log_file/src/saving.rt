@@ -1,5 +1,5 @@
 //! The file of a log.
-ghost use Rattle.std.specs.Prelude.{◌≡◌, Some, Err, IsTrue, OnOk, OnErr};
+ghost use Rattle.std.specs.Prelude.{◌≡◌, Some, Err, [], IsTrue, IfOk, OnOk, OnErr};
 ghost use Rattle.std.specs.Io.KnownBytes.{Appends};
 ghost use Rattle.log_text.specs.Kept.{IsSavable, saved_log};
 ghost use Rattle.log_text.specs.Text.{log_text};
@@ -9,21 +9,46 @@ use byte_io::{Files, Sink, StreamFault};
 use std::alloc::Global;
 use uas_log::Log;
 
-/// Creates the file of a name anew, of a log's text. Asks a log within the limits of the version whose clients have as many tags. At a
-/// fault every file holds what it held.
-pub fn save_file<F: Files>(
+/// Begins the file of a name, empty. It takes the place of one that is there once a log was saved in it.
+pub fn begin_file<F: Files>(files: &mut F, name: &str) -> Result<F::Writer, StreamFault>
+    ensures bytes { IfOk result (λ file. IsTrue (F.tells files.old) → F.Writer.written file ≡ Some []) }
+    ensures there { IfOk result (λ file. IsTrue (F.Writer.is_there file)) }
+    ensures file { IfOk result (λ file. IsTrue (F.Writer.is_of file name.now)) }
+    ensures fails { IfOk result (λ file. IsTrue (F.Writer.can_fail file) → IsTrue (F.can_fail files.old name.now)) }
+    ensures created { OnOk result (IsTrue (F.can_create files.old name.now)) }
+    ensures fault { result ≡ Err StreamFault.File → IsTrue (F.can_fail files.old name.now) }
+    ensures told { OnOk result (F.tells files.new ≡ F.tells files.old) }
+    ensures same { OnOk result (F.can_fail files.new ≡ F.can_fail files.old) }
+    ensures held { IsTrue (F.tells files.old) → F.holds files.new ≡ F.holds files.old }
+{
+    let mut file = files.create(name);
+    match file.write(b"") {
+        Ok(()) => Ok(file),
+        Err(fault) => {
+            files.give_up(file);
+            Err(fault)
+        }
+    }
+}
+
+/// Writes a log's text into the file of a name that was begun. Asks a log within the limits of the version whose clients have as many
+/// tags. At a fault every file holds what it held.
+pub fn save_begun<F: Files>(
     alloc: Global,
     log: &Log,
     files: &mut F,
     name: &str,
+    mut file: F::Writer,
 ) -> Result<(), StreamFault>
-    requires { IsSavable log.now }
+    requires savable { IsSavable log.now }
+    requires bytes { IsTrue (F.tells files.old) → F.Writer.written file ≡ Some [] }
+    requires there { IsTrue (F.Writer.is_there file) }
+    requires file { IsTrue (F.Writer.is_of file name.now) }
+    requires fails { IsTrue (F.Writer.can_fail file) → IsTrue (F.can_fail files.old name.now) }
     ensures text { OnOk result (IsTrue (F.tells files.old) → F.holds files.new name.now ≡ Some (log_text (saved_log log.now))) }
-    ensures created { OnOk result (IsTrue (F.can_create files.old name.now)) }
     ensures fault { result ≡ Err StreamFault.File → IsTrue (F.can_fail files.old name.now) }
     ensures held { OnErr result (IsTrue (F.tells files.old) → F.holds files.new ≡ F.holds files.old) }
 {
-    let mut file = files.create(name);
     match write_log(alloc, log, &mut file) {
         Ok(()) => files.close(file),
         Err(fault) => {

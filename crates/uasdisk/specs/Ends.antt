@@ -13,7 +13,7 @@ use Rattle.disk_image.specs.Alone.{blocks_at, dump_lines, dumped, filled, filled
 use Rattle.block_unit.specs.BlockMaps.{imaged}
 use Rattle.uas_trace.specs.Traced.{Traces}
 use Rattle.work_run.specs.WorkEnds.{Told}
-use Rattle.work_run.specs.SavedEnds.{CantBeSaved, Saved, Unsaved}
+use Rattle.work_run.specs.SavedEnds.{NotSaved, Saved, Unsaved}
 use Rattle.uas_decode.specs.Runs.{Begins, Decodes}
 use Rattle.audit_run.specs.Ends.{IsRefused, Tells as AuditTells}
 use Rattle.draw_run.specs.Draws.{AppendsDrawn}
@@ -89,7 +89,7 @@ pub record SavedWorkEnds (clients rounds : ℕ) (file : Text) (host : Host) (old
   pub saved : status ≤ 1 → Saved clients rounds host.tells (new.holds file) old.output new.output status
   pub created : status ≤ 1 → IsTrue (host.can_create file)
   pub fault : status ≡ 3 → IsTrue host.output_can_fail
-      ⊎ Unsaved clients rounds (CantBeSaved (host.file_can_fail file)) old.output new.output
+      ⊎ NotSaved clients rounds (host.file_can_fail file) old.output new.output
   pub memory : status ≡ 4 → Keeps old.output new.output ⊎ Unsaved clients rounds (λ log. ⊤) old.output new.output
   pub held : 3 ≤ status → IsTrue host.tells → new.holds ≡ old.holds
   pub input : new.input ≡ old.input

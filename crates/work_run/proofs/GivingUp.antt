@@ -24,7 +24,7 @@ pub gives_up_after : (clients rounds : ℕ) (can_file_fail can_fail : Bool) (old
     → SavedGivesUp clients rounds can_file_fail can_fail old new fault
 gives_up_after clients rounds can_file_fail can_fail old new log status LogFull audited up = absurd up
 gives_up_after clients rounds can_file_fail can_fail old new log status LogFile audited up =
-    record { log = log; status = status; audited = audited; reason = up }
+    inr (record { log = log; status = status; audited = audited; reason = up })
 gives_up_after clients rounds can_file_fail can_fail old new log status (Run (Image fault)) audited up = up
 gives_up_after clients rounds can_file_fail can_fail old new log status (Run ImageFile) audited up = up
 gives_up_after clients rounds can_file_fail can_fail old new log status (Run (Script fault)) audited up = up

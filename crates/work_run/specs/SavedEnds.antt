@@ -4,6 +4,8 @@ use Rattle.std.specs.Io.KnownBytes.{Keeps}
 use Rattle.uas_log.specs.declared.Log.{Log}
 use Rattle.log_text.specs.Kept.{saved_log}
 use Rattle.log_text.specs.Text.{log_text}
+use Rattle.byte_io.specs.declared.streams.StreamFault.{StreamFault}
+use Rattle.byte_io.specs.declared.streams.StreamFault.TheVariants.{NoMemory as NoMemoryThere, File}
 use Rattle.uas_replay.specs.declared.status.RunFault.TheVariants.{Image, ImageFile, Script, ScriptFile, NoMemory}
 use Rattle.work_run.specs.declared.faults.WorkFault.{WorkFault}
 use Rattle.work_run.specs.declared.faults.WorkFault.TheVariants.{LogFull, LogFile, Run}
@@ -27,6 +29,15 @@ pub record Unsaved (clients rounds : ℕ) (because : Log → Type 0) (old new : 
 abbrev pub CantBeSaved : Bool → Log → Type 0
 CantBeSaved can_fail log = IsTrue can_fail
 
+-- Nothing is saved: the file couldn't be begun, before anything was printed, or the log couldn't be saved behind its lines.
+abbrev pub NotSaved : ℕ → ℕ → Bool → Option (List ℕ) → Option (List ℕ) → Type 0
+NotSaved clients rounds can_fail old new = (IsTrue can_fail × Keeps old new) ⊎ Unsaved clients rounds (CantBeSaved can_fail) old new
+
+-- what a fault of the log's file is told as
+abbrev pub file_fault : StreamFault → WorkFault
+file_fault NoMemoryThere = Run NoMemory
+file_fault File = LogFile
+
 -- the saving of a log gives up
 abbrev pub SavingGivesUp : Log → Bool → WorkFault → Type 0
 SavingGivesUp log can_fail LogFull = ⊥
@@ -37,11 +48,11 @@ SavingGivesUp log can_fail (Run (Script fault)) = ⊥
 SavingGivesUp log can_fail (Run ScriptFile) = ⊥
 SavingGivesUp log can_fail (Run NoMemory) = ⊤
 
--- A run gives up as one without a file does, with nothing printed or at a fault of standard output; or once its lines were printed, at
--- the file or for want of memory.
+-- A run gives up as one without a file does, with nothing printed or at a fault of standard output; or at the file, with nothing printed or
+-- once its lines were; or once they were for want of memory.
 abbrev pub SavedGivesUp : ℕ → ℕ → Bool → Bool → Option (List ℕ) → Option (List ℕ) → WorkFault → Type 0
 SavedGivesUp clients rounds can_file_fail can_fail old new LogFull = Keeps old new
-SavedGivesUp clients rounds can_file_fail can_fail old new LogFile = Unsaved clients rounds (CantBeSaved can_file_fail) old new
+SavedGivesUp clients rounds can_file_fail can_fail old new LogFile = NotSaved clients rounds can_file_fail old new
 SavedGivesUp clients rounds can_file_fail can_fail old new (Run (Image fault)) = ⊥
 SavedGivesUp clients rounds can_file_fail can_fail old new (Run ImageFile) = ⊥
 SavedGivesUp clients rounds can_file_fail can_fail old new (Run (Script fault)) = ⊥

@@ -1,11 +1,11 @@
 //! The run `work` with the file of a log: each client is audited once the threads have ended, and the log is saved.
 
-ghost use Rattle.std.specs.Prelude.{◌≡◌, ◌≤◌, ◌⊎◌, ⊤, Some, false, map, IsTrue, IfOk, IfErr, OnOk, OnErr};
+ghost use Rattle.std.specs.Prelude.{◌≡◌, ◌≤◌, ◌⊎◌, ⊤, Some, [], false, map, IsTrue, IfOk, IfErr, OnOk, OnErr};
 ghost use Rattle.std.specs.Io.KnownBytes.{Keeps};
 ghost use Rattle.byte_io.specs.Disks.{AreClients};
 ghost use Rattle.log_text.specs.Kept.{IsSavable, saved_log};
 ghost use Rattle.log_text.specs.Text.{log_text};
-ghost use Rattle.work_run.specs.SavedEnds.{CantBeSaved, Saved, SavedGivesUp, SavingGivesUp, Unsaved};
+ghost use Rattle.work_run.specs.SavedEnds.{NotSaved, Saved, SavedGivesUp, SavingGivesUp, Unsaved, file_fault};
 ghost use Rattle.uas_work.specs.Booked.{first_unit};
 ghost use Rattle.work_run.specs.WorkEnds.{work_units};
 
@@ -15,7 +15,7 @@ use crate::run::{Worked, millis_since, ran, release};
 use crate::telling::tell;
 use booked_limits::booked_logs_fit;
 use byte_io::{Files, Sink, StreamFault};
-use log_file::save_file;
+use log_file::{begin_file, save_begun};
 use std::alloc::Global;
 use std::io::Write;
 use std::rt::Clock;
@@ -27,8 +27,8 @@ use uas_replay::RunFault;
 use uas_work::Finished;
 
 /// The run `work` that saves its log: as `run_work`, but behind the lines of the clients it prints for each of them whether its audit
-/// is true, and then saves the log in the file of a name. It answers the exit status: 1 where an audit is false too, 3 at a fault of
-/// the file too.
+/// is true, and then saves the log in the file of a name. A file that can't be begun is told of before a client works. It answers the
+/// exit status: 1 where an audit is false too, 3 at a fault of the file too.
 pub fn run_saved_work<R: Threads + Wait + Clock + Sync, F: Files, O: Sink, W: Write>(
     rt: &R,
     alloc: Global,
@@ -45,7 +45,7 @@ pub fn run_saved_work<R: Threads + Wait + Clock + Sync, F: Files, O: Sink, W: Wr
         (O.written output.old) (O.written output.new) result }
     ensures created { result ≤ 1 → IsTrue (F.can_create files.old file.now) }
     ensures fault { result ≡ 3 → IsTrue (O.can_fail output.old)
-        ⊎ Unsaved load.clients load.rounds (CantBeSaved (F.can_fail files.old file.now)) (O.written output.old) (O.written output.new) }
+        ⊎ NotSaved load.clients load.rounds (F.can_fail files.old file.now) (O.written output.old) (O.written output.new) }
     ensures memory { result ≡ 4 → Keeps (O.written output.old) (O.written output.new)
         ⊎ Unsaved load.clients load.rounds (λ log. ⊤) (O.written output.old) (O.written output.new) }
     ensures held { 3 ≤ result → IsTrue (F.tells files.old) → F.holds files.new ≡ F.holds files.old }
@@ -79,18 +79,25 @@ fn work<R: Threads + Wait + Clock + Sync, F: Files, O: Sink>(
         (O.written output.old) (O.written output.new)) }
     ensures held { OnErr result (IsTrue (F.tells files.old) → F.holds files.new ≡ F.holds files.old) }
 {
+    let begun = match begin_file(files, file) {
+        Ok(begun) => begun,
+        Err(fault) => return Err(file_fault(fault)),
+    };
     let start = Instant::now(rt).ok();
     let finished = match ran(rt, alloc, load) {
         Ok(finished) => finished,
-        Err(fault) => return Err(fault),
+        Err(fault) => {
+            files.give_up(begun);
+            return Err(fault);
+        }
     };
     let millis = start.and_then(|start| millis_since(rt, &start));
-    let saved = told_and_saved(alloc, load, &finished, millis, files, file, output);
+    let saved = told_and_saved(alloc, load, &finished, millis, files, file, begun, output);
     release(finished);
     saved
 }
 
-/// Prints what came of a run, and saves its log.
+/// Prints what came of a run, and saves its log in a file that was begun.
 fn told_and_saved<F: Files, O: Sink>(
     alloc: Global,
     load: Load,
@@ -98,14 +105,18 @@ fn told_and_saved<F: Files, O: Sink>(
     millis: Option<u64>,
     files: &mut F,
     file: &str,
+    begun: F::Writer,
     output: &mut O,
 ) -> Result<Worked, WorkFault>
     requires clients { AreClients load.clients }
     requires units { finished.now.booked.log.units ≡ map first_unit (work_units load.clients) }
+    requires bytes { IsTrue (F.tells files.old) → F.Writer.written begun ≡ Some [] }
+    requires there { IsTrue (F.Writer.is_there begun) }
+    requires file { IsTrue (F.Writer.is_of begun file.now) }
+    requires fails { IsTrue (F.Writer.can_fail begun) → IsTrue (F.can_fail files.old file.now) }
     ensures status { IfOk result (λ worked. worked.status ≤ 1) }
     ensures saved { IfOk result (λ worked. Saved load.clients load.rounds (F.tells files.old) (F.holds files.new file.now)
         (O.written output.old) (O.written output.new) worked.status) }
-    ensures created { OnOk result (IsTrue (F.can_create files.old file.now)) }
     ensures fault { IfErr result (SavedGivesUp load.clients load.rounds (F.can_fail files.old file.now) (O.can_fail output.old)
         (O.written output.old) (O.written output.new)) }
     ensures held { OnErr result (IsTrue (F.tells files.old) → F.holds files.new ≡ F.holds files.old) }
@@ -113,10 +124,13 @@ fn told_and_saved<F: Files, O: Sink>(
     let commands = finished.booked.log().replies.len();
     let status = match tell(alloc, load, finished, true, output) {
         Ok(status) => status,
-        Err(fault) => return Err(fault),
+        Err(fault) => {
+            files.give_up(begun);
+            return Err(fault);
+        }
     };
     booked_logs_fit(&finished.booked);
-    match save(alloc, finished.booked.log(), files, file) {
+    match save(alloc, finished.booked.log(), files, file, begun) {
         Ok(()) => Ok(Worked {
             status,
             commands,
@@ -126,17 +140,35 @@ fn told_and_saved<F: Files, O: Sink>(
     }
 }
 
-/// Saves a log that has a text in the file of a name. At a fault every file holds what it held.
-fn save<F: Files>(alloc: Global, log: &Log, files: &mut F, file: &str) -> Result<(), WorkFault>
-    requires { IsSavable log.now }
+/// Saves a log that has a text in a file that was begun. At a fault every file holds what it held.
+fn save<F: Files>(
+    alloc: Global,
+    log: &Log,
+    files: &mut F,
+    file: &str,
+    begun: F::Writer,
+) -> Result<(), WorkFault>
+    requires savable { IsSavable log.now }
+    requires bytes { IsTrue (F.tells files.old) → F.Writer.written begun ≡ Some [] }
+    requires there { IsTrue (F.Writer.is_there begun) }
+    requires file { IsTrue (F.Writer.is_of begun file.now) }
+    requires fails { IsTrue (F.Writer.can_fail begun) → IsTrue (F.can_fail files.old file.now) }
     ensures text { OnOk result (IsTrue (F.tells files.old) → F.holds files.new file.now ≡ Some (log_text (saved_log log.now))) }
-    ensures created { OnOk result (IsTrue (F.can_create files.old file.now)) }
     ensures fault { IfErr result (SavingGivesUp log.now (F.can_fail files.old file.now)) }
     ensures held { OnErr result (IsTrue (F.tells files.old) → F.holds files.new ≡ F.holds files.old) }
 {
-    match save_file(alloc, log, files, file) {
+    match save_begun(alloc, log, files, file, begun) {
         Ok(()) => Ok(()),
-        Err(StreamFault::NoMemory) => Err(WorkFault::Run(RunFault::NoMemory)),
-        Err(StreamFault::File) => Err(WorkFault::LogFile),
+        Err(fault) => Err(file_fault(fault)),
+    }
+}
+
+/// A fault of the log's file.
+fn file_fault(fault: StreamFault) -> WorkFault
+    ensures { result ≡ file_fault fault }
+{
+    match fault {
+        StreamFault::NoMemory => WorkFault::Run(RunFault::NoMemory),
+        StreamFault::File => WorkFault::LogFile,
     }
 }

@@ -68,7 +68,7 @@ memory_ends decode host old new status four kept files input = record {
   memory = λ is. begins-kept old.input old.output new.output kept;
   files = files;
 }
-memory_ends (make file blocks) host old new status four kept files input = record {
+memory_ends (make file blocks replaces) host old new status four kept files input = record {
   statuses = inr (inr four);
   image = λ low. absurd (omega (arith, four, low));
   told = λ low. absurd (omega (arith, four, low));

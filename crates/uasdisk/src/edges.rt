@@ -9,26 +9,26 @@ use std::io::{ErrorKind, Write};
 /// How many bytes of a line are kept, to find what to say of it.
 const LINE_BYTES: usize = 64;
 
+/// What is noted of standard output.
+#[derive(Drop)]
+pub struct Noted {
+    /// Whether whoever read it is gone.
+    pub is_unread: Cell<bool>,
+    /// Why it couldn't be written.
+    pub failure: Cell<Option<ErrorKind>>,
+}
+
 /// Standard output. It notes that whoever read it is gone, and why it couldn't be written.
 #[derive(Drop)]
 pub struct Output<'a, W: Write> {
     writer: W,
-    is_unread: &'a Cell<bool>,
-    failure: &'a Cell<Option<ErrorKind>>,
+    noted: &'a Noted,
 }
 
 impl<'a, W: Write> Output<'a, W> {
-    /// The output of a writer, noted in two cells.
-    pub fn new(
-        writer: W,
-        is_unread: &'a Cell<bool>,
-        failure: &'a Cell<Option<ErrorKind>>,
-    ) -> Output<'a, W> {
-        Output {
-            writer,
-            is_unread,
-            failure,
-        }
+    /// The output of a writer, of which this is noted.
+    pub fn new(writer: W, noted: &'a Noted) -> Output<'a, W> {
+        Output { writer, noted }
     }
 
     fn write_whole(&mut self, bytes: &[u8]) -> io::Result<()> {
@@ -53,9 +53,9 @@ impl<W: Write> Sink for Output<'_, W> {
             Ok(()) => Ok(()),
             Err(error) => {
                 if error.kind() == ErrorKind::BrokenPipe {
-                    self.is_unread.set(true);
+                    self.noted.is_unread.set(true);
                 }
-                self.failure.set(Some(error.kind()));
+                self.noted.failure.set(Some(error.kind()));
                 Err(StreamFault::File)
             }
         }

@@ -86,15 +86,15 @@ fn said<W: Write>(ended: &Ended<'_>, faults: &mut W) -> io::Result<()> {
         return Ok(());
     }
     if ended.status == FAULT {
-        if let Some(kind) = ended.output {
-            return writeln!(faults, "  standard output: {}", reason(kind));
-        }
         if let Some(Failure { word, kind }) = ended.file {
             let name = ended
                 .words
                 .get(word)
                 .map_or("the file", |name| name.as_str());
             return writeln!(faults, "  {name}: {}", reason(kind));
+        }
+        if let Some(kind) = ended.output {
+            return writeln!(faults, "  standard output: {}", reason(kind));
         }
     }
     if script_hints::say(ended.script, line, faults)? {

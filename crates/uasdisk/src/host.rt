@@ -27,20 +27,20 @@ pub struct Failure {
 
 /// The files of the machine, and the words that name them. What they hold isn't known.
 #[derive(Drop)]
-pub struct MachineFiles<'a> {
-    rt: &'a HostRuntime,
-    words: &'a [String],
+pub struct MachineFiles<'r, 'w, 'f> {
+    rt: &'r HostRuntime,
+    words: &'w [String],
     keeps: bool,
-    failure: &'a Cell<Option<Failure>>,
+    failure: &'f Cell<Option<Failure>>,
 }
 
-impl<'a> MachineFiles<'a> {
+impl<'r, 'w, 'f> MachineFiles<'r, 'w, 'f> {
     /// The files that words name, with a cell for the first that fails.
     pub fn new(
-        rt: &'a HostRuntime,
-        words: &'a [String],
-        failure: &'a Cell<Option<Failure>>,
-    ) -> MachineFiles<'a> {
+        rt: &'r HostRuntime,
+        words: &'w [String],
+        failure: &'f Cell<Option<Failure>>,
+    ) -> MachineFiles<'r, 'w, 'f> {
         MachineFiles {
             rt,
             words,
@@ -57,13 +57,13 @@ impl<'a> MachineFiles<'a> {
     }
 }
 
-impl Keeping for MachineFiles<'_> {
+impl Keeping for MachineFiles<'_, '_, '_> {
     fn keep(&mut self, keeps: bool) {
         self.keeps = keeps;
     }
 }
 
-impl Files for MachineFiles<'_> {
+impl Files for MachineFiles<'_, '_, '_> {
     type Reader = Option<Reader<File>>;
 
     type Writer = Option<HostWriter>;

@@ -47,7 +47,7 @@ ghost use Rattle.uas_words.specs.CommandLine.{asked_for, refusals, MayEndRun, En
 ghost use Rattle.uasdisk.specs.Ends.{HoldsOfOne};
 
 use byte_io::Reader;
-use edges::{Faults, Output};
+use edges::{Faults, Noted, Output};
 use hints::{Ended, say_hint};
 use host::MachineFiles;
 use kept::HostKeptFiles;
@@ -86,16 +86,19 @@ fn start<R: Threads + Wait + Clock + Sync>(rt: &HostRuntime, threads: &R, words:
     ensures refused { refusals (map string_bytes words.now) ≢ [] → (result ≡ 4)
         ⊎ HoldsOfOne (λ kind. EndsRefused kind result) (refusals (map string_bytes words.now)) }
 {
-    let is_unread = Cell::new(false);
-    let (file, written) = (Cell::new(None), Cell::new(None));
+    let file = Cell::new(None);
+    let noted = Noted {
+        is_unread: Cell::new(false),
+        failure: Cell::new(None),
+    };
     let is_watched = rt.stderr().is_terminal();
-    let mut faults = Faults::new(rt.stderr(), &is_unread);
+    let mut faults = Faults::new(rt.stderr(), &noted.is_unread);
     // A file that is opened takes the place of a standard output that is closed, and would get its text.
-    let is_output_open = rt.stdout().write(b"").is_ok();
+    let is_output_open = is_output_open(rt, &noted);
     let is_coloured = are_coloured(words, rt.stdout().is_terminal() && takes_colours(rt));
     let mut output = is_output_open.then(|| Painted::new(
         rt.alloc(),
-        Output::new(rt.stdout(), &is_unread, &written),
+        Output::new(rt.stdout(), &noted),
         is_coloured,
     ));
     let mut input = Kept::new(rt.alloc(), Reader(rt.reader()), is_watched);
@@ -110,16 +113,27 @@ fn start<R: Threads + Wait + Clock + Sync>(rt: &HostRuntime, threads: &R, words:
         &mut faults,
         is_watched,
     );
-    if is_watched && !is_unread.get() {
+    if is_watched && !noted.is_unread.get() {
         let ended = Ended {
             words,
             status,
             line: faults.last_line(),
             script: input.text(),
             file: file.get(),
-            output: written.get(),
+            output: noted.failure.get(),
         };
         say_hint(&ended, &mut rt.stderr());
     }
     status
+}
+
+/// Whether standard output can be written; else it is noted why it can't.
+fn is_output_open(rt: &HostRuntime, noted: &Noted) -> bool {
+    match rt.stdout().write(b"") {
+        Ok(_) => true,
+        Err(error) => {
+            noted.failure.set(Some(error.kind()));
+            false
+        }
+    }
 }

@@ -165,10 +165,10 @@ fn is_near(one: &[u8], other: &[u8]) -> bool {
     if one.len() < 2 {
         return false;
     }
-    let front = alike(one.iter(), other.iter());
+    let front = alike_at_front(one, other);
     let one = one.get(front..).unwrap_or(b"");
     let other = other.get(front..).unwrap_or(b"");
-    let back = alike(one.iter().rev(), other.iter().rev());
+    let back = alike_at_back(one, other);
     let one = one.get(..one.len().saturating_sub(back)).unwrap_or(b"");
     let other = other.get(..other.len().saturating_sub(back)).unwrap_or(b"");
     match (one, other) {
@@ -178,7 +178,26 @@ fn is_near(one: &[u8], other: &[u8]) -> bool {
     }
 }
 
-/// How many of two rows of bytes are alike from their beginning.
-fn alike<'a, A: Iterator<Item = &'a u8>, B: Iterator<Item = &'a u8>>(one: A, other: B) -> usize {
-    one.zip(other).take_while(|(a, b)| a == b).count()
+/// How many bytes of two words are alike from their beginning on.
+fn alike_at_front(one: &[u8], other: &[u8]) -> usize {
+    let mut count: usize = 0;
+    for (mine, theirs) in one.iter().zip(other.iter()) {
+        if mine != theirs {
+            return count;
+        }
+        count = count.saturating_add(1);
+    }
+    count
+}
+
+/// How many bytes of two words are alike up to their end.
+fn alike_at_back(one: &[u8], other: &[u8]) -> usize {
+    let mut count: usize = 0;
+    for (mine, theirs) in one.iter().rev().zip(other.iter().rev()) {
+        if mine != theirs {
+            return count;
+        }
+        count = count.saturating_add(1);
+    }
+    count
 }

@@ -1,11 +1,21 @@
 -- A run that saves its log and gives up.
-use Rattle.std.proofs.Common.{ℕ, Bool, true, List, Option, inl, inr}
+use Rattle.std.proofs.Common.{◌≡◌, ℕ, Bool, true, List, Option, inl, inr, refl}
+use Rattle.std.specs.Prelude.{IsTrue}
+use Rattle.std.proofs.KnownBytes.{Keeps-refl}
+use Rattle.byte_io.specs.declared.streams.StreamFault.{StreamFault}
+use Rattle.byte_io.specs.declared.streams.StreamFault.TheVariants.{NoMemory as NoMemoryThere, File}
 use Rattle.uas_log.specs.declared.Log.{Log}
 use Rattle.uas_replay.specs.declared.status.RunFault.TheVariants.{Image, ImageFile, Script, ScriptFile, NoMemory}
 use Rattle.work_run.specs.declared.faults.WorkFault.{WorkFault}
 use Rattle.work_run.specs.declared.faults.WorkFault.TheVariants.{LogFull, LogFile, Run}
-use Rattle.work_run.specs.SavedEnds.{SavedGivesUp, SavingGivesUp}
+use Rattle.work_run.specs.SavedEnds.{SavedGivesUp, SavingGivesUp, file_fault}
 use Rattle.work_run.specs.WorkEnds.{Audited, GivesUp, KeptGivesUp}
+
+-- at a file that couldn't be begun
+pub gives_up_unbegun : (clients rounds : ℕ) (can_file_fail can_fail : Bool) (old : Option (List ℕ)) (fault : StreamFault)
+    → (fault ≡ File → IsTrue can_file_fail) → SavedGivesUp clients rounds can_file_fail can_fail old old (file_fault fault)
+gives_up_unbegun clients rounds can_file_fail can_fail old NoMemoryThere can = inl (Keeps-refl old)
+gives_up_unbegun clients rounds can_file_fail can_fail old File can = inl (can refl, Keeps-refl old)
 
 -- before its lines were printed
 pub gives_up_before : (clients rounds : ℕ) (can_file_fail can_fail : Bool) (old new : Option (List ℕ)) (fault : WorkFault)

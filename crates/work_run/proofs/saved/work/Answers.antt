@@ -1,10 +1,19 @@
-use Rattle.work_run.proofs.GivingUp.{gives_up_before}
+use Rattle.std.proofs.Common.{rules, ◌≡◌, ◌∙◌, Err, ap}
+use Rattle.byte_io.specs.declared.streams.StreamFault.TheVariants.{File}
+use Rattle.work_run.proofs.GivingUp.{gives_up_before, gives_up_unbegun}
 use Rattle.work_run.proofs.saved.work.Goals as goal
 
--- what stops the threads prints nothing
+-- a file that can't be begun: nothing is printed
 pub returns-in-Err-clause-fault : goal.returns-in-Err-clause-fault
 returns-in-Err-clause-fault g c =
+    let failed : c.begin_file.result ≡ Err c.in-Err.fault = search rules in
+    gives_up_unbegun c.args.load.clients c.args.load.rounds (g.F.Files.can_fail c.args.files.now c.args.file.now) (g.O.Sink.can_fail c.args.output.now)
+        (g.O.Sink.written c.args.output.now) c.in-Err.fault (λ is. c.begin_file.ensures.fault (failed ∙ ap Err is))
+
+-- what stops the threads prints nothing
+pub returns-in-Err-ran-clause-fault : goal.returns-in-Err-ran-clause-fault
+returns-in-Err-ran-clause-fault g c =
     let old = g.O.Sink.written c.args.output.now in
     let can_fail = g.O.Sink.can_fail c.args.output.now in
-    gives_up_before c.args.load.clients c.args.load.rounds (g.F.Files.can_fail c.args.files.now c.args.file.now) can_fail old old c.in-Err.fault
-    (c.in-Err.ensures.fault can_fail old)
+    gives_up_before c.args.load.clients c.args.load.rounds (g.F.Files.can_fail c.args.files.now c.args.file.now) can_fail old old c.in-Err-ran.fault
+    (c.in-Err-ran.ensures.fault can_fail old)

@@ -111,13 +111,13 @@ static uint8_t read_twice(struct uas_xhci_turn *turn)
     return UAS_OK;
 }
 
-/* Takes a step; whether it wrote a cell. */
-static bool take_step(bool traps, const uint8_t *cell)
+/* Takes a step; which bytes of a cell it wrote, a bit for each. */
+static uint32_t take_step(bool traps, const uint8_t *cell)
 {
     static struct uas_range written[256];
     struct uas_xhci_turn turn = { .budget = 1 };
     struct uas_request request = { 0 };
-    bool wrote = false;
+    uint32_t wrote = 0;
     if (traps)
         set_spans(PROT_NONE);
     uint8_t fault = reads_twice ? read_twice(&turn) : uas_xhci_work_noting(xhci, regions, 4, &turn, written, 256);
@@ -130,7 +130,8 @@ static bool take_step(bool traps, const uint8_t *cell)
         for (uint64_t k = 0; k < written[i].length; k++) {
             const uint8_t *place = at(written[i].address + k);
             note(place, 1);
-            wrote |= cell != NULL && place >= cell && place < cell + CELL;
+            if (cell != NULL && place >= cell && place < cell + CELL)
+                wrote |= 1u << (place - cell);
         }
     }
     for (uint64_t offset = 0; offset < UAS_XHCI_REGISTER_BYTES; offset += 8) {
@@ -142,8 +143,8 @@ static bool take_step(bool traps, const uint8_t *cell)
     return wrote;
 }
 
-/* The step in a process of its own, which is raced behind a load, or has another cell in some of its parts from the beginning on. Then the cell is
- * as it was, and some steps follow. */
+/* The step in a process of its own, which is raced behind a load, or has another cell in some of its parts from the beginning on. Then what it didn't
+ * write of the cell is as it was, and some steps follow. */
 static void take_apart(uint8_t *cell, bool races, size_t behind, uint32_t mix)
 {
     told->loads = 0;
@@ -159,9 +160,9 @@ static void take_apart(uint8_t *cell, bool races, size_t behind, uint32_t mix)
                 memcpy(cell + 4 * part, other + 4 * part, 4);
         raced = races ? cell : NULL;
         race_behind = behind;
-        bool wrote = take_step(cell == NULL || races, cell);
-        if (cell != NULL && !wrote)
-            memcpy(cell, before, CELL);
+        uint32_t wrote = take_step(cell == NULL || races, cell);
+        for (size_t k = 0; k < CELL && cell != NULL; k++)
+            cell[k] = wrote >> k & 1 ? cell[k] : before[k];
         for (int i = 0; i < AFTER; i++)
             take_step(false, NULL);
         _exit(0);

@@ -222,8 +222,10 @@ static int listening(const char *where)
     int one = 1;
     if (strchr(where, '/') != NULL)
         return listen_at(where, 1);
-    if (!parse_number(where, UINT16_MAX, &number) || number == 0)
-        return errno = EINVAL, -1;
+    if (!parse_number(where, UINT16_MAX, &number) || number == 0) {
+        errno = EINVAL;
+        return -1;
+    }
     struct sockaddr_in here = { .sin_family = AF_INET, .sin_addr.s_addr = htonl(INADDR_LOOPBACK), .sin_port = htons((uint16_t)number) };
     int listener = socket(AF_INET, SOCK_STREAM | SOCK_CLOEXEC, 0);
     if (listener < 0)

@@ -7,7 +7,7 @@ SUCCESS, CANCELLED, STALL = 0, 1, 4
 GOOD, CHECK = 0, 2
 CAPS = 0xF7
 MOST = 1 << 20
-WAIT = 10  # seconds for what comes at once
+WAIT = 30  # seconds for what comes at once, on a busy machine
 
 
 class Gone(Exception):

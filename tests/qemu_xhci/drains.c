@@ -1,0 +1,196 @@
+/* The device uas-xhci without QEMU and without the library: what it does with its requests when it is reset, unplugged and taken away, and with the
+ * file that it is told.
+ *
+ * tests/c/run compiles uas-xhci.c in it over stub.h. The library's functions are below: they ask for what a test says. */
+#include "../../examples/qemu-xhci/uas-xhci.c"
+#include <stdatomic.h>
+
+static struct uas_request asked; /* what the library asks for, whenever it is asked */
+static int begun, answered, resets, plugs;
+static uint8_t outcome;
+static atomic_int writing; /* writes that are on their way into the file */
+static int writing_at_reset = -1;
+static uint32_t serial;
+static int failed;
+
+ssize_t __real_pwrite(int file, const void *bytes, size_t length, off_t at);
+ssize_t __wrap_pwrite(int file, const void *bytes, size_t length, off_t at);
+
+/* A slow disk. */
+ssize_t __wrap_pwrite(int file, const void *bytes, size_t length, off_t at)
+{
+    writing++;
+    usleep(200000);
+    ssize_t done = __real_pwrite(file, bytes, length, at);
+    writing--;
+    return done;
+}
+
+uint8_t uas_xhci_new(const struct uas_tasks_unit *units, size_t count, uint8_t set, uint16_t most, uint16_t chunk, uas_xhci **xhci)
+{
+    (void)count, (void)set, (void)most, (void)chunk;
+    serial = units->serial;
+    *xhci = (uas_xhci *)&asked;
+    return UAS_OK;
+}
+
+bool uas_xhci_next_request(uas_xhci *xhci, struct uas_request *request)
+{
+    (void)xhci;
+    *request = asked;
+    request->number = (uint64_t)begun;
+    return request->kind != 0 && begun++ % 2 == 0; /* one each time */
+}
+
+uint8_t uas_xhci_answered(uas_xhci *xhci, uint64_t number, uint8_t came, const uint8_t *bytes, size_t length)
+{
+    (void)xhci, (void)number, (void)bytes, (void)length;
+    outcome = came;
+    answered++;
+    return UAS_OK;
+}
+
+void uas_xhci_reset(uas_xhci *xhci)
+{
+    (void)xhci;
+    resets++;
+    writing_at_reset = writing;
+}
+
+void uas_xhci_plug(uas_xhci *xhci, bool attached)
+{
+    (void)xhci, (void)attached;
+    plugs++;
+    writing_at_reset = writing;
+}
+
+uint8_t uas_xhci_work_noting(uas_xhci *xhci, const struct uas_region *regions, size_t count, struct uas_xhci_turn *turn, struct uas_range *written, size_t room)
+{
+    (void)xhci, (void)regions, (void)count, (void)turn, (void)written, (void)room;
+    return UAS_OK;
+}
+
+void uas_xhci_free(uas_xhci *xhci) { (void)xhci; }
+uint64_t uas_xhci_read(uas_xhci *xhci, uint64_t offset, uint8_t width) { (void)xhci, (void)offset, (void)width; return 0; }
+void uas_xhci_write(uas_xhci *xhci, uint64_t offset, uint8_t width, uint64_t value) { (void)xhci, (void)offset, (void)width, (void)value; }
+void uas_xhci_set_frame(uas_xhci *xhci, uint16_t frame) { (void)xhci, (void)frame; }
+bool uas_xhci_interrupt(uas_xhci *xhci) { (void)xhci; return false; }
+bool uas_xhci_take_message(uas_xhci *xhci) { (void)xhci; return false; }
+uint8_t uas_xhci_data(uas_xhci *xhci, uint64_t number, uint8_t *bytes, size_t length) { (void)xhci, (void)number; memset(bytes, 7, length); return UAS_OK; }
+const char *uas_fault_name(uint8_t fault) { (void)fault; return "a fault"; }
+
+/* ---- The tests ---- */
+
+static void tell(const char *name, bool good)
+{
+    if (good)
+        return;
+    failed++;
+    printf("drains: %s: failed\n", name);
+}
+
+static UasXhci *made(const char *path, Error **error)
+{
+    UasXhci *device = calloc(1, sizeof *device);
+    init(OBJECT(device));
+    device->path = (char *)path;
+    device->serial = 7;
+    device->bad = UINT64_MAX;
+    realize(&device->parent, error);
+    return device;
+}
+
+/* A device with a request at work, whose library would ask for the same again and again. */
+static UasXhci *working(const char *path, struct uas_request request)
+{
+    Error *error = NULL;
+    UasXhci *device = made(path, &error);
+    begun = answered = resets = plugs = 0;
+    writing_at_reset = -1;
+    asked = request;
+    write_register(device, 0, 0, 4);
+    while (request.kind == UAS_REQUEST_WRITE && writing == 0)
+        usleep(100);
+    tell("a request begins", error == NULL && device->jobs == 1);
+    qemu_bh_schedule(device->turn);
+    return device;
+}
+
+static void waits_for_writes(const char *path)
+{
+    const struct uas_request write = { .block = 8, .count = 8, .kind = UAS_REQUEST_WRITE };
+    UasXhci *device = working(path, write);
+    reset(DEVICE(device));
+    tell("a reset waits for a write, and begins none", resets == 1 && writing_at_reset == 0 && answered == 1 && device->jobs == 0);
+    unrealize(&device->parent);
+    free(device);
+    device = working(path, write);
+    attach(OBJECT(device), false, NULL);
+    tell("so does a cable that is pulled", plugs == 1 && writing_at_reset == 0 && answered == 1 && device->jobs == 0);
+    unrealize(&device->parent);
+    free(device);
+    device = working(path, write);
+    unrealize(&device->parent);
+    tell("so does the end of the device", writing == 0 && answered == 1 && device->jobs == 0);
+    free(device);
+}
+
+/* A VERIFY of 2 TiB takes minutes; alarm ends the program before. */
+static void leaves_a_verify(const char *path)
+{
+    const struct uas_request verify = { .count = UINT64_C(1) << 32, .kind = UAS_REQUEST_VERIFY };
+    alarm(20);
+    UasXhci *device = working(path, verify);
+    unrealize(&device->parent);
+    tell("a VERIFY is left in its midst", answered == 1 && outcome == UAS_NOT_READY && device->jobs == 0);
+    free(device);
+    device = working(path, (struct uas_request){ .count = 3 * LOOK_BLOCKS + 5, .kind = UAS_REQUEST_VERIFY });
+    asked.kind = 0;
+    while (device->jobs > 0)
+        aio_poll(NULL, true);
+    tell("a VERIFY comes to its end", answered == 1 && outcome == UAS_DONE);
+    unrealize(&device->parent);
+    free(device);
+    alarm(0);
+}
+
+static void opens_files(const char *path)
+{
+    Error *error = NULL;
+    asked.kind = 0;
+    serial = 0;
+    UasXhci *first = made(path, &error);
+    tell("a file and its serial number", error == NULL && serial == 7);
+    UasXhci *second = made(path, &error);
+    tell("a file that is served is locked", error != NULL && strstr(error->line, ": locked") != NULL);
+    error_free(error);
+    error = NULL;
+    unrealize(&first->parent);
+    UasXhci *third = made(NULL, &error);
+    tell("no file is named, and none is closed", error != NULL && fcntl(0, F_GETFD) >= 0);
+    error_free(error);
+    error = NULL;
+    UasXhci *fourth = made(path, &error);
+    tell("a file that was given back", error == NULL);
+    unrealize(&fourth->parent);
+    free(first);
+    free(second);
+    free(third);
+    free(fourth);
+}
+
+int main(void)
+{
+    char path[] = "drains.XXXXXX";
+    int file = mkstemp(path);
+    if (file < 0 || ftruncate(file, (off_t)UAS_BLOCK_BYTES << 32) != 0)
+        return 2;
+    close(file);
+    registers_types();
+    class_init(NULL, NULL);
+    waits_for_writes(path);
+    leaves_a_verify(path);
+    opens_files(path);
+    unlink(path);
+    return failed > 0;
+}

@@ -77,7 +77,9 @@ watch_build() { # SECONDS
 
 # Has other calls wait that build the same program, where there is a cache.
 lock() { # NAME
-    { mkdir -p "$cache" && : >"$cache/.$1.lock" && exec 9<"$cache/.$1.lock" && flock 9; } 2>/dev/null || true
+    command -v flock >/dev/null 2>&1 || return 0
+    { mkdir -p "$cache" && : >"$cache/.$1.lock" && exec 9<"$cache/.$1.lock"; } 2>/dev/null || return 0
+    flock -n 9 || { say 'another call is building: this one waits for it'; flock 9; }
 }
 
 # Leaves the unproved programs that were built last: each edit of the sources makes another.

@@ -63,34 +63,27 @@ class Clone:
         return sorted("proved" if not it.suffix else it.suffix[1:] for it in self.cache.glob("[0-9a-f]*") if it.stat().st_mode & 0o100)
 
 
-def on_terminal(clone, *words, program="uasdisk", until=None, presses=False):
-    """Runs words on a terminal of their own; once `until` holds, Ctrl-C is pressed. What was shown, and the status."""
+def on_terminal(clone, *words, program="uasdisk", cut_when=None):
+    """Runs words on a terminal of their own, on which Ctrl-C is pressed once `cut_when` holds. What was shown, and the status."""
     process, terminal = pty.fork()
     if process == 0:
         os.chdir(clone.here)
         os.execve(clone.top / program, [program, *words], clone.environment)
-    text, last, status = b"", time.monotonic() + 20, None
     os.set_blocking(terminal, False)
-    while status is None and time.monotonic() < last:
-        if presses and until():
+    text, last, ended = b"", time.monotonic() + 60, 0
+    while not ended:
+        if cut_when and cut_when():
             os.write(terminal, b"\x03")
-            presses = False
-        try:
-            text += os.read(terminal, 4096)
-        except (BlockingIOError, OSError):
-            time.sleep(0.02)
+            cut_when = None
+        if time.monotonic() > last:
+            os.kill(process, signal.SIGKILL)
         ended, how = os.waitpid(process, os.WNOHANG)
-        status = os.waitstatus_to_exitcode(how) if ended else None
-    if status is None:
-        os.kill(process, signal.SIGKILL)
-        os.waitpid(process, 0)
-    assert status is not None, "it goes on"
-    try:
-        text += os.read(terminal, 65536)
-    except OSError:
-        pass
+        try:
+            text += os.read(terminal, 65536)
+        except OSError:
+            time.sleep(0.02)
     os.close(terminal)
-    return text.decode().replace("\r\n", "\n"), status
+    return text.decode().replace("\r\n", "\n"), os.waitstatus_to_exitcode(how)
 
 
 def alive(clone):
@@ -107,8 +100,9 @@ def alive(clone):
 
 
 def cut(clone, *words, program="uasdisk"):
-    clone.order("slow", 30)
-    text, status = on_terminal(clone, *words, program=program, until=lambda: any(b"sleep\x0030\0" in it for it in alive(clone)), presses=True)
+    """Presses Ctrl-C once the toolchain is at work: status 130, at once and quietly, and nothing is left of what was started."""
+    clone.order("slow", 100)
+    text, status = on_terminal(clone, *words, program=program, cut_when=lambda: any(b"sleep\x00100\0" in it for it in alive(clone)))
     # what was killed is gone a moment later
     last = time.monotonic() + 1
     while alive(clone) and time.monotonic() < last:

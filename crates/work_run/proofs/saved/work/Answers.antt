@@ -8,7 +8,7 @@ pub returns-in-Err-clause-fault : goal.returns-in-Err-clause-fault
 returns-in-Err-clause-fault g c =
     let failed : c.begin_file.result ≡ Err c.in-Err.fault = search rules in
     gives_up_unbegun c.args.load.clients c.args.load.rounds (g.F.Files.can_fail c.args.files.now c.args.file.now) (g.O.Sink.can_fail c.args.output.now)
-        (g.O.Sink.written c.args.output.now) c.in-Err.fault (λ is. c.begin_file.ensures.fault (failed ∙ ap Err is))
+    (g.O.Sink.written c.args.output.now) c.in-Err.fault (λ is. c.begin_file.ensures.fault (failed ∙ ap Err is))
 
 -- what stops the threads prints nothing
 pub returns-in-Err-ran-clause-fault : goal.returns-in-Err-ran-clause-fault

@@ -43,6 +43,7 @@ mod jobs;
 mod management;
 mod receiver;
 mod slot;
+mod stale;
 mod starts;
 
 pub use device_server::Answer;
@@ -168,6 +169,11 @@ pub enum Task {
         unit: Option<usize>,
         answer: DeviceAnswer,
     },
+    /// Its Response waits for the stale requests of a logical unit, a command of which it ended.
+    Held {
+        unit: usize,
+        code: u8,
+    },
 }
 
 /// What the device wants on a tag.
@@ -214,6 +220,8 @@ const _: () = prove!(MOST_CHUNK_BLOCKS == 128);
 pub struct Tasks {
     units: Vec<LogicalUnit>,
     set: CommandSet,
+    /// How many stale requests each logical unit has.
+    stale: Vec<u8>,
     slots: Vec<Slot>,
 }
 
@@ -226,5 +234,5 @@ impl Model for Tasks {
 
     ghost view = { λ tasks. record { units = tasks.units.items; set = tasks.set; slots = tasks.slots.items } };
 
-    ghost invariant = { λ tasks. IsSoundMachine tasks.units.items tasks.slots.items };
+    ghost invariant = { λ tasks. IsSoundMachine tasks.units.items tasks.stale.items tasks.slots.items };
 }

@@ -173,6 +173,9 @@ asked_stale slot (Some (Blocks unit job stage)) still = refl
 asked_stale slot (Some (Ended unit answer)) still = refl
 asked_stale slot (Some (Held unit code)) still = refl
 
+pub asked-stale : (slot : SlotState) → slot_wants slot ≡ Asks → stale_unit (asked_slot slot) ≡ None
+asked-stale slot asks = asked_stale slot slot.task (asks_none slot asks).1
+
 pub asked-keeps : (many : ℕ) (slot : SlotState) → slot_wants slot ≡ Asks → Keeps many slot (asked_slot slot)
 asked-keeps many slot asks =
     let none = asks_none slot asks in

@@ -5,3 +5,4 @@ pub mod Keeping
 pub mod Places
 pub mod Machines
 pub mod Received
+pub mod Passing

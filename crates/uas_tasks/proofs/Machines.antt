@@ -20,7 +20,7 @@ use Rattle.uas_tasks.specs.Slots.{SlotState, asked_slot, fresh_slot, has_command
 use Rattle.uas_tasks.specs.Soundness.{IsAnswer, IsSoundMachine, IsWithin}
 use Rattle.uas_tasks.proofs.Counts.{Keeps}
 use Rattle.uas_tasks.proofs.Keeping.{free_still, waits}
-use Rattle.uas_tasks.proofs.Places.{IsSoundMachine-slot, slot_read, there}
+use Rattle.uas_tasks.proofs.Places.{IsSoundMachine-slot, slot_read, there, under_so}
 
 -- a tag that a task may have has a slot
 pub tag_there : (tag : ℕ) (slots : List SlotState) → is_tag tag ≡ true → length slots ≡ GREATEST_TAG → (1 ≤ tag) × (tag - 1 < length slots)
@@ -84,14 +84,6 @@ spared_free number slot = elim slot.task as (λ task. is_some task ≡ false →
   | Some task ↦ λ free. let no : ◌≡◌ {A = Bool} true false = free in let it : ⊥ = cc in absurd it
 ]
 
-set_free : (number : ℕ) (slots : List SlotState) (at place : ℕ) → is_some (slice_index_or slots place no_slot).task ≡ false →
-    is_some (slice_index_or (slice_set slots at (spared_slot number (slice_index_or slots at no_slot))) place no_slot).task ≡ false
-set_free number [] at place free = free
-set_free number (slot ∷ slots) zero zero free = spared_free number slot free
-set_free number (slot ∷ slots) zero (suc place) free = free
-set_free number (slot ∷ slots) (suc at) zero free = free
-set_free number (slot ∷ slots) (suc at) (suc place) free = set_free number slots at place free
-
 map_free : (number : ℕ) (slots : List SlotState) (place : ℕ) → is_some (slice_index_or slots place no_slot).task ≡ false →
     is_some (slice_index_or (map (spared_slot number) slots) place no_slot).task ≡ false
 map_free number [] place free = free
@@ -101,9 +93,8 @@ map_free number (slot ∷ slots) (suc place) free = map_free number slots place 
 aborted_free : (machine : Machine) (number named tag : ℕ) (unit : Option LogicalUnit) → has_task machine tag ≡ false →
     has_task (aborted_on machine number named unit).0 tag ≡ false
 aborted_free machine number named tag None free = free
-aborted_free machine number zero tag (Some unit) free = free
-aborted_free machine number (suc at) zero (Some unit) free = free
-aborted_free machine number (suc at) (suc place) (Some unit) free = set_free number machine.slots at place free
+aborted_free machine number named tag (Some unit) free =
+    under_so (λ slot. is_some slot.task ≡ false) (spared_slot number) (spared_free number) machine.slots named tag free
 
 reset_free : (machine : Machine) (number tag : ℕ) (unit : Option LogicalUnit) → has_task machine tag ≡ false → has_task (reset_on machine number unit).0 tag ≡ false
 reset_free machine number tag None free = free

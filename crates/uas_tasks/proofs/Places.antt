@@ -50,6 +50,21 @@ slot_written slots (suc place) number now same some =
     let at : number - 1 ≡ place = omega arith in
     ap (λ p. slice_set slots p now) at
 
+-- what a change of a tag's slot keeps, every tag's slot keeps where it is written
+set_so : (P : SlotState → Type 0) (f : SlotState → SlotState) → ((slot : SlotState) → P slot → P (f slot)) → (slots : List SlotState) (at place : ℕ) →
+    P (slice_index_or slots place no_slot) → P (slice_index_or (slice_set slots at (f (slice_index_or slots at no_slot))) place no_slot)
+set_so P f keeps [] at place so = so
+set_so P f keeps (slot ∷ slots) zero zero so = keeps slot so
+set_so P f keeps (slot ∷ slots) zero (suc place) so = so
+set_so P f keeps (slot ∷ slots) (suc at) zero so = so
+set_so P f keeps (slot ∷ slots) (suc at) (suc place) so = set_so P f keeps slots at place so
+
+pub under_so : (P : SlotState → Type 0) (f : SlotState → SlotState) → ((slot : SlotState) → P slot → P (f slot)) → (slots : List SlotState) (at tag : ℕ) →
+    P (slot_under slots tag) → P (slot_under (with_slot_under slots at (f (slot_under slots at))) tag)
+under_so P f keeps slots zero tag so = so
+under_so P f keeps slots (suc at) zero so = so
+under_so P f keeps slots (suc at) (suc place) so = set_so P f keeps slots at place so
+
 -- A DEVICE STAYS SOUND
 
 HasRoom-kept : (lengths : List BlockLength) (before after : SlotState) → after.chunk ≡ before.chunk → length after.bytes ≡ length before.bytes →

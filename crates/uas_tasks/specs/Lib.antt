@@ -3,3 +3,4 @@ pub mod Slots
 pub mod Stale
 pub mod Machine
 pub mod Soundness
+pub mod Laws

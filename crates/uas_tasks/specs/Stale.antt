@@ -10,7 +10,15 @@ use Rattle.uas_tasks.specs.declared.Task.{Task}
 use Rattle.uas_tasks.specs.declared.Task.TheVariants.{Giving, Blocks, Ended, Held}
 use Rattle.uas_tasks.specs.Slots.{SlotState, has_command, task_waits}
 
--- the logical unit whose blocks a request changes
+-- the logical unit of a request
+abbrev pub unit_in : Request → ℕ
+unit_in (Read unit block count) = unit
+unit_in (Write unit block count through) = unit
+unit_in (Compare unit block count) = unit
+unit_in (Verify unit block count) = unit
+unit_in (Sync unit block count) = unit
+
+-- that whose blocks it changes
 abbrev pub unit_written : Request → Option ℕ
 unit_written (Read unit block count) = None
 unit_written (Write unit block count through) = Some unit

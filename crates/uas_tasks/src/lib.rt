@@ -40,6 +40,7 @@
 mod answers;
 mod calls;
 mod jobs;
+mod laws;
 mod management;
 mod receiver;
 mod slot;
@@ -48,6 +49,7 @@ mod starts;
 
 pub use device_server::Answer;
 use host_commands::{CommandSet, LogicalUnitShape, UnitAttention};
+pub use laws::{last_answer_frees, nothing_stale_passes};
 use slot::Slot;
 use std::marker::Model;
 use thiserror::Error;

@@ -1,5 +1,5 @@
 -- The count of stale requests of each logical unit, as slots are written. Cited by Places and by the answers of the calls that change it.
-use Rattle.std.proofs.Common.{◌≡◌, ℕ, zero, suc, ◌+◌, ◌-◌, ◌<◌, ◌≤◌, Bool, true, false, not, ◌&&◌, ◌||◌, cond, List, [], ◌∷◌, All, length, take, replicate, Option, Some, None, IfSome}
+use Rattle.std.proofs.Common.{◌≡◌, ℕ, ◌+◌, ◌-◌, ◌<◌, ◌≤◌, Bool, true, false, ◌&&◌, ◌||◌, cond, List, [], ◌∷◌, All, length, take, Option, Some, None, IfSome}
 use Rattle.std.proofs.Common.{refl, arith, ap, sym, ◌∙◌, subst, inl, inr, length-set}
 use Rattle.std.specs.Prelude.{count_by, nat_lt, slice_index_or, slice_set, ◌==◌}
 use Rattle.std.specs.List.{list_any}
@@ -11,10 +11,8 @@ use Rattle.std.proofs.lemmas.List.Elements.{All-get_or}
 use Rattle.std.proofs.lemmas.List.Sums.{count_by-le-length, get_or-le-sum_by, sum_by-cons, sum_by-set, sum_by_more}
 use Rattle.uas_target.specs.Tasks.{is_at}
 use Rattle.uas_tasks.specs.declared.Task.{Task}
-use Rattle.uas_tasks.specs.declared.Task.TheVariants.{Giving, Blocks, Ended, Held}
-use Rattle.uas_tasks.specs.declared.slot.Out.{Out}
 use Rattle.uas_tasks.specs.Slots.{SlotState, has_command, is_command_of, spared_slot, task_waits}
-use Rattle.uas_tasks.specs.Soundness.{AreCounted, IsTaskWithin, IsWithin, counted_down, counted_up}
+use Rattle.uas_tasks.specs.Soundness.{AreCounted, IsWithin, counted_down, counted_up}
 use Rattle.uas_tasks.specs.Stale.{is_stale, stale_unit, stale_without, writes_out}
 
 abbrev pub one : Bool → ℕ

@@ -1,7 +1,7 @@
 -- What each call leaves of a slot as it is: the stale request, and that all is of logical units that are there. Cited by the answers of
 -- a device's calls.
-use Rattle.std.proofs.Common.{◌≡◌, ℕ, ◌+◌, ◌<◌, Bool, true, false, ◌&&◌, cond, List, [], ◌∷◌, length, Option, Some, None, IfSome, Result, Ok, Err}
-use Rattle.std.proofs.Common.{refl, ap, sym, ◌∙◌, subst}
+use Rattle.std.proofs.Common.{◌≡◌, ℕ, ◌+◌, ◌<◌, Bool, true, false, cond, List, length, Option, Some, None, IfSome, Result, Ok, Err}
+use Rattle.std.proofs.Common.{refl, sym, ◌∙◌}
 use Rattle.std.specs.Prelude.{is_some, nat_lt, ◌==◌, option_and_then, option_map, slice_index}
 use Rattle.std.specs.Option.{option_map_or}
 use Rattle.scsi_cmd.specs.declared.Sense.{Sense}
@@ -29,14 +29,14 @@ use Rattle.uas_tasks.specs.declared.Stage.TheVariants.{Asking, Waiting, Moving}
 use Rattle.uas_tasks.specs.declared.Task.{Task}
 use Rattle.uas_tasks.specs.declared.Task.TheVariants.{Giving, Blocks, Ended, Held}
 use Rattle.uas_tasks.specs.declared.Wants.{Wants}
-use Rattle.uas_tasks.specs.declared.Wants.TheVariants.{Absent, Asks, Waits, Gives, Takes, Ends}
+use Rattle.uas_tasks.specs.declared.Wants.TheVariants.{Absent, Asks, Waits, Ends}
 use Rattle.uas_tasks.specs.declared.slot.Out.{Out}
 use Rattle.uas_tasks.specs.Machine.{Machine, begun, begun_as, is_held, reported_as, slot_of, wanted}
 use Rattle.uas_tasks.specs.Slots.{SlotState, after_answer, after_outcome, answered_slot, asked_slot, blocks_synchronized, chunk_blocks, chunk_bytes, done_by, ended_good, first_stage}
-use Rattle.uas_tasks.specs.Slots.{gave_slot, gave_task, giving_slot, is_command_of, job_task, moved_on, next_chunk, out_of, request_of, slot_wants, spared_slot, stage_wants}
+use Rattle.uas_tasks.specs.Slots.{gave_slot, gave_task, is_command_of, job_task, moved_on, next_chunk, out_of, request_of, slot_wants, spared_slot, stage_wants}
 use Rattle.uas_tasks.specs.Slots.{started, started_none, started_none_work, started_work, task_waits, task_wants, took_slot, took_task, waiting, with_task}
 use Rattle.uas_tasks.specs.Soundness.{IsAnswer, IsTaskWithin, IsWithin}
-use Rattle.uas_tasks.specs.Stale.{stale_unit, unit_written, writes_out}
+use Rattle.uas_tasks.specs.Stale.{stale_unit, unit_written}
 use Rattle.uas_tasks.proofs.Counts.{Keeps}
 
 -- A TASK THAT WAITS FOR NO ANSWER, of a logical unit that is there

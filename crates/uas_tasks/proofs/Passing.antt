@@ -1,5 +1,5 @@
 -- Why nothing passes a stale request. Cited by the laws.
-use Rattle.std.proofs.Common.{◌≡◌, ℕ, zero, suc, ◌+◌, ◌%◌, ◌<◌, ◌≤◌, Bool, true, false, not, ◌&&◌, ◌||◌, cond, List, [], ◌∷◌, length, Option, Some, None, Result, Ok, Err}
+use Rattle.std.proofs.Common.{◌≡◌, ℕ, zero, suc, ◌%◌, ◌<◌, Bool, true, false, ◌||◌, cond, List, [], ◌∷◌, length, Option, Some, None, Result, Ok, Err}
 use Rattle.std.proofs.Common.{refl, arith, ap, sym, ◌∙◌, subst}
 use Rattle.std.specs.Prelude.{count_by, is_some, nat_lt, option_and_then, option_map, slice_index_or, slice_set}
 use Rattle.std.specs.List.{list_any}
@@ -25,9 +25,9 @@ use Rattle.uas_tasks.specs.declared.Wants.{Wants}
 use Rattle.uas_tasks.specs.declared.Wants.TheVariants.{Absent, Asks, Waits, Gives, Takes, Ends}
 use Rattle.uas_tasks.specs.declared.slot.Out.{Out}
 use Rattle.uas_tasks.specs.Laws.{AsksNotOf, LastAnswerFrees, NothingStalePasses, WhatIsAskedLaterLandsLater}
-use Rattle.uas_tasks.specs.Machine.{Machine, answer_on, answered, answered_out, has_stale, is_held, next_asked, next_by, next_of, no_slot, number_of, out_of_number, slot_of, slot_under, wanted, with_slot, with_slot_under}
-use Rattle.uas_tasks.specs.Slots.{SlotState, after_answer, answered_slot, asked_slot, is_wrong_length, moved_way, out_of, request_of, slot_wants, stage_wants, task_wants, waiting}
-use Rattle.uas_tasks.specs.Stale.{held_by, is_stale, stale_unit, unit_in, unit_written}
+use Rattle.uas_tasks.specs.Machine.{Machine, answer_on, answered_out, has_stale, is_held, next_by, no_slot, number_of, out_of_number, slot_of, slot_under, wanted, with_slot, with_slot_under}
+use Rattle.uas_tasks.specs.Slots.{SlotState, after_answer, answered_slot, asked_slot, is_wrong_length, moved_way, out_of, request_of, slot_wants, stage_wants, task_wants}
+use Rattle.uas_tasks.specs.Stale.{held_by, is_stale, unit_in}
 use Rattle.uas_tasks.proofs.Counts.{any_counted, one}
 use Rattle.uas_tasks.proofs.Keeping.{answered-stale, asked-stale}
 use Rattle.uas_tasks.proofs.Places.{there, under_so}

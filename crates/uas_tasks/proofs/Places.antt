@@ -1,6 +1,6 @@
 -- Slots of a list: the one of a tag, what was read there, and what stays true as one is written. Cited by the answers of every
 -- call of a device.
-use Rattle.std.proofs.Common.{◌≡◌, ℕ, zero, suc, ◌+◌, ◌-◌, ◌*◌, ◌<◌, ◌≤◌, Bool, true, false, not, ◌||◌, cond, List, [], ◌∷◌, ◌++◌, length, map, replicate, take, drop, All}
+use Rattle.std.proofs.Common.{◌≡◌, ℕ, zero, suc, ◌+◌, ◌-◌, ◌*◌, ◌<◌, ◌≤◌, Bool, true, false, cond, List, [], ◌∷◌, ◌++◌, length, map, replicate, take, drop, All}
 use Rattle.std.proofs.Common.{Option, Some, None, refl, arith, ap, sym, ◌∙◌, subst, inl, inr, length-set, mul-zero, add-one, drop-cons}
 use Rattle.std.specs.Prelude.{count_by, is_some, slice_index_or, slice_set, ◌==◌}
 use Rattle.std.specs.List.{list_any}

@@ -1,5 +1,5 @@
 -- Slots stay sound. Cited by the answers of a slot's calls.
-use Rattle.std.proofs.Common.{◌≡◌, ℕ, zero, suc, ◌+◌, ◌-◌, ◌*◌, ◌^◌, ◌<◌, ◌≤◌, min, Bool, true, false, cond, Option, Some, None, IfSome, arith, refl}
+use Rattle.std.proofs.Common.{◌≡◌, ℕ, ◌+◌, ◌*◌, ◌<◌, ◌≤◌, true, false, cond, Option, Some, None, IfSome, arith, refl}
 use Rattle.std.specs.Prelude.{nat_lt, option_map}
 use Rattle.std.proofs.lemmas.Bool.Decides.{nat_tests}
 use Rattle.uas_tasks.specs.declared.Job.{Job}
@@ -7,7 +7,6 @@ use Rattle.uas_tasks.specs.declared.JobKind.{JobKind}
 use Rattle.uas_tasks.specs.declared.JobKind.TheVariants.{Reads, Writes, Compares, Verifies, Synchronizes}
 use Rattle.uas_tasks.specs.declared.Outcome.{Outcome}
 use Rattle.uas_tasks.specs.declared.Outcome.TheVariants.{Done, Differs, MediumError, NotReady}
-use Rattle.uas_tasks.specs.declared.Stage.{Stage}
 use Rattle.uas_tasks.specs.declared.Stage.TheVariants.{Asking, Waiting, Moving}
 use Rattle.uas_tasks.specs.declared.Task.{Task}
 use Rattle.uas_tasks.specs.declared.Task.TheVariants.{Giving, Blocks, Ended, Held}

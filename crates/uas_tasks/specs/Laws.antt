@@ -1,5 +1,5 @@
 -- The laws: what is told and asked later lands later.
-use Rattle.std.specs.Prelude.{◌≡◌, ℕ, ◌%◌, true, false, List, count_by, Option, Some, None, Result, Ok}
+use Rattle.std.specs.Prelude.{◌≡◌, ℕ, ◌%◌, true, false, List, count_by, Some, None, Ok}
 use Rattle.uas_target.specs.declared.DeviceAnswer.TheVariants.{Response}
 use Rattle.uas_target.specs.Tasks.{answer_unit}
 use Rattle.uas_tasks.specs.declared.Next.{Next}

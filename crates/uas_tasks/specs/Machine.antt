@@ -1,9 +1,8 @@
 -- The device: the logical units and a slot for each tag, and what each call makes of them.
-use Rattle.std.specs.Prelude.{ℕ, zero, suc, ◌+◌, ◌*◌, ◌/◌, ◌%◌, nat_le, ◌==◌, Bool, true, false, not, ◌&&◌, ◌||◌, if◌then◌else◌, List, [], ◌∷◌, length, map, take, drop}
+use Rattle.std.specs.Prelude.{ℕ, zero, suc, ◌+◌, ◌*◌, ◌/◌, ◌%◌, nat_le, ◌==◌, Bool, true, false, not, ◌&&◌, if◌then◌else◌, List, [], ◌∷◌, length, map, take, drop}
 use Rattle.std.specs.Prelude.{slice_index, slice_index_or, slice_get, slice_set, replicate, Option, None, Some, is_some, is_ok, option_map, option_and_then, Result, Ok, Err}
 use Rattle.std.specs.Option.{option_map_or}
 use Rattle.scsi_cmd.specs.declared.Sense.{Sense}
-use Rattle.device_server.specs.declared.Answer.TheVariants.{Check}
 use Rattle.host_commands.specs.declared.Attention.{Attention}
 use Rattle.host_commands.specs.declared.Attention.TheVariants.{Ignored, Given, Reported}
 use Rattle.std.specs.List.{list_any}

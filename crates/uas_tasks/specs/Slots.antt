@@ -13,7 +13,6 @@ use Rattle.host_commands.specs.declared.Work.TheVariants.{Verifies as VerifiesWo
 use Rattle.host_commands.specs.Data.{given_bytes}
 use Rattle.host_commands.specs.Shapes.{Shape, block_bytes}
 use Rattle.uas_iu.specs.declared.Iu.{Iu}
-use Rattle.uas_target.specs.declared.DeviceAnswer.{DeviceAnswer}
 use Rattle.uas_target.specs.declared.DeviceAnswer.TheVariants.{Status, Response}
 use Rattle.uas_target.specs.Tasks.{answer_unit, is_at}
 use Rattle.uas_tasks.specs.declared.Job.{Job}

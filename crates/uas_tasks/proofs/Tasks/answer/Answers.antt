@@ -1,8 +1,8 @@
-use Rattle.std.proofs.Common.{◌≡◌, ◌-◌, ◌<◌, Option, Some, None, length, refl, ap, sym, ◌∙◌, subst}
+use Rattle.std.proofs.Common.{◌≡◌, ◌-◌, Option, Some, None, length, refl, ap, sym, ◌∙◌, subst}
 use Rattle.uas_tasks.specs.declared.slot.Out.{Out}
 use Rattle.uas_tasks.specs.Machine.{Machine, slot_under, with_slot_under}
 use Rattle.uas_tasks.specs.Slots.{SlotState, answered_slot}
-use Rattle.uas_tasks.specs.Soundness.{IsWithin, counted_down}
+use Rattle.uas_tasks.specs.Soundness.{counted_down}
 use Rattle.uas_tasks.specs.Stale.{stale_unit}
 use Rattle.uas_tasks.proofs.Counts.{AreCounted-down, length-down, may_count_down, none-split}
 use Rattle.uas_tasks.proofs.Keeping.{answered-stale, answered-within}

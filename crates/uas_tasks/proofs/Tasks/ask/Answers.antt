@@ -1,4 +1,4 @@
-use Rattle.std.proofs.Common.{◌≡◌, ℕ, ◌-◌, length, ap, sym, subst, refl}
+use Rattle.std.proofs.Common.{◌≡◌, length, ap, sym, subst}
 use Rattle.uas_tasks.specs.declared.Wants.{Wants}
 use Rattle.uas_tasks.specs.declared.Wants.TheVariants.{Absent, Asks, Waits}
 use Rattle.uas_tasks.specs.Machine.{Machine, slot_under}

@@ -1,6 +1,6 @@
-use Rattle.std.proofs.Common.{◌≡◌, ◌-◌, ◌<◌, ◌≤◌, length, refl, ap, sym, ◌∙◌, arith}
-use Rattle.uas_tasks.specs.Slots.{SlotState, spared_slot}
-use Rattle.uas_tasks.specs.Soundness.{IsWithin, counted_up}
+use Rattle.std.proofs.Common.{◌-◌, ◌<◌, ◌≤◌, length, refl, ap, ◌∙◌, arith}
+use Rattle.uas_tasks.specs.Slots.{spared_slot}
+use Rattle.uas_tasks.specs.Soundness.{counted_up}
 use Rattle.uas_tasks.specs.Stale.{stale_without}
 use Rattle.uas_tasks.proofs.Counts.{AreCounted-up, left_within, length-up, may_count, spared-split}
 use Rattle.uas_tasks.proofs.Keeping.{spared-within}

@@ -1,4 +1,4 @@
-use Rattle.std.proofs.Common.{◌≤◌, length, map, refl, arith, ap, sym, ◌∙◌}
+use Rattle.std.proofs.Common.{length, map, refl, arith, ap, ◌∙◌}
 use Rattle.std.proofs.lemmas.List.{length-map}
 use Rattle.uas_tasks.specs.Slots.{spared_slot}
 use Rattle.uas_tasks.proofs.Keeping.{spared-within}

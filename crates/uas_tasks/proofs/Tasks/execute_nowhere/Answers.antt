@@ -1,6 +1,4 @@
-use Rattle.std.proofs.Common.{length, ap, sym, subst}
-use Rattle.uas_tasks.specs.Machine.{Machine, slot_under}
-use Rattle.uas_tasks.specs.Slots.{SlotState}
+use Rattle.std.proofs.Common.{length, sym, subst}
 use Rattle.uas_tasks.proofs.Counts.{Keeps}
 use Rattle.uas_tasks.proofs.Keeping.{started_none-keeps}
 use Rattle.uas_tasks.proofs.Machines.{free_read, tag_sound}

@@ -1,4 +1,3 @@
-use Rattle.std.proofs.Common.{◌≡◌, ◌<◌, arith, length, sym, ap}
 use Rattle.uas_tasks.proofs.Counts.{stale_here, stale_past}
 use Rattle.uas_tasks.proofs.Tasks.has_stale.Goals as goal
 

@@ -1,4 +1,4 @@
-use Rattle.std.proofs.Common.{length, map}
+use Rattle.std.proofs.Common.{map}
 use Rattle.std.proofs.lemmas.List.{length-map}
 use Rattle.uas_tasks.specs.Machine.{powered}
 use Rattle.uas_tasks.proofs.Places.{IsSoundMachine-units, lengths_of-powered, written_over}

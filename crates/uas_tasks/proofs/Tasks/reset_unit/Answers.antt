@@ -1,8 +1,8 @@
-use Rattle.std.proofs.Common.{◌≡◌, length, refl, ap, sym, ◌∙◌, length-set}
+use Rattle.std.proofs.Common.{refl, ap, ◌∙◌, length-set}
 use Rattle.std.specs.Prelude.{slice_set}
 use Rattle.std.specs.List.{list_any}
 use Rattle.uas_tasks.specs.Machine.{Machine, reset_over}
-use Rattle.uas_tasks.specs.Slots.{SlotState, has_command}
+use Rattle.uas_tasks.specs.Slots.{has_command}
 use Rattle.uas_tasks.proofs.Machines.{reset_there}
 use Rattle.uas_tasks.proofs.Places.{IsSoundMachine-units, lengths_of-set}
 use Rattle.uas_tasks.proofs.Tasks.reset_unit.Goals as goal

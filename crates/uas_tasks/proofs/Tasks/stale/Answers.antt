@@ -1,4 +1,4 @@
-use Rattle.std.proofs.Common.{◌≡◌, ◌+◌, ◌<◌, ◌≤◌, Some, None, cond, drop, length, refl, arith, ap, sym, ◌∙◌}
+use Rattle.std.proofs.Common.{◌+◌, ◌<◌, ◌≤◌, Some, cond, drop, length, refl, arith, ap, sym, ◌∙◌}
 use Rattle.std.specs.Prelude.{is_some}
 use Rattle.uas_tasks.specs.Machine.{number_of, stale_from}
 use Rattle.uas_tasks.proofs.Places.{stale_from-next, stale_from-past}

@@ -1,5 +1,5 @@
-use Rattle.std.proofs.Common.{◌≡◌, length, refl, ap, sym, ◌∙◌, subst}
-use Rattle.uas_tasks.specs.Soundness.{AreCounted, IsWithin, counted_up}
+use Rattle.std.proofs.Common.{length, refl, ap, ◌∙◌}
+use Rattle.uas_tasks.specs.Soundness.{counted_up}
 use Rattle.uas_tasks.specs.Stale.{stale_unit}
 use Rattle.uas_tasks.proofs.Counts.{all_counted, counted_next, length-up, may_count_next, within_next, zeros}
 use Rattle.uas_tasks.proofs.stale.count_anew.Goals as goal

@@ -1,5 +1,5 @@
 -- Where no request is stale nothing is held, so a tag wants what its slot wants. Cited by the proofs on what is asked, wanted and answered.
-use Rattle.std.proofs.Common.{◌≡◌, ℕ, ◌+◌, ◌*◌, Bool, true, false, ◌&&◌, ◌||◌, cond, List, [], ◌∷◌, length, Option, Some, None, refl, ap, sym, ◌∙◌}
+use Rattle.std.proofs.Common.{◌≡◌, ℕ, Bool, true, false, ◌&&◌, ◌||◌, cond, List, [], ◌∷◌, length, Option, Some, None, refl, ap, sym, ◌∙◌}
 use Rattle.std.specs.Prelude.{is_some, option_and_then}
 use Rattle.std.specs.List.{list_any}
 use Rattle.std.specs.Option.{option_map_or}
@@ -13,12 +13,10 @@ use Rattle.uas_tasks.specs.declared.Stage.{Stage}
 use Rattle.uas_tasks.specs.declared.Stage.TheVariants.{Asking, Waiting, Moving}
 use Rattle.uas_tasks.specs.declared.Task.{Task}
 use Rattle.uas_tasks.specs.declared.Task.TheVariants.{Giving, Blocks, Ended, Held}
-use Rattle.uas_tasks.specs.declared.Wants.{Wants}
-use Rattle.uas_tasks.specs.declared.Wants.TheVariants.{Absent, Asks, Waits, Gives, Takes, Ends}
-use Rattle.uas_tasks.specs.declared.slot.Out.{Out}
+use Rattle.uas_tasks.specs.declared.Wants.TheVariants.{Absent, Asks, Waits, Gives}
 use Rattle.uas_tasks.specs.Machine.{Machine, answer_on, completed, has_stale, is_held, responded, slot_of, wanted, with_slot}
 use Rattle.uas_tasks.specs.Slots.{SlotState, slot_wants, task_answer, task_waits, task_wants}
-use Rattle.uas_tasks.specs.Stale.{held_by, is_stale, stale_unit, unit_written, writes_out}
+use Rattle.uas_tasks.specs.Stale.{held_by, is_stale}
 use Rattle.uas_tasks.proofs.Keeping.{asked-keeps, asked-stale}
 use Rattle.uas_tasks.proofs.Passing.{any_written}
 use Rattle.task_laws.specs.Backed.{Backed}

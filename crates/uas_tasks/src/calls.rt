@@ -141,8 +141,8 @@ impl Tasks {
         Some(slot.bytes_out(&out))
     }
 
-    /// The request of a number is answered; `bytes` are those of its blocks where a Read is done, and nothing otherwise. What a
-    /// task that is gone had asked for is dropped. Refused, and nothing changes, with `NotOut` where no request of this number is
+    /// The request of a number is answered; `bytes` are those of its blocks where a Read is done, and nothing otherwise. What came of
+    /// one whose task is gone is dropped; after a stale one any tag of its logical unit that waited may go on. Refused, and nothing changes, with `NotOut` where no request of this number is
     /// out, and with `WrongLength` where the bytes of a Read that is done are more or fewer than its blocks have.
     pub fn answered(
         &mut self,

@@ -26,12 +26,16 @@
 //! outcome is dropped. So a request is named by a number of its own: the tag in its lowest eight bits, and above them a count of
 //! the requests of that tag. Data of the device itself (INQUIRY and the like) need no chunk buffer and never wait.
 //!
-//! Task management, overlapped tags, unreadable and unaddressed information units are those of `uas_target`.
+//! A Write that is out and that no task waits for any more is *stale*: it may still change blocks. While a logical unit has one, none of its
+//! requests is asked, and the Response of a function that ended a command there is held: both wait. So what a host is told, and what it does
+//! then, lands later (`nothing_stale_passes`). [`Tasks::stale`] names these requests, so that a caller may cancel them.
+//!
+//! But for that, task management, overlapped tags, unreadable and unaddressed information units are those of `uas_target`.
 //!
 //! What is promised: a [`Tasks`] is the record `Machine` of `specs/Machine.antt`, logical units by number and a slot for each
 //! tag, and each call makes of it exactly what the definition of that name says, and answers so.
 //!
-//! [`Tasks::new`] takes all memory; no later call takes any, and none but a reset goes over the tags.
+//! [`Tasks::new`] takes all memory; no later call takes any, and none but a reset and `stale` goes over the tags.
 //!
 //! It stands on `uas_iu` for the information units, `host_commands` for what a CDB asks, `scsi_cmd` for sense, and `uas_target`
 //! for the words that both devices share.

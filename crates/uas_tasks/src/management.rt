@@ -1,5 +1,5 @@
-//! Task management (SAM): what ABORT TASK and LOGICAL UNIT RESET end, and what they and QUERY TASK are answered; and a reset of the
-//! whole device.
+//! Task management (SAM): what ABORT TASK and LOGICAL UNIT RESET end, and what they and QUERY TASK are answered, at once or after what is
+//! stale; and a reset of the whole device.
 ghost use Rattle.std.specs.Prelude.{◌≡◌, map, slice_index};
 ghost use Rattle.std.specs.List.{list_any};
 ghost use Rattle.uas_target.specs.Fields.{addressed};

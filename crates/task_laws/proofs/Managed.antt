@@ -110,9 +110,11 @@ aborted_alike device backed tag lun same =
     let ended : Machine = tasks.without_command backed.machine number tag in
     let after : Same (aborted_on device number tag (Some found.device_unit)).0 (with_machine backed ended) =
     same_tag device backed tag (spared number (task_of device tag)) (spared_slot number (slot_of backed.machine tag)) same
-    (spares_alike (counts_of device.units) number (task_of device tag) (slot_of backed.machine tag)) in
-    (after, completed_free ended number (slots.has_command number (slot_of backed.machine tag))
-    (same_free (aborted_on device number tag (Some found.device_unit)).0 (with_machine backed ended) after)))
+    (spares_alike (counts_of device.units) number (task_of device tag) (slot_of backed.machine tag)) in (
+      after,
+      completed_free ended number (slots.has_command number (slot_of backed.machine tag))
+          (same_free (aborted_on device number tag (Some found.device_unit)).0 (with_machine backed ended) after),
+    ))
 
 queried_alike : (device : Device) (backed : Backed) (tag : ℕ) (lun : List ℕ) → Same device backed →
     ManagedAlike backed (queried_on device (slice_index lun 1) tag (addressed device.units lun))
@@ -159,9 +161,11 @@ reset_there device backed number same found =
       tasks = subst (λ c. SameTasks c (map (spared number) device.tasks) (map (spared_slot number) backed.machine.slots)) (sym counts)
           (slots_map (counts_of device.units) device.tasks backed.machine.slots (spared number) (spared_slot number)
           (spares_alike (counts_of device.units) number) same.tasks);
-    } in
-    (after, completed_free reset number (list_any (slots.has_command number) backed.machine.slots)
-    (same_free (reset_on device number (Some found.device_unit)).0 (with_machine backed reset) after))
+    } in (
+      after,
+      completed_free reset number (list_any (slots.has_command number) backed.machine.slots)
+          (same_free (reset_on device number (Some found.device_unit)).0 (with_machine backed reset) after),
+    )
 
 reset_alike : (device : Device) (backed : Backed) (lun : List ℕ) → Same device backed →
     ManagedAlike backed (reset_on device (slice_index lun 1) (addressed device.units lun))

@@ -12,6 +12,10 @@
  * answers. Requests of different tags may be answered in any order. A request has a number of its own: where its task was aborted meanwhile
  * its answer is dropped, and the tag may already have another task.
  *
+ * A write that is out while its task is gone is *stale*, and makes its logical unit wait: no request of that unit is asked, and the Response
+ * of an ABORT TASK or a LOGICAL UNIT RESET that ended a command there is held back (UAS_WAITS), so what a host is told and does later lands
+ * later. After uas_tasks_answered of a stale request any tag of that unit that waited may go on, so look at all of them.
+ *
  * A READ asks for one chunk at a time and gives it; a WRITE takes a chunk and then asks. SYNCHRONIZE CACHE, START STOP UNIT and VERIFY ask
  * once. A chunk is of at most as many blocks as the device was made with.
  *
@@ -75,7 +79,8 @@ enum {
     UAS_TASKS_CALL_ANSWERED = 6,
     UAS_TASKS_CALL_STATUS = 7,
     UAS_TASKS_CALL_SENT = 8,
-    UAS_TASKS_CALL_RESET = 9
+    UAS_TASKS_CALL_RESET = 9,
+    UAS_TASKS_CALL_STALE = 10
 };
 
 /* What goes in and comes out beside the bytes, where a call has it. */
@@ -89,7 +94,7 @@ struct uas_tasks_door {
     uint16_t tag;    /* in of NEXT, GIVE, TAKE, STATUS, SENT; out of RECEIVE where a task began */
     uint64_t unit;   /* out of a NEXT that asks: the number of the logical unit */
     uint64_t length; /* out of NEXT: bytes that it gives or takes at most; of STATUS: bytes of the information unit */
-    uint64_t number; /* out of a NEXT that asks; in of DATA, ANSWERED */
+    uint64_t number; /* out of a NEXT that asks; in of DATA, ANSWERED; in and out of STALE */
     uint64_t block;  /* out of a NEXT that asks: the first block */
     uint64_t count;  /* out of a NEXT that asks: blocks; of UAS_REQUEST_SYNC all from the first on where it is 0 */
 };
@@ -130,6 +135,10 @@ uint8_t uas_tasks_data(uas_tasks *tasks, uint64_t number, uint8_t *bytes, size_t
  * Faults: UAS_TASKS_CALL (no such outcome), UAS_TASKS_NOT_OUT, UAS_TASKS_LENGTH. */
 uint8_t uas_tasks_answered(uas_tasks *tasks, uint64_t number, uint8_t outcome, const uint8_t *bytes, size_t length);
 
+/* The next stale request: *number is 0 to begin, else the last one that was told; it becomes the number of the next, by rising tag, or 0. Its
+ * outcome doesn't matter to the device, so a caller may cancel it, but tells by uas_tasks_answered when it changes no block any more. No fault. */
+uint8_t uas_tasks_stale(const uas_tasks *tasks, uint64_t *number);
+
 /* Writes the information unit that answers a task, Sense or Response, into the first *length of `room` bytes. 112 bytes always do.
  * Faults: UAS_TASKS_PHASE, UAS_TASKS_LENGTH. */
 uint8_t uas_tasks_status(uas_tasks *tasks, uint16_t tag, uint8_t *bytes, size_t room, uint64_t *length);
@@ -138,7 +147,7 @@ uint8_t uas_tasks_status(uas_tasks *tasks, uint16_t tag, uint8_t *bytes, size_t 
  * Fault: UAS_TASKS_PHASE. */
 uint8_t uas_tasks_sent(uas_tasks *tasks, uint16_t tag);
 
-/* A reset of the whole device: no tag has a task, and each logical unit owes a unit attention. No fault. */
+/* A reset of the whole device: no tag has a task, and each logical unit owes a unit attention. Writes that are out are stale. No fault. */
 uint8_t uas_tasks_reset(uas_tasks *tasks);
 
 /* ---- CDBs (SPC, SBC) without a device ---- */

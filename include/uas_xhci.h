@@ -74,7 +74,8 @@ enum {
     UAS_XHCI_CALL_RESET = 7,
     UAS_XHCI_CALL_REQUEST = 8,
     UAS_XHCI_CALL_DATA = 9,
-    UAS_XHCI_CALL_ANSWERED = 10
+    UAS_XHCI_CALL_ANSWERED = 10,
+    UAS_XHCI_CALL_STALE = 11
 };
 
 /* What goes in and comes out beside the bytes, where a call has it. */
@@ -88,7 +89,7 @@ struct uas_xhci_door {
     uint16_t reserved;
     uint64_t offset; /* in of READ, WRITE */
     uint64_t value;  /* in of WRITE, PLUG, FRAME; out of READ */
-    uint64_t number, unit, block, count; /* out of REQUEST; `number` in of DATA and ANSWERED */
+    uint64_t number, unit, block, count; /* out of REQUEST; `number` in of DATA, ANSWERED, STALE; out of STALE */
 };
 UAS_XHCI_ASSERT(sizeof(struct uas_xhci_door) == 56 && offsetof(struct uas_xhci_door, offset) == 8);
 
@@ -177,7 +178,7 @@ void uas_xhci_reset(uas_xhci *xhci);
 /* ---- Blocks ---- */
 
 /* The next request that is out newly: false where there is none. To be taken after each work. A request stays out until it is answered,
- * also where its task is gone meanwhile. */
+ * also where its task is gone meanwhile; where it writes, its logical unit waits for it (uas_tasks.h). */
 bool uas_xhci_next_request(uas_xhci *xhci, struct uas_request *request);
 
 /* The bytes of a request that writes or compares, all of them.
@@ -188,6 +189,9 @@ uint8_t uas_xhci_data(uas_xhci *xhci, uint64_t number, uint8_t *bytes, size_t le
  * What was asked for a task that is gone is dropped. Work is due then.
  * Faults: UAS_TASKS_CALL (no such outcome), UAS_TASKS_NOT_OUT, UAS_TASKS_LENGTH. */
 uint8_t uas_xhci_answered(uas_xhci *xhci, uint64_t number, uint8_t outcome, const uint8_t *bytes, size_t length);
+
+/* The next write that is out while its task is gone, as uas_tasks_stale tells it. */
+uint8_t uas_xhci_stale(const uas_xhci *xhci, uint64_t *number);
 
 #ifdef __cplusplus
 }

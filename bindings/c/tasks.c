@@ -62,6 +62,15 @@ uint8_t uas_tasks_answered(uas_tasks *tasks, uint64_t number, uint8_t outcome, c
     return call(tasks, &door, bytes, length);
 }
 
+uint8_t uas_tasks_stale(const uas_tasks *tasks, uint64_t *number)
+{
+    struct uas_tasks_door door = { .call = UAS_TASKS_CALL_STALE, .number = *number };
+    uint8_t fault = call((uas_tasks *)(uintptr_t)tasks, &door, NULL, 0);
+    if (fault == UAS_OK)
+        *number = door.number;
+    return fault;
+}
+
 uint8_t uas_tasks_status(uas_tasks *tasks, uint16_t tag, uint8_t *bytes, size_t room, uint64_t *length)
 {
     struct uas_tasks_door door = { .call = UAS_TASKS_CALL_STATUS, .tag = tag };

@@ -158,3 +158,12 @@ uint8_t uas_xhci_answered(uas_xhci *xhci, uint64_t number, uint8_t outcome, cons
     struct uas_xhci_door door = { .call = UAS_XHCI_CALL_ANSWERED, .number = number, .outcome = outcome };
     return call(xhci, &door, bytes, length);
 }
+
+uint8_t uas_xhci_stale(const uas_xhci *xhci, uint64_t *number)
+{
+    struct uas_xhci_door door = { .call = UAS_XHCI_CALL_STALE, .number = *number };
+    uint8_t fault = call((uas_xhci *)(uintptr_t)xhci, &door, NULL, 0);
+    if (fault == UAS_OK)
+        *number = door.number;
+    return fault;
+}

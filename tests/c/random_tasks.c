@@ -11,7 +11,7 @@ enum { CALLS = 20000, KINDS = 9 };
 static uas_tasks *tasks;
 static struct second_tasks model;
 static uint64_t state;
-static unsigned long number_of_call, phases[6], outcomes[4], answers[6], kinds[6], dropped, faults[256], senses;
+static unsigned long number_of_call, phases[6], outcomes[4], answers[6], kinds[6], dropped, faults[256], senses, held, told;
 
 static uint64_t drawn(void)
 {
@@ -173,6 +173,7 @@ static void next(void)
     uint8_t phase = 0xff, wants = second_tasks_phase(&model, tag, &wanted);
     AGREE(uas_tasks_next(tasks, tag, &phase, &length, &request) == UAS_OK && phase == wants);
     phases[phase]++;
+    held += model.slots[tag <= UAS_GREATEST_TAG ? tag : 0].stage == HELD && phase == UAS_WAITS;
     if (phase == UAS_GIVES || phase == UAS_TAKES)
         AGREE(length == wanted);
     if (phase != UAS_ASKS)
@@ -186,11 +187,27 @@ static void next(void)
     kinds[request.kind]++;
 }
 
-/* A tag whose request is out, or 0. */
+/* A tag whose request is out, or 0; at times the first of all. */
 static uint16_t out(void)
 {
     uint16_t tag = (uint16_t)(1 + below(12));
+    if (below(8) == 0)
+        for (tag = 1; tag < UAS_GREATEST_TAG && !model.slots[tag].out; tag++)
+            ;
     return model.slots[tag].out ? tag : 0;
+}
+
+/* The stale requests above the tag of a number, by rising tag. */
+static void look_at_stale(void)
+{
+    uint64_t number = below(4) ? 0 : drawn();
+    for (uint16_t tag = (uint16_t)(1 + number % 256); tag <= UAS_GREATEST_TAG; tag++) {
+        if (!is_stale(&model.slots[tag]))
+            continue;
+        AGREE(uas_tasks_stale(tasks, &number) == UAS_OK && number == model.slots[tag].number);
+        told++;
+    }
+    AGREE(uas_tasks_stale(tasks, &number) == UAS_OK && number == 0);
 }
 
 static void answer(void)
@@ -283,6 +300,7 @@ static void call(void)
         return;
     case 13:
         look_at_data();
+        look_at_stale();
         return;
     default:
         end();
@@ -306,8 +324,9 @@ int main(int count_of, char **words)
     static const uint8_t met[] = { UAS_TASKS_CALL, UAS_TASKS_OVERLAP, UAS_TASKS_PHASE, UAS_TASKS_LENGTH, UAS_TASKS_NOT_OUT };
     for (size_t i = 0; count >= 100000 && i < sizeof met; i++)
         AGREE(faults[met[i]] > 0);
+    AGREE(count < 100000 || (held > 0 && told > 0));
     printf("%lu calls: asked %lu READ, %lu WRITE, %lu COMPARE, %lu VERIFY, %lu SYNC; answered %lu done, %lu differ, %lu medium error, %lu not ready, "
-           "%lu of them dropped; %lu statuses, %lu of them with sense data, %lu responses\n",
-           count, kinds[1], kinds[2], kinds[3], kinds[4], kinds[5], outcomes[0], outcomes[1], outcomes[2], outcomes[3], dropped, answers[UAS_UNIT_SENSE], senses,
+           "%lu of them dropped; %lu told as stale, %lu Responses held; %lu statuses, %lu of them with sense data, %lu responses\n",
+           count, kinds[1], kinds[2], kinds[3], kinds[4], kinds[5], outcomes[0], outcomes[1], outcomes[2], outcomes[3], dropped, told, held, answers[UAS_UNIT_SENSE], senses,
            answers[UAS_UNIT_RESPONSE]);
 }

@@ -8,12 +8,14 @@
 
 enum { SECOND_MOST_CHUNK = 8, SECOND_TASK_UNITS = 3 };
 
-/* What a task is at: it gives data of the device; of a command on blocks it asks, waits for the answer, or moves a chunk; it has ended. */
-enum second_stage { NO_TASK, GIVING, ASKING, WAITING, MOVING, ENDED };
+/* What a task is at: it gives data of the device; of a command on blocks it asks, waits for the answer, or moves a chunk; it has ended, or a
+ * task management has that ended commands and may be told once no write of a gone task of its logical unit is out. */
+enum second_stage { NO_TASK, GIVING, ASKING, WAITING, MOVING, ENDED, HELD };
 
 struct second_slot {
     enum second_stage stage;
     int unit;            /* of a command to a logical unit that is there, else -1 */
+    int held;            /* of HELD: the logical unit */
     uint8_t kind;        /* of its requests: UAS_REQUEST_... */
     bool through;
     uint64_t lba, count, done; /* in blocks */
@@ -236,9 +238,23 @@ static inline void execute_task(struct second_tasks *device, uint16_t tag, const
         task_ends(slot, tag, sense);
 }
 
+/* A write of this slot is out, on the logical unit, and its task is gone. */
+static inline bool is_stale(const struct second_slot *slot)
+{
+    return slot->out && slot->request.kind == UAS_REQUEST_WRITE && slot->stage != WAITING;
+}
+
+static inline bool has_stale(const struct second_tasks *device, int unit)
+{
+    for (uint16_t tag = 1; tag <= UAS_GREATEST_TAG; tag++)
+        if (is_stale(&device->slots[tag]) && device->slots[tag].request.unit == (uint64_t)unit)
+            return true;
+    return false;
+}
+
 static inline void manage_tasks(struct second_tasks *device, const struct uas_unit *unit)
 {
-    bool there = unit->lun[0] == 0 && unit->lun[1] < device->units && all_zero(unit->lun, 2, 8), any = unit->function == UAS_LOGICAL_UNIT_RESET;
+    bool there = unit->lun[0] == 0 && unit->lun[1] < device->units && all_zero(unit->lun, 2, 8), any = unit->function == UAS_LOGICAL_UNIT_RESET, ended = false;
     uint8_t code = UAS_RESPONSE_COMPLETE;
     if (!any && unit->function != UAS_ABORT_TASK && unit->function != UAS_QUERY_TASK)
         code = UAS_RESPONSE_NOT_SUPPORTED;
@@ -250,12 +266,18 @@ static inline void manage_tasks(struct second_tasks *device, const struct uas_un
             continue;
         if (unit->function == UAS_QUERY_TASK)
             code = UAS_RESPONSE_SUCCEEDED;
-        else
+        else {
             slot->stage = NO_TASK;
+            ended = true;
+        }
     }
     if (code == UAS_RESPONSE_COMPLETE && any)
         device->attention[unit->lun[1]] = true;
     task_responds(&device->slots[unit->tag], unit->tag, code);
+    if (ended && has_stale(device, unit->lun[1])) {
+        device->slots[unit->tag].stage = HELD;
+        device->slots[unit->tag].held = unit->lun[1];
+    }
 }
 
 static inline uint8_t second_tasks_receive(struct second_tasks *device, const uint8_t *bytes, size_t length, uint16_t *tag)
@@ -279,7 +301,8 @@ static inline uint8_t second_tasks_receive(struct second_tasks *device, const ui
     return UAS_OK;
 }
 
-/* What a tag does next; while a request is out, its own or one of a task that is gone, a command on blocks waits. */
+/* What a tag does next; while a request is out, its own or one of a task that is gone, a command on blocks waits. While a write of a gone
+ * task is out on any tag, its logical unit's commands don't ask, and what ended commands there isn't told. */
 static inline uint8_t second_tasks_phase(const struct second_tasks *device, uint16_t tag, uint64_t *length)
 {
     const struct second_slot *slot = &device->slots[tag <= UAS_GREATEST_TAG ? tag : 0];
@@ -290,8 +313,10 @@ static inline uint8_t second_tasks_phase(const struct second_tasks *device, uint
     }
     if (slot->stage == NO_TASK || slot->stage == ENDED)
         return slot->stage == NO_TASK ? UAS_ABSENT : UAS_ENDS;
+    if (slot->stage == HELD)
+        return has_stale(device, slot->held) ? UAS_WAITS : UAS_ENDS;
     if (slot->out || slot->stage != MOVING)
-        return slot->out || slot->stage == WAITING ? UAS_WAITS : UAS_ASKS;
+        return slot->out || slot->stage == WAITING || has_stale(device, slot->unit) ? UAS_WAITS : UAS_ASKS;
     *length = chunk_of(device, slot) * block_bytes(device, slot) - slot->moved;
     return slot->kind == UAS_REQUEST_READ ? UAS_GIVES : UAS_TAKES;
 }

@@ -34,16 +34,26 @@ static bool begin(uint16_t tag, uint8_t unit, const char *cdb)
     return uas_tasks_receive(tasks, bytes, sizeof bytes, &began) == UAS_OK && began == tag;
 }
 
-/* A Task Management unit under tag 240. */
+/* A Task Management unit under a tag; false where it was refused or dropped. */
+static bool begin_function(uint16_t tag, uint8_t function, uint16_t named)
+{
+    uint8_t bytes[16] = { UAS_UNIT_TASK, 0, 0, (uint8_t)tag, function, 0, (uint8_t)(named >> 8), (uint8_t)named };
+    uint16_t began = 0;
+    return uas_tasks_receive(tasks, bytes, sizeof bytes, &began) == UAS_OK && began == tag;
+}
+
+/* The Response of a tag has this code, and is sent. */
+static bool responds(uint16_t tag, uint8_t code)
+{
+    uint8_t answer[UAS_MOST_UNIT_BYTES];
+    uint64_t length = 0;
+    return uas_tasks_status(tasks, tag, answer, sizeof answer, &length) == UAS_OK && length == 8 && answer[7] == code && uas_tasks_sent(tasks, tag) == UAS_OK;
+}
+
+/* A Task Management unit under tag 240, which is COMPLETE at once. */
 static void manage(uint8_t function, uint16_t tag)
 {
-    uint8_t bytes[16] = { UAS_UNIT_TASK, 0, 0, 240, function, 0, (uint8_t)(tag >> 8), (uint8_t)tag }, answer[UAS_MOST_UNIT_BYTES];
-    uint16_t began = 0;
-    uint64_t length = 0;
-    bytes[4] = function;
-    CHECK(uas_tasks_receive(tasks, bytes, sizeof bytes, &began) == UAS_OK && began == 240);
-    CHECK(uas_tasks_status(tasks, 240, answer, sizeof answer, &length) == UAS_OK && length == 8 && answer[7] == 0);
-    CHECK(uas_tasks_sent(tasks, 240) == UAS_OK);
+    CHECK(begin_function(240, function, tag) && responds(240, UAS_RESPONSE_COMPLETE));
 }
 
 /* Does a request on the disk of this test. */
@@ -222,6 +232,61 @@ static void requests(void)
     CHECK(uas_tasks_answered(tasks, second.number, 4, NULL, 0) == UAS_TASKS_CALL);
 }
 
+static bool is_held(uint16_t tag)
+{
+    uint8_t answer[UAS_MOST_UNIT_BYTES];
+    uint64_t length;
+    return phase_of(tag) == UAS_WAITS && uas_tasks_status(tasks, tag, answer, sizeof answer, &length) == UAS_TASKS_PHASE &&
+           uas_tasks_sent(tasks, tag) == UAS_TASKS_PHASE;
+}
+
+static uint64_t stale_after(uint64_t number)
+{
+    CHECK(uas_tasks_stale(tasks, &number) == UAS_OK);
+    return number;
+}
+
+/* A WRITE of block 32 of logical unit 0 is out. */
+static bool writes(uint16_t tag, struct uas_request *request)
+{
+    return begin(tag, 0, "2a 00 00 00 00 20 00 00 01 00") && uas_tasks_take(tasks, tag, data, UAS_BLOCK_BYTES) == UAS_OK &&
+           asks(tag, request, UAS_REQUEST_WRITE, 32, 1);
+}
+
+static void stale_writes(void)
+{
+    struct uas_request first, second, other;
+    make(2, UAS_SET_HOST, 128, 8);
+    /* ABORT TASK of a WRITE that is out is held; a WRITE of its logical unit takes its bytes and then waits, a READ waits; another unit asks */
+    CHECK(stale_after(0) == 0 && writes(1, &first) && stale_after(0) == 0);
+    CHECK(begin_function(2, UAS_ABORT_TASK, 1) && phase_of(1) == UAS_ABSENT && is_held(2));
+    CHECK(begin(3, 0, "2a 00 00 00 00 20 00 00 01 00") && phase_of(3) == UAS_TAKES && uas_tasks_take(tasks, 3, data, UAS_BLOCK_BYTES) == UAS_OK);
+    CHECK(phase_of(3) == UAS_WAITS && begin(5, 0, "28 00 00 00 00 20 00 00 01 00") && phase_of(5) == UAS_WAITS);
+    CHECK(begin(6, 1, "28 00 00 00 00 20 00 00 01 00") && asks(6, &other, UAS_REQUEST_READ, 32, 1));
+    /* what ends nothing is told at once: QUERY TASK, and ABORT TASK of a tag without a task; the Sense of a command too */
+    CHECK(begin_function(4, UAS_QUERY_TASK, 3) && responds(4, UAS_RESPONSE_SUCCEEDED));
+    CHECK(begin_function(4, UAS_ABORT_TASK, 1) && responds(4, UAS_RESPONSE_COMPLETE));
+    CHECK(begin(4, 0, "00 00 00 00 00 00") && phase_of(4) == UAS_ENDS && uas_tasks_sent(tasks, 4) == UAS_OK);
+    /* the number of the one that is stale; its answer frees them all, whatever it is */
+    CHECK(stale_after(0) == first.number && stale_after(first.number) == 0);
+    CHECK(uas_tasks_answered(tasks, first.number, UAS_MEDIUM_ERROR, NULL, 0) == UAS_OK && stale_after(0) == 0);
+    CHECK(phase_of(2) == UAS_ENDS && responds(2, UAS_RESPONSE_COMPLETE));
+    CHECK(asks(3, &second, UAS_REQUEST_WRITE, 32, 1) && asks(5, &first, UAS_REQUEST_READ, 32, 1));
+    /* LOGICAL UNIT RESET of a WRITE and a READ that are out waits for the WRITE alone */
+    CHECK(begin_function(7, UAS_LOGICAL_UNIT_RESET, 0) && is_held(7) && stale_after(0) == second.number);
+    CHECK(begin_function(8, UAS_LOGICAL_UNIT_RESET, 0) && responds(8, UAS_RESPONSE_COMPLETE));
+    CHECK(uas_tasks_answered(tasks, second.number, UAS_DONE, NULL, 0) == UAS_OK && responds(7, UAS_RESPONSE_COMPLETE));
+    CHECK(uas_tasks_answered(tasks, first.number, UAS_DONE, disk, UAS_BLOCK_BYTES) == UAS_OK);
+    /* two of them on two tags, by rising tag; a reset of the device leaves them out, and ends a Response that is held */
+    make(2, UAS_SET_HOST, 128, 8);
+    CHECK(writes(9, &second) && writes(1, &first) && begin_function(2, UAS_ABORT_TASK, 1) && is_held(2));
+    CHECK(uas_tasks_reset(tasks) == UAS_OK && phase_of(2) == UAS_ABSENT);
+    CHECK(stale_after(0) == first.number && stale_after(first.number) == second.number && stale_after(second.number) == 0);
+    CHECK(begin(3, 0, "03 00 00 00 00 00") && begin(5, 0, "28 00 00 00 00 20 00 00 01 00") && phase_of(5) == UAS_WAITS);
+    CHECK(uas_tasks_answered(tasks, first.number, UAS_DONE, NULL, 0) == UAS_OK && phase_of(5) == UAS_WAITS && stale_after(0) == second.number);
+    CHECK(uas_tasks_answered(tasks, second.number, UAS_DONE, NULL, 0) == UAS_OK && phase_of(5) == UAS_ASKS);
+}
+
 static void making(void)
 {
     struct uas_tasks_unit good = { 1, 0, 512 }, unit = good;
@@ -256,6 +321,7 @@ int main(void)
     host_commands();
     blocks();
     requests();
+    stale_writes();
     uas_tasks_free(tasks);
     printf("tasks: %lu passed, %lu failed\n", passed, failed);
     return failed != 0;

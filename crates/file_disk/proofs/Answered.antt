@@ -2,6 +2,7 @@
 use Rattle.std.proofs.Common.{◌≡◌, ℕ, ◌+◌, ◌-◌, ◌*◌, ◌/◌, ◌%◌, ◌^◌, ◌<◌, ◌≤◌, min, false, true, List, [], ◌++◌, length, take, drop}
 use Rattle.std.proofs.Common.{Option, Some, None, Result, refl, arith, ap, sym, ◌∙◌, subst}
 use Rattle.std.specs.Prelude.{◌==◌, nat_lt, not, option_map}
+use Rattle.std.specs.List.{list_any}
 use Rattle.std.proofs.lemmas.Bool.{eq-eqb, le-ltb}
 use Rattle.std.proofs.lemmas.List.{length-append, length-drop, take_at}
 use Rattle.scsi_cmd.specs.Buffers.{with_bytes_at}
@@ -25,6 +26,7 @@ use Rattle.uas_tasks.specs.Soundness.{MayGive, MayTake}
 use Rattle.uas_tasks.specs.declared.slot.Out.{Out}
 use Rattle.uas_tasks.specs.Machine.{Machine, answer_on, answered, bytes_out, gave, given as given_of, next_of, out_of_number, slot_of, took, wanted, without_task}
 use Rattle.uas_tasks.specs.Slots.{SlotState, chunk_bytes, ended_good, moved_on, next_chunk}
+use Rattle.uas_tasks.specs.Stale.{is_stale}
 use Rattle.file_disk.specs.Device.{IsAt, IsWholeBlocks, asking, blocks_of, buffer_of, ended, job_of, moving}
 use Rattle.file_disk.proofs.Steps.{asked_at, is_at, machine_at, out_at, out_there, served_at, slot_at, tag_back, waiting_at, whole}
 
@@ -71,44 +73,44 @@ read_done blocks number lba request new m m1 m2 r is asks answer all =
     served_at blocks number job request Done new m m1 m2 r is asks answer (right_length lba new all) in (
       subst (λ (x : Machine). IsAt blocks x (Some (moving Reads lba (blocks_of new)))) (sym after)
           (is_at blocks ((turn + 1) % 2 ^ 32) (Some (moving Reads lba (blocks_of new))) given (with_bytes_at bytes 0 new) others
-          (over_length bytes new is.room all.most)),
+          (over_length bytes new is.room all.most) is.rest),
       subst (λ (x : Machine). take (length new) (buffer_of x) ≡ new) (sym after) (over_front bytes new),
     )
 
 -- A REQUEST THAT BRINGS NO BYTES
 
 quiet_after : (blocks turn : ℕ) (now : Task) (given bytes : List ℕ) (others : List SlotState) (m2 : Machine) → length bytes ≡ 65536
-    → m2 ≡ machine_at blocks (slot_at (Some now) turn given bytes) others → IsAt blocks m2 (Some now)
-quiet_after blocks turn now given bytes others m2 room after =
-    subst (λ (x : Machine). IsAt blocks x (Some now)) (sym after) (is_at blocks turn (Some now) given bytes others room)
+    → list_any (is_stale 0) others ≡ false → m2 ≡ machine_at blocks (slot_at (Some now) turn given bytes) others → IsAt blocks m2 (Some now)
+quiet_after blocks turn now given bytes others m2 room rest after =
+    subst (λ (x : Machine). IsAt blocks x (Some now)) (sym after) (is_at blocks turn (Some now) given bytes others room rest)
 
 pub read_failed : (blocks number lba count : ℕ) (request : Request) (m m1 m2 : Machine) (r : Result (Unit {0}) AnswerFault)
     → IsAt blocks m (Some (asking Reads lba count)) → (m1, NextAsks number request) ≡ next_of m 1
     → (m2, r) ≡ answered m1 number MediumError [] → IsAt blocks m2 (Some (ended (Check unrecovered_read_error)))
 read_failed blocks number lba count request m m1 m2 r is asks answer =
     quiet_after blocks (((slot_of m 1).turn + 1) % 2 ^ 32) (ended (Check unrecovered_read_error)) (slot_of m 1).given (slot_of m 1).bytes (drop 1 m.slots) m2
-    is.room (served_at blocks number (job_of Reads lba count) request MediumError [] m m1 m2 r is asks answer refl)
+    is.room is.rest (served_at blocks number (job_of Reads lba count) request MediumError [] m m1 m2 r is asks answer refl)
 
 pub write_failed : (blocks number lba count : ℕ) (request : Request) (m m1 m2 : Machine) (r : Result (Unit {0}) AnswerFault)
     → IsAt blocks m (Some (asking (Writes false) lba count)) → (m1, NextAsks number request) ≡ next_of m 1
     → (m2, r) ≡ answered m1 number MediumError [] → IsAt blocks m2 (Some (ended (Check write_error)))
 write_failed blocks number lba count request m m1 m2 r is asks answer =
     quiet_after blocks (((slot_of m 1).turn + 1) % 2 ^ 32) (ended (Check write_error)) (slot_of m 1).given (slot_of m 1).bytes (drop 1 m.slots) m2
-    is.room (served_at blocks number (job_of (Writes false) lba count) request MediumError [] m m1 m2 r is asks answer refl)
+    is.room is.rest (served_at blocks number (job_of (Writes false) lba count) request MediumError [] m m1 m2 r is asks answer refl)
 
 pub sync_failed : (blocks number lba count : ℕ) (request : Request) (m m1 m2 : Machine) (r : Result (Unit {0}) AnswerFault)
     → IsAt blocks m (Some (asking Synchronizes lba count)) → (m1, NextAsks number request) ≡ next_of m 1
     → (m2, r) ≡ answered m1 number MediumError [] → IsAt blocks m2 (Some (ended (Check write_error)))
 sync_failed blocks number lba count request m m1 m2 r is asks answer =
     quiet_after blocks (((slot_of m 1).turn + 1) % 2 ^ 32) (ended (Check write_error)) (slot_of m 1).given (slot_of m 1).bytes (drop 1 m.slots) m2
-    is.room (served_at blocks number (job_of Synchronizes lba count) request MediumError [] m m1 m2 r is asks answer refl)
+    is.room is.rest (served_at blocks number (job_of Synchronizes lba count) request MediumError [] m m1 m2 r is asks answer refl)
 
 pub sync_done : (blocks number lba count : ℕ) (request : Request) (m m1 m2 : Machine) (r : Result (Unit {0}) AnswerFault)
     → IsAt blocks m (Some (asking Synchronizes lba count)) → (m1, NextAsks number request) ≡ next_of m 1
     → (m2, r) ≡ answered m1 number Done [] → IsAt blocks m2 (Some (ended Good))
 sync_done blocks number lba count request m m1 m2 r is asks answer =
     quiet_after blocks (((slot_of m 1).turn + 1) % 2 ^ 32) (ended Good) (slot_of m 1).given (slot_of m 1).bytes (drop 1 m.slots) m2
-    is.room (served_at blocks number (job_of Synchronizes lba count) request Done [] m m1 m2 r is asks answer refl)
+    is.room is.rest (served_at blocks number (job_of Synchronizes lba count) request Done [] m m1 m2 r is asks answer refl)
 
 pub write_done : (blocks number lba : ℕ) (request : Request) (new : List ℕ) (m m1 m2 : Machine) (r : Result (Unit {0}) AnswerFault)
     → IsAt blocks m (Some (asking (Writes false) lba (blocks_of new))) → (m1, NextAsks number request) ≡ next_of m 1
@@ -117,7 +119,7 @@ write_done blocks number lba request new m m1 m2 r is asks answer all =
     let job : Job = job_of (Writes false) lba (blocks_of new) in
     subst (λ (now : Task). IsAt blocks m2 (Some now)) (last_chunk (Writes false) lba new all)
     (quiet_after blocks (((slot_of m 1).turn + 1) % 2 ^ 32) (next_chunk 128 0 job) (slot_of m 1).given (slot_of m 1).bytes (drop 1 m.slots) m2
-    is.room (served_at blocks number job request Done [] m m1 m2 r is asks answer refl))
+    is.room is.rest (served_at blocks number job request Done [] m m1 m2 r is asks answer refl))
 
 -- the bytes that a Write is asked for
 pub write_bytes : (blocks number lba : ℕ) (request : Request) (new : List ℕ) (m m1 : Machine)
@@ -158,7 +160,7 @@ give_done blocks lba new m after is all gives =
     all_moved (length new) job (next_chunk 128 0 job) (omega (arith, chunk_whole Reads lba new all)) ∙ last_chunk Reads lba new all in
     subst (λ (t : Task). IsAt blocks after (Some t)) end
     (quiet_after blocks (slot_of m 1).turn (moved_on 128 (length new) 0 job (next_chunk 128 0 job) (Moving 0)) (slot_of m 1).given (slot_of m 1).bytes
-    (drop 1 m.slots) after is.room (gives ∙ ap (λ (x : Machine). gave x 1 (length new)) (whole blocks m (Some now) is)))
+    (drop 1 m.slots) after is.room is.rest (gives ∙ ap (λ (x : Machine). gave x 1 (length new)) (whole blocks m (Some now) is)))
 
 pub give_bytes : (blocks lba count size : ℕ) (m : Machine) → IsAt blocks m (Some (moving Reads lba count)) → given_of m 1 size ≡ take size (buffer_of m)
 give_bytes blocks lba count size m is =
@@ -183,7 +185,7 @@ take_done blocks lba new m after is all takes =
     let same : after ≡ machine_at blocks (slot_at (Some then) (slot_of m 1).turn (slot_of m 1).given bytes) (drop 1 m.slots) =
     takes ∙ ap (λ (x : Machine). took x 1 new) (whole blocks m (Some now) is) in (
       subst (λ (t : Task). IsAt blocks after (Some t)) asks
-          (quiet_after blocks (slot_of m 1).turn then (slot_of m 1).given bytes (drop 1 m.slots) after (over_length (slot_of m 1).bytes new is.room all.most) same),
+          (quiet_after blocks (slot_of m 1).turn then (slot_of m 1).given bytes (drop 1 m.slots) after (over_length (slot_of m 1).bytes new is.room all.most) is.rest same),
       subst (λ (x : Machine). take (length new) (buffer_of x) ≡ new) (sym same) (over_front (slot_of m 1).bytes new),
     )
 
@@ -197,7 +199,7 @@ sent_ready blocks answer m after is sent =
     let same : after ≡ machine_at blocks (slot_at None (slot_of m 1).turn (slot_of m 1).given (slot_of m 1).bytes) (drop 1 m.slots) =
     sent ∙ ap (λ (x : Machine). without_task x 1) (whole blocks m (Some (ended answer)) is) in
     subst (λ (x : Machine). IsAt blocks x None) (sym same)
-    (is_at blocks (slot_of m 1).turn None (slot_of m 1).given (slot_of m 1).bytes (drop 1 m.slots) is.room)
+    (is_at blocks (slot_of m 1).turn None (slot_of m 1).given (slot_of m 1).bytes (drop 1 m.slots) is.room is.rest)
 
 pub answer_there : (blocks : ℕ) (answer : Answer) (m : Machine) → IsAt blocks m (Some (ended answer)) → answer_on m 1 ≡ Some (answer_unit 1 (Status answer))
 answer_there blocks answer m is = ap (λ (x : Machine). answer_on x 1) (whole blocks m (Some (ended answer)) is)

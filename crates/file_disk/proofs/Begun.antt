@@ -90,7 +90,7 @@ begun_at blocks cdb work task m after r is many reports asked begins took =
     ap (λ (p : Machine × Result Took Overlap). p.0)
     (took ∙ ap (λ (x : Machine). received x (unit_text (Command 1 (lun_text 0) cdb))) (whole blocks m None is))
     ∙ received_at blocks turn cdb given bytes others work task many reports asked (begins (slot_at None turn given bytes)) in
-    subst (λ (x : Machine). IsAt blocks x (Some task)) (sym same) (is_at blocks turn (Some task) given bytes others is.room)
+    subst (λ (x : Machine). IsAt blocks x (Some task)) (sym same) (is_at blocks turn (Some task) given bytes others is.room is.rest)
 
 reports_by : (cdb : List ℕ) (code : ℕ) → slice_index cdb 0 ≡ code → host_attention code ≡ Reported → host_attention (slice_index cdb 0) ≡ Reported
 reports_by cdb code is reports = ap host_attention is ∙ reports

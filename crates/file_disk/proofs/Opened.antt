@@ -1,5 +1,6 @@
 -- A new device. Cited by the answer of `Device::new`.
-use Rattle.std.proofs.Common.{◌≡◌, ℕ, ◌*◌, ◌^◌, ◌<◌, ◌≤◌, List, [], ◌∷◌, length, map, None, Option, Result, Ok, refl, arith, ap, sym, ◌∙◌, subst}
+use Rattle.std.proofs.Common.{◌≡◌, ℕ, zero, suc, ◌*◌, ◌^◌, ◌<◌, ◌≤◌, false, List, [], ◌∷◌, length, drop, replicate, map, None, Option, Result, Ok, refl, arith, ap, sym, ◌∙◌, subst}
+use Rattle.std.specs.List.{list_any}
 use Rattle.std.proofs.lemmas.Bool.{le-ltb, ne_eqb}
 use Rattle.std.proofs.lemmas.List.{get_or-replicate, length-replicate}
 use Rattle.host_commands.specs.declared.BlockLength.TheVariants.{Bytes512}
@@ -11,6 +12,7 @@ use Rattle.uas_profile.specs.declared.TheConstants.{GREATEST_TAG}
 use Rattle.uas_tasks.specs.declared.LogicalUnit.{LogicalUnit}
 use Rattle.uas_tasks.specs.Machine.{Machine, greatest_block, made, no_slot, opening, quiet}
 use Rattle.uas_tasks.specs.Slots.{SlotState, fresh_slot}
+use Rattle.uas_tasks.specs.Stale.{is_stale}
 use Rattle.file_disk.specs.Device.{IsAt, shape_of}
 
 -- what a number that is taken makes
@@ -29,6 +31,18 @@ shape_made blocks serial r q shape some most serial_is made_serial shape_is made
 pub set_made : (r : Result CommandSet ShapeFault) (set : CommandSet) → r ≡ Ok set → r ≡ host_set 128 → set ≡ Host 128
 set_made r set is made = one_ok set (Host 128) r is made
 
+-- none of so many slots
+none_stale : (many : ℕ) (slot : SlotState) → is_stale 0 slot ≡ false → list_any (is_stale 0) (replicate many slot) ≡ false
+none_stale zero slot none = refl
+none_stale (suc many) slot none = rw none (none_stale many slot none)
+
+none_stale_but : (many : ℕ) (slot : SlotState) → is_stale 0 slot ≡ false → list_any (is_stale 0) (drop 1 (replicate many slot)) ≡ false
+none_stale_but zero slot none = refl
+none_stale_but (suc many) slot none = none_stale many slot none
+
+fresh_stale : (chunk room : ℕ) → is_stale 0 (fresh_slot chunk room) ≡ false
+fresh_stale chunk room = refl
+
 opening_at : (blocks : ℕ) → IsAt blocks (opening (quiet (shape_of blocks) ∷ []) (Host 128) 128 65536) None
 unfolding made
 opening_at blocks =
@@ -42,6 +56,7 @@ opening_at blocks =
       out = ap (λ (s : SlotState). s.out) first;
       room = ap (λ (s : SlotState). length s.bytes) first ∙ length-replicate {A = ℕ} 65536 0;
       task = ap (λ (s : SlotState). s.task) first;
+      rest = none_stale_but GREATEST_TAG slot (fresh_stale 128 65536);
     }
 
 pub opened : (blocks : ℕ) (shape : Shape) (set : CommandSet) (tasks : Machine) → shape ≡ shape_of blocks → set ≡ Host 128

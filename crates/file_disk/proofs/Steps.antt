@@ -2,6 +2,7 @@
 use Rattle.std.proofs.Common.{◌≡◌, ℕ, zero, suc, ◌+◌, ◌-◌, ◌*◌, ◌/◌, ◌%◌, ◌^◌, ◌<◌, ◌≤◌, min, Bool, true, false, List, [], ◌∷◌, ◌++◌, length, take, drop}
 use Rattle.std.proofs.Common.{Option, Some, None, Result, Ok, Err, refl, arith, ap, sym, ◌∙◌, subst}
 use Rattle.std.specs.Prelude.{slice_index, slice_index_or, ◌==◌, nat_lt, nat_le, IfOk}
+use Rattle.std.specs.List.{list_any}
 use Rattle.std.proofs.lemmas.Bool.{eq-eqb, ne_eqb}
 use Rattle.std.proofs.lemmas.Bool.Decides.{nat_tests}
 use Rattle.host_commands.specs.declared.CommandSet.TheVariants.{Host}
@@ -26,6 +27,7 @@ use Rattle.uas_tasks.specs.declared.Task.TheVariants.{Blocks}
 use Rattle.uas_tasks.specs.declared.slot.Out.{Out}
 use Rattle.uas_tasks.specs.Machine.{Machine, answered, answered_out, next_of, no_slot, out_of_number, quiet, slot_of}
 use Rattle.uas_tasks.specs.Slots.{SlotState, answered_slot, chunk_bytes, is_wrong_length, request_bytes, request_of}
+use Rattle.uas_tasks.specs.Stale.{is_stale}
 use Rattle.file_disk.specs.Device.{IsAt, asking, moving, shape_of}
 
 -- THE DEVICE AS A RECORD
@@ -54,8 +56,8 @@ whole blocks m now is =
     ap (λ set. record m { set = set }) is.set ∙ slots_whole blocks m.units m.slots now is.units is.some is.chunk is.out is.task
 
 pub is_at : (blocks turn : ℕ) (now : Option Task) (given bytes : List ℕ) (others : List SlotState) → length bytes ≡ 65536
-    → IsAt blocks (machine_at blocks (slot_at now turn given bytes) others) now
-is_at blocks turn now given bytes others room = record {
+    → list_any (is_stale 0) others ≡ false → IsAt blocks (machine_at blocks (slot_at now turn given bytes) others) now
+is_at blocks turn now given bytes others room rest = record {
   units = refl;
   set = refl;
   some = omega arith;
@@ -63,6 +65,7 @@ is_at blocks turn now given bytes others room = record {
   out = refl;
   room = room;
   task = refl;
+  rest = rest;
 }
 
 -- A REQUEST
@@ -80,10 +83,10 @@ waiting_at job turn given bytes = record {
   bytes = bytes;
 }
 
-next_at : (blocks turn : ℕ) (job : Job) (given bytes : List ℕ) (others : List SlotState)
+next_at : (blocks turn : ℕ) (job : Job) (given bytes : List ℕ) (others : List SlotState) → list_any (is_stale 0) others ≡ false
     → next_of (machine_at blocks (slot_at (Some (Blocks 0 job Asking)) turn given bytes) others) 1
     ≡ (machine_at blocks (waiting_at job turn given bytes) others, NextAsks (256 * ((turn + 1) % 2 ^ 32) + 1) (request_of job.kind 0 128 job))
-next_at blocks turn job given bytes others = refl
+next_at blocks turn job given bytes others rest = rw rest refl
 
 -- a request's number gives its turn and its tag back
 turn_back : (turn : ℕ) → (256 * turn + 1) / 256 ≡ turn
@@ -123,7 +126,7 @@ asked_at blocks number job request m m1 is asks =
     let others : List SlotState = drop 1 m.slots in
     let asked : (m1, NextAsks number request) ≡ (machine_at blocks slot others, NextAsks (256 * slot.turn + 1) (request_of job.kind 0 128 job)) =
     asks ∙ ap (λ (x : Machine). next_of x 1) (whole blocks m (Some (Blocks 0 job Asking)) is)
-    ∙ next_at blocks (slot_of m 1).turn job (slot_of m 1).given (slot_of m 1).bytes others in
+    ∙ next_at blocks (slot_of m 1).turn job (slot_of m 1).given (slot_of m 1).bytes others is.rest in
     (ap (λ (p : Machine × Next). p.0) asked, ap (λ (p : Machine × Next). number_in p.1) asked)
 
 pub served_at : (blocks number : ℕ) (job : Job) (request : Request) (outcome : Outcome) (new : List ℕ) (m m1 m2 : Machine) (r : Result (Unit {0}) AnswerFault)

@@ -1,5 +1,6 @@
 -- A device of one logical unit, and where its one tag is with a command.
-use Rattle.std.specs.Prelude.{◌≡◌, ℕ, false, ◌+◌, ◌*◌, ◌/◌, ◌^◌, ◌<◌, ◌≤◌, List, [], ◌∷◌, length, Option, None, Some, Result, Ok, Err}
+use Rattle.std.specs.Prelude.{◌≡◌, ℕ, false, ◌+◌, ◌*◌, ◌/◌, ◌^◌, ◌<◌, ◌≤◌, List, [], ◌∷◌, length, drop, Option, None, Some, Result, Ok, Err}
+use Rattle.std.specs.List.{list_any}
 use Rattle.device_server.specs.declared.Answer.{Answer}
 use Rattle.device_server.specs.declared.Answer.TheVariants.{Good, Check}
 use Rattle.host_commands.specs.declared.BlockLength.TheVariants.{Bytes512}
@@ -13,6 +14,7 @@ use Rattle.uas_tasks.specs.declared.Stage.TheVariants.{Asking, Moving}
 use Rattle.uas_tasks.specs.declared.Task.{Task}
 use Rattle.uas_tasks.specs.declared.Task.TheVariants.{Blocks, Ended}
 use Rattle.uas_tasks.specs.Machine.{Machine, quiet, slot_of}
+use Rattle.uas_tasks.specs.Stale.{is_stale}
 use Rattle.file_disk.specs.declared.DiskFault.{DiskFault}
 use Rattle.file_disk.specs.declared.cdb.Operation.{Operation}
 use Rattle.file_disk.specs.declared.cdb.Operation.TheVariants.{Read, Write, Synchronize}
@@ -76,7 +78,8 @@ pub record IsWholeBlocks (bytes : List ℕ) : Type 0 where
 abbrev pub shape_of : ℕ → Shape
 shape_of blocks = record { blocks = blocks; block_length = Bytes512; serial = 1 }
 
--- The device has one logical unit of so many blocks, and tag 1 has this task, none of whose requests is out.
+-- The device has one logical unit of so many blocks, and tag 1 has this task, none of whose requests is out; nor is a stale one of another
+-- tag.
 pub record IsAt (blocks : ℕ) (machine : Machine) (now : Option Task) : Type 0 where
   pub units : machine.units ≡ quiet (shape_of blocks) ∷ []
   pub set : machine.set ≡ Host 128
@@ -85,6 +88,7 @@ pub record IsAt (blocks : ℕ) (machine : Machine) (now : Option Task) : Type 0 
   pub out : (slot_of machine 1).out ≡ None
   pub room : length (slot_of machine 1).bytes ≡ 65536
   pub task : (slot_of machine 1).task ≡ now
+  pub rest : list_any (is_stale 0) (drop 1 machine.slots) ≡ false
 
 -- the chunk buffer of tag 1
 abbrev pub buffer_of : Machine → List ℕ

@@ -15,7 +15,7 @@ use Rattle.uas_tasks.specs.declared.AnswerFault.TheVariants.{WrongLength}
 use Rattle.uas_tasks.specs.declared.LogicalUnit.{LogicalUnit}
 use Rattle.uas_tasks.specs.declared.Outcome.{Outcome}
 use Rattle.uas_tasks.specs.declared.Task.{Task}
-use Rattle.uas_tasks.specs.declared.Task.TheVariants.{Giving, Blocks, Ended}
+use Rattle.uas_tasks.specs.declared.Task.TheVariants.{Giving, Blocks, Ended, Held}
 use Rattle.uas_tasks.specs.declared.Wants.TheVariants.{Absent, Waits}
 use Rattle.uas_tasks.specs.declared.slot.Out.{Out}
 use Rattle.uas_tasks.specs.declared.Job.{Job}
@@ -24,7 +24,8 @@ use Rattle.uas_tasks.specs.declared.JobKind.TheVariants.{Reads, Writes, Compares
 use Rattle.uas_tasks.specs.declared.Stage.{Stage}
 use Rattle.uas_tasks.specs.declared.Stage.TheVariants.{Asking, Waiting, Moving}
 use Rattle.uas_tasks.specs.Slots.{SlotState, answered_slot, is_wrong_length, moved_way, slot_wants, spared_slot, stage_wants, task_wants}
-use Rattle.uas_tasks.specs.Machine.{Machine, aborted_on, answered_out, dropped, executed, executed_on, has_task, managed, on_its_tag, queried_on, received, reset_on, slot_of, wanted, with_code, with_response, with_slot}
+use Rattle.uas_tasks.specs.Machine.{Machine, aborted_on, answered_out, dropped, executed, executed_on, has_task, managed, on_its_tag, queried_on, received, reset_on, slot_of, wanted, responded, with_answer, with_slot, with_task_on}
+use Rattle.uas_tasks.proofs.Keeping.{wanted-free}
 use Rattle.guest_tasks.specs.declared.GuestTasks.{GuestTasks}
 use Rattle.guest_tasks.specs.Active.{TasksAreActive, is_absent, rested}
 use Rattle.guest_tasks.specs.Tasks.{received_told}
@@ -56,6 +57,7 @@ task_some chunk out given None absent has = false≢true has
 task_some chunk out given (Some (Giving unit at)) absent has = false≢true absent
 task_some chunk out given (Some (Blocks unit job stage)) absent has = stage_some chunk job out stage absent
 task_some chunk out given (Some (Ended unit answer)) absent has = false≢true absent
+task_some chunk out given (Some (Held unit code)) absent has = false≢true absent
 
 slot_some : (slot : SlotState) → is_absent (slot_wants slot) ≡ true → is_some slot.task ≡ true → ⊥
 slot_some slot absent has = task_some slot.chunk (is_some slot.out) (length slot.given) slot.task absent has
@@ -70,7 +72,7 @@ rested_by device tag true is active =
       room = length-set device.active (tag / 64) _ ∙ active.room;
       active = λ other below has.
           let apart : other ≡ tag → ⊥ = λ e.
-          slot_some (slot_of device.tasks tag) is_both.1 (sym (ap (has_task device.tasks) e) ∙ has) in
+          slot_some (slot_of device.tasks tag) (wanted-free (λ w. is_absent w ≡ true) false≢true device.tasks tag is_both.1) (sym (ap (has_task device.tasks) e) ∙ has) in
           marked_other device.active tag false other (omega (arith, low, room)) apart ∙ active.active other below has;
     }
 rested_by device tag false is active = active
@@ -121,17 +123,17 @@ managed_fewer : (machine : Machine) (function tag : ℕ) (lun : List ℕ) → Ar
 managed_fewer machine function tag lun =
     let number = slice_index lun 1 in
     let unit = addressed machine.units lun in
-    let P : Machine × ℕ → Type 0 = λ after. AreFewer machine.slots after.0.slots in
+    let P : Machine × Task → Type 0 = λ after. AreFewer machine.slots after.0.slots in
     let reset = reset_on machine number unit in
     let query = queried_on machine number tag unit in
-    let third : Machine × ℕ = cond (function == 128) query (machine, 4) in
-    let second : Machine × ℕ = cond (function == 8) reset third in
+    let third : Machine × Task = cond (function == 128) query (machine, responded 4) in
+    let second : Machine × Task = cond (function == 8) reset third in
     either P (function == 1) (aborted_on machine number tag unit) second (aborted_fewer machine number tag unit)
     (either P (function == 8) reset third (reset_fewer machine number unit)
-    (either P (function == 128) query (machine, 4) (queried_fewer machine number tag unit) (λ other has. has)))
+    (either P (function == 128) query (machine, responded 4) (queried_fewer machine number tag unit) (λ other has. has)))
 
 managed_others : (machine : Machine) (tag : ℕ) (bytes : List ℕ) (other : ℕ) → (other ≡ tag → ⊥)
-    → has_task (with_code tag (managed machine (function_in bytes) (task_tag_in bytes) (lun_in bytes))) other ≡ true → has_task machine other ≡ true
+    → has_task (with_answer tag (managed machine (function_in bytes) (task_tag_in bytes) (lun_in bytes))) other ≡ true → has_task machine other ≡ true
 managed_others machine tag bytes other apart has =
     let after = managed machine (function_in bytes) (task_tag_in bytes) (lun_in bytes) in
     managed_fewer machine (function_in bytes) (task_tag_in bytes) (lun_in bytes) other (others_stay after.0.slots tag _ other apart has)
@@ -144,9 +146,9 @@ received_keeps device bytes active =
     let P : Machine × Result Took Overlap → Type 0 = λ after. TasksAreActive (received_told device bytes after).0 in
     let none : Machine × Result Took Overlap = dropped machine in
     let overlap : Machine × Result Took Overlap = (machine, Err (record {})) in
-    let answer = with_response machine tag 2 in
+    let answer = with_task_on machine tag (responded 2) in
     let command = executed machine tag (lun_in bytes) (cdb_in bytes) in
-    let manages = with_code tag (managed machine (function_in bytes) (task_tag_in bytes) (lun_in bytes)) in
+    let manages = with_answer tag (managed machine (function_in bytes) (task_tag_in bytes) (lun_in bytes)) in
     let on : (after : Machine) → ((other : ℕ) → (other ≡ tag → ⊥) → has_task after other ≡ true → has_task machine other ≡ true)
     → P (on_its_tag machine tag after) = λ after others.
     either P (not (is_tag tag)) none (cond (has_task machine tag) overlap (after, Ok (Began tag))) active

@@ -1,4 +1,5 @@
--- A device without blocks (uas_tasks), as the pipes see a device. A tag whose request is to be asked or is out does nothing.
+-- A device without blocks (uas_tasks), as the pipes see a device. A tag whose request is to be asked or is out does nothing, nor does
+-- one that waits for a stale request.
 use Rattle.std.specs.Prelude.{ℕ, zero, suc, min, ◌==◌, Bool, true, false, List, [], Option, Some, None, Result, Ok, Err}
 use Rattle.uas_iu.specs.declared.Iu.{Iu}
 use Rattle.uas_iu.specs.declared.Iu.TheVariants.{Command, Sense, Response as ResponseIu, Task}

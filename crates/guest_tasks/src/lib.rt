@@ -1,8 +1,8 @@
 //! A device without blocks behind the pipes of a controller over a caller's memory.
 //!
 //! [`GuestTasks`] is a `uas_tasks::Tasks` as the device of `guest_tags`: chunks of at most 4,096 bytes of what it gives and takes, its answers,
-//! and what comes of an information unit, by `tasks_kind`. A tag whose request to the backend is to be asked or is out does nothing: its TDs
-//! wait. An information unit that overlaps is of the tag in its bytes 2 and 3.
+//! and what comes of an information unit, by `tasks_kind`. A tag whose request to the backend is to be asked or is out does nothing, and so
+//! does one that waits for a stale request of its logical unit: its TDs wait. An information unit that overlaps is of the tag in its bytes 2 and 3.
 //!
 //! It also keeps which tags are active: those on which an information unit came since they were last found without a task. So nobody has to
 //! go over tags that have nothing to do. They are a part of the device's state, so the equation of each call has them: [`GuestTasks::receive`]

@@ -42,6 +42,7 @@ use Rattle.task_laws.proofs.Begun.{begins_alike, is_sync, shape_with}
 use Rattle.task_laws.proofs.Cases.{SameUnit-with, slot_with, unit_with}
 use Rattle.task_laws.proofs.Devices.{Found, backed_with, device_with, same_unit_tag, tag_small}
 use Rattle.task_laws.proofs.Soon.{backed_at, soon_done, soon_too}
+use Rattle.task_laws.proofs.Free.{same_free}
 use Rattle.task_laws.proofs.Lists.{IsThere, set_found, slot_at}
 use Rattle.task_laws.proofs.Works.{same_work}
 
@@ -184,7 +185,7 @@ sync_begins device backed number maps serial attention tag lba count place same 
     let is : with_task old (Some (job_task number Synchronizes Bytes512 lba named)) ≡ slot =
     sync_slot (counts_of device.units) number lba named old before (some_covered maps.count lba count range.0) in
     let done : done_soon (backed_at backed number unit tag slot) tag ≡ backed_with backed number unit now tag ended =
-    soon_done backed number unit tag slot out maps (now, Done, []) here (tag_small device backed tag same here) refl refl refl refl place.maps_at refl refl in
+    soon_done backed number unit tag slot out maps (now, Done, []) (same_free device backed same) here (tag_small device backed tag same here) refl refl refl refl place.maps_at refl refl in
     let few : now.count ≤ 2 ^ 32 = omega (arith, synced-count maps lba named, place.few) in
     let both : SameUnit one unit now = record {
       blocks = sym (synced-count maps lba named);

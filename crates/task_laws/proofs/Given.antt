@@ -24,15 +24,19 @@ use Rattle.uas_target.specs.Tasks.{task_given, task_left, task_wants as target_w
 use Rattle.uas_tasks.specs.declared.Task.TheVariants.{Giving, Ended}
 use Rattle.uas_tasks.specs.declared.Wants.{Wants}
 use Rattle.uas_tasks.specs.declared.Wants.TheVariants.{Absent, Asks, Waits, Gives, Takes, Ends}
+use Rattle.uas_tasks.specs.Machine as tasks
 use Rattle.uas_tasks.specs.Machine.{Machine, next_by, slot_of, with_slot}
 use Rattle.uas_tasks.specs.Slots.{SlotState, gave_slot, next_bytes, slot_wants}
+use Rattle.uas_tasks.specs.Stale.{held_by}
+use Rattle.uas_tasks.proofs.Keeping.{wanted-free}
 use Rattle.task_laws.specs.Backed.{Backed, all_given, backed_gave, backed_given, gave_all, settled, settled_by, with_machine}
 use Rattle.task_laws.specs.Laws.{IsGives}
 use Rattle.task_laws.specs.Same.{Same, SameSlot, work_on}
 use Rattle.task_laws.proofs.Cases.{slot_with}
 use Rattle.task_laws.proofs.Chunks.{gives_given, gives_left}
 use Rattle.task_laws.proofs.Devices.{same_tag, tag_there, with_slot_under-same}
-use Rattle.task_laws.proofs.Settling.{gives_asks}
+use Rattle.task_laws.proofs.Settling.{gives_asks, waits_asks}
+use Rattle.task_laws.proofs.Free.{wanted_rests}
 use Rattle.task_laws.proofs.Lists.{IsThere, slot_under-with, with_slot_under-twice}
 
 -- WHAT IS GIVEN OF A SLOT
@@ -83,17 +87,19 @@ pub record Gave (backed : Backed) (tag : ℕ) (slot : SlotState) (maps : List Bl
   pub gave : backed_gave backed tag ≡ at_slot backed tag (slot_gave slot (slot_wants slot)) maps
   pub given : backed_given backed tag ≡ slot_given slot (slot_wants slot)
 
-gave_settled : (backed : Backed) (tag : ℕ) (slot : SlotState) (maps : List BlockMaps) → IsThere tag backed.machine.slots →
-    settled backed tag ≡ at_slot backed tag slot maps → Gave backed tag slot maps
-gave_settled backed tag slot maps here is =
+gave_settled : (backed : Backed) (tag : ℕ) (slot : SlotState) (maps : List BlockMaps) → option_and_then held_by slot.task ≡ None →
+    IsThere tag backed.machine.slots → settled backed tag ≡ at_slot backed tag slot maps → Gave backed tag slot maps
+gave_settled backed tag slot maps rests here is =
     let now : Backed = at_slot backed tag slot maps in
     let there : slot_of now.machine tag ≡ slot = slot_under-with backed.machine.slots tag slot here in
-    let by_gave : Backed → Backed = λ b. with_machine b (gave_all b.machine tag (slot_wants (slot_of b.machine tag))) in
-    let by_given : Backed → Option (List ℕ) = λ b. all_given b.machine tag (slot_wants (slot_of b.machine tag)) in
+    let by_gave : Backed → Backed = λ b. with_machine b (gave_all b.machine tag (tasks.wanted b.machine tag)) in
+    let by_given : Backed → Option (List ℕ) = λ b. all_given b.machine tag (tasks.wanted b.machine tag) in
+    let wants : tasks.wanted now.machine tag ≡ slot_wants slot =
+    wanted_rests now.machine tag (ap (λ (s : SlotState). option_and_then held_by s.task) there ∙ rests) ∙ ap slot_wants there in
     record {
-      gave = ap by_gave is ∙ ap (λ s. with_machine now (gave_all now.machine tag (slot_wants s))) there
+      gave = ap by_gave is ∙ ap (λ w. with_machine now (gave_all now.machine tag w)) wants
           ∙ ap (with_machine now) (gave_all-slot backed.machine tag slot (slot_wants slot) here);
-      given = ap by_given is ∙ ap (λ s. all_given now.machine tag (slot_wants s)) there ∙ all_given-slot now.machine tag slot (slot_wants slot) there;
+      given = ap by_given is ∙ ap (all_given now.machine tag) wants ∙ all_given-slot now.machine tag slot (slot_wants slot) there;
     }
 
 -- a tag that asks for nothing is settled
@@ -109,8 +115,8 @@ unasked_by backed tag Ends other = refl
 pub unasked : (backed : Backed) (tag : ℕ) (slot : SlotState) (wants : Wants) → slot_of backed.machine tag ≡ slot → slot_wants slot ≡ wants → (wants ≡ Asks → ⊥) →
     settled backed tag ≡ backed
 unasked backed tag slot wants is wanted other =
-    let by_wants : Wants → Backed = λ w. settled_by (with_machine backed (next_by backed.machine tag w).0) (next_by backed.machine tag w).1 in
-    ap by_wants (ap slot_wants is ∙ wanted) ∙ unasked_by backed tag wants other
+    unasked_by backed tag (tasks.wanted backed.machine tag)
+    (λ asks. other (sym wanted ∙ sym (ap slot_wants is) ∙ wanted-free (λ w. w ≡ Asks) waits_asks backed.machine tag asks))
 
 pub settled_giving : (backed : Backed) (tag : ℕ) (slot : SlotState) (bytes : ℕ) → slot_of backed.machine tag ≡ slot → slot_wants slot ≡ Gives bytes →
     settled backed tag ≡ at_slot backed tag slot backed.maps
@@ -134,12 +140,12 @@ some_there device backed tag task same is =
     tag_there device backed tag same (λ none. let no : ◌≡◌ {A = Option DeviceTask} (Some task) None = sym is ∙ none in let it : ⊥ = cc in it)
 
 -- what both come to where one is settled
-pub gives_so : (device : Device) (backed : Backed) (tag : ℕ) (slot now : SlotState) (task : Option DeviceTask) (bytes : Option (List ℕ)) → Same device backed →
-    IsThere tag backed.machine.slots → settled backed tag ≡ at_slot backed tag slot backed.maps → slot_gave slot (slot_wants slot) ≡ now →
+pub gives_so : (device : Device) (backed : Backed) (tag : ℕ) (slot now : SlotState) (task : Option DeviceTask) (bytes : Option (List ℕ)) →
+    option_and_then held_by slot.task ≡ None → Same device backed → IsThere tag backed.machine.slots → settled backed tag ≡ at_slot backed tag slot backed.maps → slot_gave slot (slot_wants slot) ≡ now →
     slot_given slot (slot_wants slot) ≡ bytes → SameSlot (counts_of device.units) task now →
     Same (with_task device tag task) (backed_gave backed tag) × (backed_given backed tag ≡ bytes)
-gives_so device backed tag slot now task bytes same here is leaves gives both =
-    let done : Gave backed tag slot backed.maps = gave_settled backed tag slot backed.maps here is in
+gives_so device backed tag slot now task bytes rests same here is leaves gives both =
+    let done : Gave backed tag slot backed.maps = gave_settled backed tag slot backed.maps rests here is in
     let after : backed_gave backed tag ≡ at_slot backed tag now backed.maps = done.gave ∙ ap (λ s. at_slot backed tag s backed.maps) leaves in
     (subst (Same (with_task device tag task)) (sym after) (same_tag device backed tag task now same (λ was. both)), done.given ∙ gives)
 
@@ -157,7 +163,7 @@ data_alike device backed tag slot unit op bytes same work told both task_is slot
     let leaves : gave_slot shown size ≡ ended = ap (λ b. slot_with (Some (cond b (Giving unit (0 + size)) (Ended unit (Status Good)))) slot) all in
     let whole : take size slot.given ≡ slot.given = take_all size slot.given (omega arith) in
     let now : Same (with_task device tag (Some (TargetEnded unit (Status Good)))) (backed_gave backed tag) × (backed_given backed tag ≡ Some bytes.items) =
-    gives_so device backed tag shown ended (Some (TargetEnded unit (Status Good))) (Some bytes.items) same here (settled_giving backed tag shown size slot_is refl) leaves
+    gives_so device backed tag shown ended (Some (TargetEnded unit (Status Good))) (Some bytes.items) refl same here (settled_giving backed tag shown size slot_is refl) leaves
     (ap (λ l. Some l) (whole ∙ told)) (record { chunk = refl; room = both.room; out = refl; task = refl }) in (
       subst (λ left. Same (with_task device tag left) (backed_gave backed tag)) (sym (gives_left device.units unit op bytes work)) now.0,
       now.1 ∙ sym (gives_given device.units unit op bytes work),

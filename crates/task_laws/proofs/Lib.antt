@@ -1,4 +1,5 @@
 pub mod Lists
+pub mod Free
 pub mod Cases
 pub mod Settling
 pub mod Works

@@ -1,6 +1,7 @@
 -- Task management leaves the devices the same, and answers the same. Cited by Received.
 use Rattle.std.proofs.Common.{◌≡◌, ℕ, Bool, true, false, cond, List, [], ◌∷◌, length, map, replicate, Option, Some, None, refl, ap, sym, subst, ◌∙◌}
 use Rattle.std.specs.Prelude.{◌==◌, slice_index, slice_set}
+use Rattle.std.specs.List.{list_any}
 use Rattle.std.specs.Option.{option_map_or}
 use Rattle.std.proofs.lemmas.List.{length-map}
 use Rattle.block_unit.specs.BlockMaps.{BlockMaps, with_attention}
@@ -15,6 +16,7 @@ use Rattle.uas_target.specs.Fields.{addressed}
 use Rattle.uas_target.specs.Soundness.{counts_of}
 use Rattle.uas_target.specs.Tasks.{is_at, is_command_of, spared}
 use Rattle.uas_tasks.specs.declared.LogicalUnit.{LogicalUnit}
+use Rattle.uas_tasks.specs.declared.Task.{Task}
 use Rattle.uas_tasks.specs.declared.Task.TheVariants.{Ended}
 use Rattle.uas_tasks.specs.Machine as tasks
 use Rattle.uas_tasks.specs.Machine.{Machine, reset_over, slot_of}
@@ -25,6 +27,7 @@ use Rattle.task_laws.specs.Laws.{ResetsAreSame}
 use Rattle.task_laws.specs.Same.{Same, SameSlot, SameTasks, SameUnit, SameUnits}
 use Rattle.task_laws.proofs.Cases.{SameUnit-with, SlotCases, UnitCases, slot_cases, unit_cases, unit_with}
 use Rattle.task_laws.proofs.Devices.{Found, addressed_cases, counts_kept, same_tag}
+use Rattle.task_laws.proofs.Free.{completed_free, same_free}
 use Rattle.task_laws.proofs.Lists.{set_found, slot_so, slots_map, units_set}
 
 -- ONE TASK
@@ -88,11 +91,11 @@ has_alike device backed number tag same =
 -- THE FUNCTIONS
 
 -- both devices, and the response codes
-abbrev ManagedAlike : Backed → Device × ℕ → Machine × ℕ → Type 0
-ManagedAlike backed one two = Same one.0 (with_machine backed two.0) × (two.1 ≡ one.1)
+abbrev ManagedAlike : Backed → Device × ℕ → Machine × Task → Type 0
+ManagedAlike backed one two = Same one.0 (with_machine backed two.0) × (two.1 ≡ tasks.responded one.1)
 
 -- where the same is tested
-either : (backed : Backed) (test : Bool) (one other : Device × ℕ) (two another : Machine × ℕ) → ManagedAlike backed one two → ManagedAlike backed other another →
+either : (backed : Backed) (test : Bool) (one other : Device × ℕ) (two another : Machine × Task) → ManagedAlike backed one two → ManagedAlike backed other another →
     ManagedAlike backed (cond test one other) (cond test two another)
 either backed true one other two another here there = here
 either backed false one other two another here there = there
@@ -103,10 +106,14 @@ aborted_alike : (device : Device) (backed : Backed) (tag : ℕ) (lun : List ℕ)
 aborted_alike device backed tag lun same =
     let number : ℕ = slice_index lun 1 in
     addressed_cases device backed lun (λ one two. ManagedAlike backed (aborted_on device number tag one) (tasks.aborted_on backed.machine number tag two)) same (same, refl)
-    (λ found. (
-      same_tag device backed tag (spared number (task_of device tag)) (spared_slot number (slot_of backed.machine tag)) same
-          (spares_alike (counts_of device.units) number (task_of device tag) (slot_of backed.machine tag)),
-      refl,
+    (λ found.
+    let ended : Machine = tasks.without_command backed.machine number tag in
+    let after : Same (aborted_on device number tag (Some found.device_unit)).0 (with_machine backed ended) =
+    same_tag device backed tag (spared number (task_of device tag)) (spared_slot number (slot_of backed.machine tag)) same
+    (spares_alike (counts_of device.units) number (task_of device tag) (slot_of backed.machine tag)) in (
+      after,
+      completed_free ended number (slots.has_command number (slot_of backed.machine tag))
+          (same_free (aborted_on device number tag (Some found.device_unit)).0 (with_machine backed ended) after),
     ))
 
 queried_alike : (device : Device) (backed : Backed) (tag : ℕ) (lun : List ℕ) → Same device backed →
@@ -115,7 +122,7 @@ queried_alike : (device : Device) (backed : Backed) (tag : ℕ) (lun : List ℕ)
 queried_alike device backed tag lun same =
     let number : ℕ = slice_index lun 1 in
     addressed_cases device backed lun (λ one two. ManagedAlike backed (queried_on device number tag one) (tasks.queried_on backed.machine number tag two)) same (same, refl)
-    (λ found. (same, ap (λ (b : Bool). cond b 8 0) (has_alike device backed number tag same)))
+    (λ found. (same, ap (λ (b : Bool). tasks.responded (cond b 8 0)) (has_alike device backed number tag same)))
 
 -- a logical unit that is reset
 abbrev ResetsAlike : BlockMaps → LogicalUnit → BlockMaps → Type 0
@@ -144,17 +151,20 @@ reset_there device backed number same found =
     let two : LogicalUnit = record { shape = found.unit.shape; attention = reset_over found.unit.attention } in
     let now : SameUnit one two found.maps = unit_cases ResetsAlike resets_cases found.device_unit found.unit found.maps found.same in
     let counts : counts_of (slice_set device.units number one) ≡ counts_of device.units = counts_kept device backed number found one two found.maps now refl in
-    let kept : slice_set backed.maps number found.maps ≡ backed.maps = set_found backed.maps number found.maps found.maps_at in (
-      record {
-        set = same.set;
-        units = subst (λ maps. SameUnits (slice_set device.units number one) (slice_set backed.machine.units number two) maps) kept
-            (units_set device.units backed.machine.units backed.maps number one two found.maps same.units now);
-        places = length-map backed.machine.slots (spared_slot number) ∙ same.places;
-        tasks = subst (λ c. SameTasks c (map (spared number) device.tasks) (map (spared_slot number) backed.machine.slots)) (sym counts)
-            (slots_map (counts_of device.units) device.tasks backed.machine.slots (spared number) (spared_slot number)
-            (spares_alike (counts_of device.units) number) same.tasks);
-      },
-      refl,
+    let kept : slice_set backed.maps number found.maps ≡ backed.maps = set_found backed.maps number found.maps found.maps_at in
+    let reset : Machine = (tasks.reset_on backed.machine number (Some found.unit)).0 in
+    let after : Same (reset_on device number (Some found.device_unit)).0 (with_machine backed reset) = record {
+      set = same.set;
+      units = subst (λ maps. SameUnits (slice_set device.units number one) (slice_set backed.machine.units number two) maps) kept
+          (units_set device.units backed.machine.units backed.maps number one two found.maps same.units now);
+      places = length-map backed.machine.slots (spared_slot number) ∙ same.places;
+      tasks = subst (λ c. SameTasks c (map (spared number) device.tasks) (map (spared_slot number) backed.machine.slots)) (sym counts)
+          (slots_map (counts_of device.units) device.tasks backed.machine.slots (spared number) (spared_slot number)
+          (spares_alike (counts_of device.units) number) same.tasks);
+    } in (
+      after,
+      completed_free reset number (list_any (slots.has_command number) backed.machine.slots)
+          (same_free (reset_on device number (Some found.device_unit)).0 (with_machine backed reset) after),
     )
 
 reset_alike : (device : Device) (backed : Backed) (lun : List ℕ) → Same device backed →
@@ -173,7 +183,7 @@ managed_alike device backed function tag lun same =
     let units : List BlockMaps = device.units in
     let others : List LogicalUnit = backed.machine.units in
     let query_or_none : Device × ℕ = cond (function == 128) (queried_on device number tag (addressed units lun)) (device, 4) in
-    let query_or_none_too : Machine × ℕ = cond (function == 128) (tasks.queried_on backed.machine number tag (addressed others lun)) (backed.machine, 4) in
+    let query_or_none_too : Machine × Task = cond (function == 128) (tasks.queried_on backed.machine number tag (addressed others lun)) (backed.machine, tasks.responded 4) in
     either backed (function == 1) (aborted_on device number tag (addressed units lun))
     (cond (function == 8) (reset_on device number (addressed units lun)) query_or_none)
     (tasks.aborted_on backed.machine number tag (addressed others lun))
@@ -183,20 +193,20 @@ managed_alike device backed function tag lun same =
     (tasks.reset_on backed.machine number (addressed others lun)) query_or_none_too
     (reset_alike device backed lun same)
     (either backed (function == 128) (queried_on device number tag (addressed units lun)) (device, 4)
-    (tasks.queried_on backed.machine number tag (addressed others lun)) (backed.machine, 4)
+    (tasks.queried_on backed.machine number tag (addressed others lun)) (backed.machine, tasks.responded 4)
     (queried_alike device backed tag lun same) (same, refl)))
 
 -- and its code is a response
 pub answers_code : (device : Device) (backed : Backed) (tag code : ℕ) → Same device backed →
-    Same (with_response device tag code) (with_machine backed (tasks.with_response backed.machine tag code))
+    Same (with_response device tag code) (with_machine backed (tasks.with_task_on backed.machine tag (tasks.responded code)))
 answers_code device backed tag code same =
     same_tag device backed tag (Some (TargetEnded None (Response code))) (slots.with_task (slot_of backed.machine tag) (Some (Ended None (Response code)))) same
     (λ old. record { chunk = old.chunk; room = old.room; out = old.out; task = refl })
 
-pub coded_alike : (device : Device) (backed : Backed) (tag : ℕ) (one : Device × ℕ) (two : Machine × ℕ) → ManagedAlike backed one two →
-    Same (with_code tag one) (with_machine backed (tasks.with_code tag two))
+pub coded_alike : (device : Device) (backed : Backed) (tag : ℕ) (one : Device × ℕ) (two : Machine × Task) → ManagedAlike backed one two →
+    Same (with_code tag one) (with_machine backed (tasks.with_answer tag two))
 coded_alike device backed tag one two alike =
-    subst (λ code. Same (with_response one.0 tag one.1) (with_machine backed (tasks.with_response two.0 tag code))) (sym alike.1)
+    subst (λ answer. Same (with_response one.0 tag one.1) (with_machine backed (tasks.with_task_on two.0 tag answer))) (sym alike.1)
     (answers_code one.0 (with_machine backed two.0) tag one.1 alike.0)
 
 -- A RESET OF THE WHOLE DEVICE

@@ -23,7 +23,7 @@ use Rattle.uas_tasks.specs.declared.JobKind.{JobKind}
 use Rattle.uas_tasks.specs.declared.JobKind.TheVariants.{Reads, Writes, Compares, Verifies, Synchronizes}
 use Rattle.uas_tasks.specs.declared.Stage.TheVariants.{Asking, Waiting, Moving}
 use Rattle.uas_tasks.specs.declared.Task.{Task}
-use Rattle.uas_tasks.specs.declared.Task.TheVariants.{Giving, Blocks, Ended}
+use Rattle.uas_tasks.specs.declared.Task.TheVariants.{Giving, Blocks, Ended, Held}
 use Rattle.uas_tasks.specs.declared.Wants.{Wants}
 use Rattle.uas_tasks.specs.declared.Wants.TheVariants.{Absent, Asks, Waits, Gives, Takes, Ends}
 use Rattle.uas_tasks.specs.declared.slot.Out.{Out}
@@ -32,11 +32,13 @@ use Rattle.uas_tasks.specs.Machine as tasks
 use Rattle.uas_tasks.specs.Slots.{SlotState, chunk_bytes, gave_slot, moved_way, next_bytes, next_chunk, slot_wants, took_slot}
 use Rattle.uas_tasks.proofs.Places.{there}
 use Rattle.device_server.specs.declared.Answer.TheVariants.{Good}
+use Rattle.uas_tasks.proofs.Keeping.{wanted-free}
 use Rattle.task_laws.specs.Backed.{Backed, gave_parts, given_parts, took_parts}
 use Rattle.task_laws.specs.Laws.{GivesInParts, TakesInParts}
 use Rattle.task_laws.specs.Same.{job_at}
 use Rattle.task_laws.proofs.Cases.{SlotCases, slot_cases, slot_with}
 use Rattle.task_laws.proofs.Devices.{tag_there}
+use Rattle.task_laws.proofs.Free.{wanted_gives as wanted_gives_any}
 use Rattle.task_laws.proofs.Lists.{IsThere, length-with_slot_under, slot_at, slot_under-with, with_slot_under-twice}
 use Rattle.task_laws.proofs.Taken.{takes_apart}
 use Rattle.task_laws.proofs.Works.{moves_gives, moves_on, same_takes, wanted_gives, wanted_reads, wanted_writes}
@@ -123,6 +125,7 @@ task_on : (slot : SlotState) (out : Option Out) (task : Task) (few rest : ℕ) �
     GivesOn (slot_at_task slot out task) few rest
 task_on slot out (Giving unit at) few rest some wants = data_on slot out unit at few rest some (same_gives (length slot.given - at) (few + rest) wants)
 task_on slot out (Ended unit answer) few rest some wants = gives_apart _ Ends (few + rest) tt wants
+task_on slot out (Held unit code) few rest some wants = gives_apart _ Ends (few + rest) tt wants
 task_on slot (Some out) (Blocks unit job stage) few rest some wants = gives_apart _ Waits (few + rest) tt wants
 task_on slot None (Blocks unit job Asking) few rest some wants = gives_apart _ Asks (few + rest) tt wants
 task_on slot None (Blocks unit job Waiting) few rest some wants = gives_apart _ Waits (few + rest) tt wants
@@ -139,6 +142,9 @@ slot_on slot (Some task) few rest is some wants =
 
 -- A CHUNK TO THE HOST
 
+waits_gives : (bytes : ℕ) → Waits ≡ Gives bytes → ⊥
+waits_gives bytes is = gives_apart ⊥ Waits bytes tt is
+
 no_slot_gives : (bytes : ℕ) → slot_wants no_slot ≡ Gives bytes → ⊥
 no_slot_gives bytes is = gives_apart ⊥ Absent bytes tt is
 
@@ -151,13 +157,15 @@ gives_parts machine tag (size ∷ sizes) rest some wants =
     let all : sum (size ∷ sizes) + rest ≡ size + left = omega (arith, sum_by-cons (λ n. n) size sizes) in
     let positive : 0 < left = omega (arith, some) in
     let slot : SlotState = slot_of machine tag in
-    let wants_all : slot_wants slot ≡ Gives (size + left) = wants ∙ ap (λ n. Gives n) all in
+    let own : slot_wants slot ≡ Gives (sum (size ∷ sizes) + rest) =
+    wanted-free (λ w. w ≡ Gives (sum (size ∷ sizes) + rest)) (waits_gives (sum (size ∷ sizes) + rest)) machine tag wants in
+    let wants_all : slot_wants slot ≡ Gives (size + left) = own ∙ ap (λ n. Gives n) all in
     let on : GivesOn slot size left = slot_on slot slot.task size left refl positive wants_all in
     let here = there (λ s. slot_wants s ≡ Gives (size + left)) (no_slot_gives (size + left)) machine.slots tag wants_all in
     let is_there : IsThere tag machine.slots = (here.0, omega (arith, here.0, here.1)) in
     let first : Machine = tasks.gave machine tag size in
     let under : slot_of first tag ≡ gave_slot slot size = slot_under-with machine.slots tag (gave_slot slot size) is_there in
-    let later = gives_parts first tag sizes rest some (ap slot_wants under ∙ on.wants) in
+    let later = gives_parts first tag sizes rest some (wanted_gives_any first tag left (ap slot_wants under ∙ on.wants)) in
     let by_slots : List SlotState → Machine = λ slots. record { units = machine.units; set = machine.set; slots = slots } in
     let before : List ℕ = next_bytes slot size in
     let parts : List ℕ = given_parts first tag sizes in

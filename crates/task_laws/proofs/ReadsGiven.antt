@@ -38,6 +38,7 @@ use Rattle.uas_tasks.specs.declared.slot.Out.{Out}
 use Rattle.uas_tasks.specs.Machine.{slot_of, no_slot}
 use Rattle.uas_tasks.specs.Slots.{SlotState, gave_slot, next_chunk, slot_wants}
 use Rattle.uas_tasks.proofs.Places.{there}
+use Rattle.uas_tasks.specs.Machine as tasks
 use Rattle.task_laws.specs.Backed.{Backed, all_given, backed_gave, backed_given, gave_all, settled, with_machine}
 use Rattle.task_laws.specs.Laws.{IsGives, ReadsMayBeEarly}
 use Rattle.task_laws.specs.Same.{Same, SameSlot, SameWork, job_at, work_on}
@@ -45,6 +46,7 @@ use Rattle.task_laws.proofs.Cases.{SlotCases, slot_cases, slot_with}
 use Rattle.task_laws.proofs.Chunks.{bad_alike, next_alike, on_found, read_alike}
 use Rattle.task_laws.proofs.Devices.{Found, count_of, found_there, tag_small, tag_there}
 use Rattle.task_laws.proofs.Given.{GivesAlike, at_slot, data_alike, front_read, gives_so, room_kept, some_there, unasked}
+use Rattle.task_laws.proofs.Free.{same_free}
 use Rattle.task_laws.proofs.Lists.{IsThere, set_found, slot_at, slot_so, slot_under-with}
 use Rattle.task_laws.proofs.Settling.{absent_asks, ends_asks, gives_asks, settled_there, takes_asks}
 use Rattle.task_laws.proofs.Works.{OnUnit, in_range, moves_on, on_unit, wanted_writes}
@@ -101,10 +103,10 @@ read_settled device backed tag slot number op chunk lba count same here found wo
     let done_by : Bool → BlockMaps × Outcome × List ℕ = λ b. cond b (maps, MediumError, []) (maps, Done, new) in
     record {
       bad = λ is.
-          settled_there backed tag shown out maps (maps, MediumError, []) here small slot_is refl refl found.maps_at (ap done_by is) refl
+          settled_there backed tag shown out maps (maps, MediumError, []) (same_free device backed same) here small slot_is refl refl found.maps_at (ap done_by is) refl
           ∙ ap (at_slot backed tag (read_ended slot number)) kept;
       good = λ is.
-          settled_there backed tag shown out maps (maps, Done, new) here small slot_is refl refl found.maps_at (ap done_by is)
+          settled_there backed tag shown out maps (maps, Done, new) (same_free device backed same) here small slot_is refl refl found.maps_at (ap done_by is)
           (ap (λ b. not b) (eq-eqb (length new) (BLOCK_BYTES * many) size))
           ∙ ap (at_slot backed tag (read_moving slot number job new)) kept;
       size = size;
@@ -146,7 +148,7 @@ reads_alike device backed tag slot number op chunk lba count same work both soun
       | inl bad ↦
           let ended : SlotState = read_ended slot number in
           subst so (sym bad)
-          (gives_so device backed tag ended ended (Some (TargetEnded (Some number) (Status (Check unrecovered_read_error)))) None same here (done.bad bad) refl refl
+          (gives_so device backed tag ended ended (Some (TargetEnded (Some number) (Status (Check unrecovered_read_error)))) None refl same here (done.bad bad) refl refl
           (record { chunk = refl; room = both.room; out = refl; task = refl }))
       | inr good ↦
           let next : SlotState = slot_with (Some (next_chunk CHUNK_BLOCKS number job)) (filled slot new) in
@@ -156,7 +158,7 @@ reads_alike device backed tag slot number op chunk lba count same work both soun
           ap (λ b. slot_with (Some (cond b (Blocks number job (Moving (0 + moved))) (next_chunk CHUNK_BLOCKS number job))) (filled slot new))
           (le-ltb (0 + moved) (BLOCK_BYTES * many) (omega arith)) in
           subst so (sym good)
-          (gives_so device backed tag (read_moving slot number job new) next (left_by false) (Some new) same here (done.good good) leaves
+          (gives_so device backed tag (read_moving slot number job new) next (left_by false) (Some new) refl same here (done.good good) leaves
           (ap (λ l. Some l) (front_read slot.bytes new moved (omega (arith, done.size))))
           (next_alike (counts_of device.units) number op Reads lba count chunk (filled slot new)
           (λ n. subst (λ (works : Result Work Sense).
@@ -245,6 +247,6 @@ settled_once device backed tag same =
 pub early_alike : ReadsMayBeEarly
 early_alike device backed tag same =
     let once : settled (settled backed tag) tag ≡ settled backed tag = settled_once device backed tag same in
-    let by_gave : Backed → Backed = λ b. with_machine b (gave_all b.machine tag (slot_wants (slot_of b.machine tag))) in
-    let by_given : Backed → Option (List ℕ) = λ b. all_given b.machine tag (slot_wants (slot_of b.machine tag)) in
+    let by_gave : Backed → Backed = λ b. with_machine b (gave_all b.machine tag (tasks.wanted b.machine tag)) in
+    let by_given : Backed → Option (List ℕ) = λ b. all_given b.machine tag (tasks.wanted b.machine tag) in
     (ap by_gave once, ap by_given once)

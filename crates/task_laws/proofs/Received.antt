@@ -38,6 +38,7 @@ use Rattle.uas_target.specs.Tasks.{begun_by, task_in}
 use Rattle.uas_target.proofs.Counts.{slice_get-counts_of}
 use Rattle.uas_target.proofs.Sound.{begun_sound}
 use Rattle.uas_tasks.specs.declared.LogicalUnit.{LogicalUnit}
+use Rattle.uas_tasks.specs.declared.Task.{Task}
 use Rattle.uas_tasks.specs.declared.Task.TheVariants.{Ended}
 use Rattle.uas_tasks.specs.Machine.{Machine, has_task, no_slot, slot_of}
 use Rattle.uas_tasks.specs.Machine as tasks
@@ -271,12 +272,12 @@ unreadable_alike : (device : Device) (backed : Backed) (bytes : List ℕ) (tag :
     ReceivedAlike backed tag (received_unreadable device bytes tag) (tasks.received_unreadable backed.machine bytes tag)
 unreadable_alike device backed bytes tag same =
     let told : Device × Result Took Overlap = (with_response device tag 2, Ok (Began tag)) in
-    let told_too : Machine × Result Took Overlap = (tasks.with_response backed.machine tag 2, Ok (Began tag)) in
+    let told_too : Machine × Result Took Overlap = (tasks.with_task_on backed.machine tag (tasks.responded 2), Ok (Began tag)) in
     let two : Bool → Machine × Result Took Overlap =
     λ has. cond (nat_le 4 (length bytes) && is_tag tag && not has) told_too (tasks.dropped backed.machine) in
     subst (λ has. ReceivedAlike backed tag (received_unreadable device bytes tag) (two has)) (sym (have_alike device backed tag same))
     (either backed tag (nat_le 4 (length bytes) && is_tag tag && not (is_some (task_of device tag))) told (dropped device) told_too (tasks.dropped backed.machine)
-    (soon_too (with_response device tag 2) (with_machine backed (tasks.with_response backed.machine tag 2)) tag (answers_code device backed tag 2 same), refl)
+    (soon_too (with_response device tag 2) (with_machine backed (tasks.with_task_on backed.machine tag (tasks.responded 2))) tag (answers_code device backed tag 2 same), refl)
     (dropped_alike device backed tag same))
 
 unit_alike : (device : Device) (backed : Backed) (bytes : List ℕ) (tag : ℕ) → Same device backed →
@@ -286,17 +287,17 @@ unit_alike device backed bytes tag same =
     let commanded : Device = with_units_and_task device tag (executed device.units lun (cdb_in bytes)) in
     let commanded_too : Machine = tasks.executed backed.machine tag lun (cdb_in bytes) in
     let one : Device × ℕ = managed device (function_in bytes) (task_tag_in bytes) lun in
-    let two : Machine × ℕ = tasks.managed backed.machine (function_in bytes) (task_tag_in bytes) lun in
+    let two : Machine × Task = tasks.managed backed.machine (function_in bytes) (task_tag_in bytes) lun in
     either backed tag (identifier bytes == 1) (on_its_tag device tag commanded)
     (cond (identifier bytes == 5) (on_its_tag device tag (with_code tag one)) (dropped device))
     (tasks.on_its_tag backed.machine tag commanded_too)
-    (cond (identifier bytes == 5) (tasks.on_its_tag backed.machine tag (tasks.with_code tag two)) (tasks.dropped backed.machine))
+    (cond (identifier bytes == 5) (tasks.on_its_tag backed.machine tag (tasks.with_answer tag two)) (tasks.dropped backed.machine))
     (tag_alike device backed tag commanded commanded_too same (executed_alike device backed tag lun (cdb_in bytes) same))
     (either backed tag (identifier bytes == 5) (on_its_tag device tag (with_code tag one)) (dropped device)
-    (tasks.on_its_tag backed.machine tag (tasks.with_code tag two)) (tasks.dropped backed.machine)
-    (tag_alike device backed tag (with_code tag one) (tasks.with_code tag two) same
+    (tasks.on_its_tag backed.machine tag (tasks.with_answer tag two)) (tasks.dropped backed.machine)
+    (tag_alike device backed tag (with_code tag one) (tasks.with_answer tag two) same
     (λ here free.
-    soon_too (with_code tag one) (with_machine backed (tasks.with_code tag two)) tag
+    soon_too (with_code tag one) (with_machine backed (tasks.with_answer tag two)) tag
     (coded_alike device backed tag one two (managed_alike device backed (function_in bytes) (task_tag_in bytes) lun same))))
     (dropped_alike device backed tag same))
 

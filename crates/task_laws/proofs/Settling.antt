@@ -12,9 +12,12 @@ use Rattle.uas_tasks.specs.declared.Outcome.{Outcome}
 use Rattle.uas_tasks.specs.declared.Wants.{Wants}
 use Rattle.uas_tasks.specs.declared.Wants.TheVariants.{Absent, Asks, Waits, Gives, Takes, Ends}
 use Rattle.uas_tasks.specs.declared.slot.Out.{Out}
-use Rattle.uas_tasks.specs.Machine.{Machine, answered, answered_out, next_asked, next_by, next_of, number_of, out_of_number, out_on, slot_of, with_slot, bytes_out}
+use Rattle.uas_tasks.specs.Machine.{Machine, answered, answered_out, next_asked, next_by, next_of, number_of, out_of_number, out_on, slot_of, wanted, with_slot, bytes_out}
 use Rattle.uas_tasks.specs.Slots.{SlotState, answered_slot, asked_slot, is_wrong_length, slot_wants}
-use Rattle.task_laws.specs.Backed.{Backed, answered_with, done_at_once, done_on, done_soon, is_reading, settled, settled_by, unit_in, with_machine}
+use Rattle.uas_tasks.specs.Stale.{unit_in}
+use Rattle.uas_tasks.proofs.Keeping.{wanted-free}
+use Rattle.task_laws.specs.Backed.{Backed, answered_with, done_at_once, done_on, done_soon, is_reading, settled, settled_by, with_machine}
+use Rattle.task_laws.proofs.Free.{IsFree, wanted_free}
 use Rattle.task_laws.proofs.Lists.{IsThere, slot_under-with, with_slot_under-twice}
 
 -- THE NUMBER OF A REQUEST
@@ -27,14 +30,14 @@ turn_of_number turn tag small = omega arith
 
 -- WHERE A REQUEST IS ASKED
 
-next_there : (machine : Machine) (tag : ℕ) (slot : SlotState) (out : Out) → slot_of machine tag ≡ slot → slot_wants slot ≡ Asks →
+next_there : (machine : Machine) (tag : ℕ) (slot : SlotState) (out : Out) → IsFree machine → slot_of machine tag ≡ slot → slot_wants slot ≡ Asks →
     (asked_slot slot).out ≡ Some out →
     ◌≡◌ {A = Machine × Next} (next_of machine tag) (with_slot machine tag (asked_slot slot), NextAsks (number_of tag (asked_slot slot)) out.request)
-next_there machine tag slot out is wants asks =
+next_there machine tag slot out free is wants asks =
     let by_slot : SlotState → Machine × Next = λ s. (with_slot machine tag (asked_slot s), next_asked tag (asked_slot s)) in
     let by_out : Option Out → Machine × Next =
     λ found. (with_slot machine tag (asked_slot slot), option_map_or (λ o. NextAsks (number_of tag (asked_slot slot)) o.request) found NextWaits) in
-    ap (next_by machine tag) (ap slot_wants is ∙ wants) ∙ ap by_slot is ∙ ap by_out asks
+    ap (next_by machine tag) (wanted_free machine tag free ∙ ap slot_wants is ∙ wants) ∙ ap by_slot is ∙ ap by_out asks
 
 -- the request of this number is the slot's
 out_there : (machine : Machine) (tag : ℕ) (slot : SlotState) (out : Out) → slot_of machine tag ≡ slot → tag < 256 → slot.out ≡ Some out →
@@ -71,14 +74,14 @@ answered_there machine tag slot out outcome new is small asks right =
 
 -- The request of a tag is done on the blocks of its logical unit: this comes of it.
 pub settled_there : (backed : Backed) (tag : ℕ) (slot : SlotState) (out : Out) (maps : BlockMaps) (after : BlockMaps × Outcome × List ℕ) →
-    IsThere tag backed.machine.slots → tag < 256 → slot_of backed.machine tag ≡ slot → slot_wants slot ≡ Asks → (asked_slot slot).out ≡ Some out →
-    slice_get backed.maps (unit_in out.request) ≡ Some maps → done_at_once maps out.request (take out.len slot.bytes) ≡ after →
+    IsFree backed.machine → IsThere tag backed.machine.slots → tag < 256 → slot_of backed.machine tag ≡ slot → slot_wants slot ≡ Asks →
+    (asked_slot slot).out ≡ Some out → slice_get backed.maps (unit_in out.request) ≡ Some maps → done_at_once maps out.request (take out.len slot.bytes) ≡ after →
     is_wrong_length (asked_slot slot) out after.1 (length after.2) ≡ false →
     ◌≡◌ {A = Backed} (settled backed tag) (record {
       machine = with_slot backed.machine tag (answered_slot (asked_slot slot) out after.1 after.2);
       maps = slice_set backed.maps (unit_in out.request) after.0;
     })
-settled_there backed tag slot out maps after here small is wants asks at done right =
+settled_there backed tag slot out maps after free here small is wants asks at done right =
     let asked : SlotState = asked_slot slot in
     let first : Backed = with_machine backed (with_slot backed.machine tag asked) in
     let number : ℕ = number_of tag asked in
@@ -87,7 +90,7 @@ settled_there backed tag slot out maps after here small is wants asks at done ri
     let by_bytes : Option (List ℕ) → Backed = λ found. answered_with first number out.request (done_at_once maps out.request (unwrap_or found [])) in
     let by_machine : Machine → Backed = λ machine. record { machine = machine; maps = slice_set backed.maps (unit_in out.request) after.0 } in
     let by_slots : List SlotState → Machine = λ slots. record { units = backed.machine.units; set = backed.machine.set; slots = slots } in
-    ap by_next (next_there backed.machine tag slot out is wants asks)
+    ap by_next (next_there backed.machine tag slot out free is wants asks)
     ∙ ap (done_on first number out.request) at
     ∙ ap by_bytes (bytes_there first.machine tag asked out there small asks)
     ∙ ap (answered_with first number out.request) done
@@ -105,6 +108,9 @@ gives_asks bytes is = let no : ◌≡◌ {A = Wants} (Gives bytes) Asks = is in 
 
 pub takes_asks : (bytes : ℕ) → Takes bytes ≡ Asks → ⊥
 takes_asks bytes is = let no : ◌≡◌ {A = Wants} (Takes bytes) Asks = is in let it : ⊥ = cc in it
+
+pub waits_asks : Waits ≡ Asks → ⊥
+waits_asks is = let no : ◌≡◌ {A = Wants} Waits Asks = is in let it : ⊥ = cc in it
 
 pub ends_asks : Ends ≡ Asks → ⊥
 ends_asks is = let no : ◌≡◌ {A = Wants} Ends Asks = is in let it : ⊥ = cc in it
@@ -128,11 +134,13 @@ quiet_by backed tag Ends quiet = refl
 
 -- nothing is done for them soon
 pub done_soon-quiet : (backed : Backed) (tag : ℕ) → IsQuiet tag (slot_of backed.machine tag) → done_soon backed tag ≡ backed
-done_soon-quiet backed tag quiet = quiet_by backed tag (slot_wants (slot_of backed.machine tag)) quiet
+done_soon-quiet backed tag quiet =
+    quiet_by backed tag (wanted backed.machine tag) (λ asks. quiet (wanted-free (λ w. w ≡ Asks) waits_asks backed.machine tag asks))
 
 -- a request that is no Read is done soon
-pub done_soon-asked : (backed : Backed) (tag : ℕ) (slot : SlotState) (out : Out) → slot_of backed.machine tag ≡ slot → slot_wants slot ≡ Asks →
+pub done_soon-asked : (backed : Backed) (tag : ℕ) (slot : SlotState) (out : Out) → IsFree backed.machine → slot_of backed.machine tag ≡ slot →
+    slot_wants slot ≡ Asks →
     (asked_slot slot).out ≡ Some out → is_reading (NextAsks 0 out.request) ≡ false → done_soon backed tag ≡ settled backed tag
-done_soon-asked backed tag slot out is wants asks other =
-    ap (λ (next : Machine × Next). cond (is_reading next.1) backed (settled backed tag)) (next_there backed.machine tag slot out is wants asks)
+done_soon-asked backed tag slot out free is wants asks other =
+    ap (λ (next : Machine × Next). cond (is_reading next.1) backed (settled backed tag)) (next_there backed.machine tag slot out free is wants asks)
     ∙ ap (λ b. cond b backed (settled backed tag)) other

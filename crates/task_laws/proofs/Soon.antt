@@ -12,10 +12,12 @@ use Rattle.uas_tasks.specs.declared.Next.TheVariants.{Asks as NextAsks}
 use Rattle.uas_tasks.specs.declared.slot.Out.{Out}
 use Rattle.uas_tasks.specs.Machine.{no_slot, slot_of, with_slot_under}
 use Rattle.uas_tasks.specs.Slots.{SlotState, answered_slot, asked_slot, is_wrong_length, slot_wants}
-use Rattle.task_laws.specs.Backed.{Backed, done_at_once, done_soon, is_reading, unit_in}
+use Rattle.uas_tasks.specs.Stale.{unit_in}
+use Rattle.task_laws.specs.Backed.{Backed, done_at_once, done_soon, is_reading}
 use Rattle.task_laws.specs.Same.{Same}
 use Rattle.task_laws.proofs.Cases.{SlotCases, slot_cases}
 use Rattle.task_laws.proofs.Devices.{backed_with}
+use Rattle.task_laws.proofs.Free.{IsFree, asks_fresh, written_free}
 use Rattle.task_laws.proofs.Lists.{IsThere, length-with_slot_under, slot_so, slot_under-with, with_slot_under-twice}
 use Rattle.task_laws.proofs.Settling.{IsQuiet, done_soon-asked, done_soon-quiet, settled_there, absent_asks, ends_asks, gives_asks, takes_asks}
 
@@ -57,11 +59,12 @@ backed_at backed number unit tag slot = record {
 }
 
 pub soon_done : (backed : Backed) (number : ℕ) (unit : LogicalUnit) (tag : ℕ) (slot : SlotState) (out : Out) (maps : BlockMaps)
-    (after : BlockMaps × Outcome × List ℕ) → IsThere tag backed.machine.slots → tag < 256 → slot_wants slot ≡ Asks → (asked_slot slot).out ≡ Some out →
+    (after : BlockMaps × Outcome × List ℕ) → IsFree backed.machine → IsThere tag backed.machine.slots → tag < 256 → slot_wants slot ≡ Asks →
+    (asked_slot slot).out ≡ Some out →
     is_reading (NextAsks 0 out.request) ≡ false → unit_in out.request ≡ number → slice_get backed.maps number ≡ Some maps →
     done_at_once maps out.request (take out.len slot.bytes) ≡ after → is_wrong_length (asked_slot slot) out after.1 (length after.2) ≡ false →
     done_soon (backed_at backed number unit tag slot) tag ≡ backed_with backed number unit after.0 tag (answered_slot (asked_slot slot) out after.1 after.2)
-soon_done backed number unit tag slot out maps after here small wants asks other on at done right =
+soon_done backed number unit tag slot out maps after free here small wants asks other on at done right =
     let first : Backed = backed_at backed number unit tag slot in
     let now : SlotState = answered_slot (asked_slot slot) out after.1 after.2 in
     let is : slot_of first.machine tag ≡ slot = slot_under-with backed.machine.slots tag slot here in
@@ -71,6 +74,7 @@ soon_done backed number unit tag slot out maps after here small wants asks other
       machine = record { units = slice_set backed.machine.units number unit; set = backed.machine.set; slots = slots };
       maps = slice_set backed.maps n after.0;
     } in
-    done_soon-asked first tag slot out is wants asks other
-    ∙ settled_there first tag slot out maps after there small is wants asks (ap (slice_get backed.maps) on ∙ at) done right
+    let free_first : IsFree first.machine = written_free backed.machine tag slot free (asks_fresh slot wants) in
+    done_soon-asked first tag slot out free_first is wants asks other
+    ∙ settled_there first tag slot out maps after free_first there small is wants asks (ap (slice_get backed.maps) on ∙ at) done right
     ∙ ap₂ by_number on (with_slot_under-twice backed.machine.slots tag slot now)

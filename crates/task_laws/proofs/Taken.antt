@@ -50,6 +50,7 @@ use Rattle.task_laws.proofs.Chunks.{bad_alike, next_alike, on_found, written_ali
 use Rattle.task_laws.proofs.Devices.{Found, backed_with, count_of, device_with, found_there, same_unit_tag, tag_small, tag_there}
 use Rattle.task_laws.proofs.Soon.{backed_at, soon_done}
 use Rattle.task_laws.proofs.Given.{front_read, room_kept, some_there}
+use Rattle.task_laws.proofs.Free.{same_free}
 use Rattle.task_laws.proofs.Lists.{IsThere, set_found, slot_at, slot_so}
 use Rattle.task_laws.proofs.Works.{OnUnit, in_range, moves_gives, moves_on, on_unit, same_takes, wanted_gives, wanted_reads, wanted_writes}
 
@@ -140,7 +141,7 @@ writes_alike device backed tag bytes slot number op chunk lba count through same
           let ended : SlotState = slot_with (Some (Ended (Some number) (Status (Check write_error)))) later in
           let is : backed_took backed tag bytes ≡ backed_with backed number found.unit maps tag ended =
           ap (λ b. done_soon b tag) first
-          ∙ soon_done backed number found.unit tag asking out maps (maps, MediumError, []) here small refl refl refl refl found.maps_at (done_is ∙ ap done_by bad) refl in
+          ∙ soon_done backed number found.unit tag asking out maps (maps, MediumError, []) (same_free device backed same) here small refl refl refl refl found.maps_at (done_is ∙ ap done_by bad) refl in
           let task : Option DeviceTask = Some (TargetEnded (Some number) (Status (Check write_error))) in
           subst so (sym bad)
           (subst (Same (device_with device number one tag task)) (sym is)
@@ -151,7 +152,7 @@ writes_alike device backed tag bytes slot number op chunk lba count through same
           let now : BlockMaps = written maps at bytes through in
           let is : backed_took backed tag bytes ≡ backed_with backed number found.unit now tag next =
           ap (λ b. done_soon b tag) first
-          ∙ soon_done backed number found.unit tag asking out maps (now, Done, []) here small refl refl refl refl found.maps_at (done_is ∙ ap done_by good) refl in
+          ∙ soon_done backed number found.unit tag asking out maps (now, Done, []) (same_free device backed same) here small refl refl refl refl found.maps_at (done_is ∙ ap done_by good) refl in
           subst so (sym good)
           (subst (Same (device_with device number (written one at bytes through) tag (left_by false))) (sym is)
           (same_unit_tag device backed number found (written one at bytes through) found.unit now tag (left_by false) next same

@@ -7,9 +7,11 @@ use Rattle.uas_target.specs.declared.Phase.TheVariants.{Absent, Gives}
 use Rattle.uas_target.specs.Soundness.{counts_of}
 use Rattle.uas_target.specs.Tasks.{task_answer as target_answer, task_wants as target_wants}
 use Rattle.uas_tasks.specs.Slots.{SlotState, slot_wants, task_answer}
+use Rattle.uas_tasks.specs.Machine.{slot_of}
 use Rattle.task_laws.specs.Backed.{phase_of}
 use Rattle.task_laws.specs.Laws.{AnswersAreSame, TagsWantTheSame}
 use Rattle.task_laws.proofs.Cases.{SlotCases, slot_cases}
+use Rattle.task_laws.proofs.Free.{answer_free, same_free, wanted_free}
 use Rattle.task_laws.proofs.Lists.{slot_so}
 use Rattle.task_laws.proofs.Works.{moves_gives, moves_on, wanted_gives, wanted_reads, wanted_writes}
 
@@ -30,7 +32,8 @@ wants_cases counts = record {
 
 pub wants_alike : TagsWantTheSame
 wants_alike device backed tag same =
-    slot_so WantsAlike (counts_of device.units) device.tasks backed.machine.slots tag refl
+    ap (phase_of (slot_of backed.machine tag)) (wanted_free backed.machine tag (same_free device backed same))
+    ∙ slot_so WantsAlike (counts_of device.units) device.tasks backed.machine.slots tag refl
     (slot_cases (counts_of device.units) WantsAlike (wants_cases (counts_of device.units))) same.tasks
 
 abbrev AnswersAlike : ℕ → Option DeviceTask → SlotState → Type 0
@@ -47,5 +50,6 @@ answers_cases counts tag = record {
 
 pub answers_alike : AnswersAreSame
 answers_alike device backed tag same =
-    slot_so (AnswersAlike tag) (counts_of device.units) device.tasks backed.machine.slots tag refl
+    answer_free backed.machine tag (same_free device backed same)
+    ∙ slot_so (AnswersAlike tag) (counts_of device.units) device.tasks backed.machine.slots tag refl
     (slot_cases (counts_of device.units) (AnswersAlike tag) (answers_cases (counts_of device.units) tag)) same.tasks

@@ -21,12 +21,13 @@ use Rattle.uas_tasks.specs.declared.Outcome.TheVariants.{Done, Differs, MediumEr
 use Rattle.uas_tasks.specs.declared.Request.{Request}
 use Rattle.uas_tasks.specs.declared.Request.TheVariants.{Read, Write, Compare, Verify, Sync}
 use Rattle.uas_tasks.specs.declared.Task.{Task}
-use Rattle.uas_tasks.specs.declared.Task.TheVariants.{Blocks, Ended, Giving}
+use Rattle.uas_tasks.specs.declared.Task.TheVariants.{Blocks, Ended, Giving, Held}
 use Rattle.uas_tasks.specs.declared.Wants.{Wants}
 use Rattle.uas_tasks.specs.declared.Wants.TheVariants.{Absent, Asks, Waits, Gives, Takes, Ends}
 use Rattle.uas_tasks.specs.declared.slot.Out.{Out}
 use Rattle.uas_tasks.specs.Machine.{Machine, answer_on, answered, bytes_out, gave, given, greatest_block, next_of, opening, quiet, received, reset_machine, slot_of, took, wanted, without_task}
 use Rattle.uas_tasks.specs.Slots.{SlotState, asked_slot, is_read}
+use Rattle.uas_tasks.specs.Stale.{unit_in}
 
 -- the device, and the blocks of each of its logical units, by number
 pub record Backed : Type 0 where
@@ -44,14 +45,6 @@ backed_opening shapes units = record {
 }
 
 -- A REQUEST IS DONE
-
--- the logical unit of a request
-abbrev pub unit_in : Request → ℕ
-unit_in (Read unit block count) = unit
-unit_in (Write unit block count through) = unit
-unit_in (Compare unit block count) = unit
-unit_in (Verify unit block count) = unit
-unit_in (Sync unit block count) = unit
 
 -- a bad block among these is a medium error, and then nothing is done
 abbrev pub unless_bad : BlockMaps → ℕ → ℕ → BlockMaps × Outcome × List ℕ → BlockMaps × Outcome × List ℕ
@@ -159,6 +152,7 @@ has_failed None = false
 has_failed (Some (Giving unit at)) = false
 has_failed (Some (Blocks unit job stage)) = false
 has_failed (Some (Ended unit answer)) = is_check answer
+has_failed (Some (Held unit code)) = false
 
 -- whether it is: a bad block ends the command
 abbrev pub backed_fits : Backed → ℕ → List ℕ → Bool

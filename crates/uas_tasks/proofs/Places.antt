@@ -1,11 +1,12 @@
 -- Slots of a list: the one of a tag, what was read there, and what stays true as one is written. Cited by the answers of every
 -- call of a device.
-use Rattle.std.proofs.Common.{◌≡◌, ℕ, zero, suc, ◌+◌, ◌-◌, ◌*◌, ◌<◌, ◌≤◌, Bool, true, false, not, ◌||◌, cond, List, [], ◌∷◌, ◌++◌, length, map, replicate, take, drop, All}
-use Rattle.std.proofs.Common.{Option, Some, None, refl, arith, ap, sym, ◌∙◌, subst, inl, inr, length-set}
-use Rattle.std.specs.Prelude.{slice_index_or, slice_set, ◌==◌}
+use Rattle.std.proofs.Common.{◌≡◌, ℕ, zero, suc, ◌+◌, ◌-◌, ◌*◌, ◌<◌, ◌≤◌, Bool, true, false, cond, List, [], ◌∷◌, ◌++◌, length, map, replicate, take, drop, All}
+use Rattle.std.proofs.Common.{Option, Some, None, refl, arith, ap, sym, ◌∙◌, subst, inl, inr, length-set, mul-zero, add-one, drop-cons}
+use Rattle.std.specs.Prelude.{count_by, is_some, slice_index_or, slice_set, ◌==◌}
 use Rattle.std.specs.List.{list_any}
 use Rattle.std.proofs.lemmas.Bool.{cases_lt, or_parts}
 use Rattle.std.proofs.lemmas.List.{append-nil, drop_all, get_or_default, get_or_past, length-map, take_all}
+use Rattle.std.proofs.lemmas.List.Folds.{sum_by-replicate}
 use Rattle.std.proofs.lemmas.List.Elements.{All-get_or, All-map, All-replicate, All-set, All-weaker}
 use Rattle.std.proofs.Math.Seq.{map-set_same, take-append_seam}
 use Rattle.host_commands.specs.declared.BlockLength.{BlockLength}
@@ -14,9 +15,11 @@ use Rattle.host_commands.specs.Shapes.{block_bytes}
 use Rattle.uas_profile.specs.declared.TheConstants.{GREATEST_TAG, MAX_CLIENTS}
 use Rattle.uas_tasks.specs.declared.LogicalUnit.{LogicalUnit}
 use Rattle.uas_tasks.specs.declared.slot.Out.{Out}
-use Rattle.uas_tasks.specs.Machine.{attentive, greatest_block, is_long, is_long_block, no_slot, out_on, powered, slot_under, with_slot_under}
+use Rattle.uas_tasks.specs.Machine.{attentive, greatest_block, is_long, is_long_block, no_slot, number_of, out_on, powered, slot_under, stale_from, with_slot_under}
 use Rattle.uas_tasks.specs.Slots.{SlotState, fresh_slot}
-use Rattle.uas_tasks.specs.Soundness.{EachFits, HasRoom, IsSoundMachine, lengths_of}
+use Rattle.uas_tasks.specs.Soundness.{AreCounted, EachFits, HasRoom, IsSoundMachine, IsWithin, lengths_of}
+use Rattle.uas_tasks.specs.Stale.{is_stale, stale_unit}
+use Rattle.uas_tasks.proofs.Counts.{AreCounted-kept, Keeps}
 
 -- A TAG'S SLOT
 
@@ -47,37 +50,76 @@ slot_written slots (suc place) number now same some =
     let at : number - 1 ≡ place = omega arith in
     ap (λ p. slice_set slots p now) at
 
+-- what a change of a tag's slot keeps, every tag's slot keeps where it is written
+set_so : (P : SlotState → Type 0) (f : SlotState → SlotState) → ((slot : SlotState) → P slot → P (f slot)) → (slots : List SlotState) (at place : ℕ) →
+    P (slice_index_or slots place no_slot) → P (slice_index_or (slice_set slots at (f (slice_index_or slots at no_slot))) place no_slot)
+set_so P f keeps [] at place so = so
+set_so P f keeps (slot ∷ slots) zero zero so = keeps slot so
+set_so P f keeps (slot ∷ slots) zero (suc place) so = so
+set_so P f keeps (slot ∷ slots) (suc at) zero so = so
+set_so P f keeps (slot ∷ slots) (suc at) (suc place) so = set_so P f keeps slots at place so
+
+pub under_so : (P : SlotState → Type 0) (f : SlotState → SlotState) → ((slot : SlotState) → P slot → P (f slot)) → (slots : List SlotState) (at tag : ℕ) →
+    P (slot_under slots tag) → P (slot_under (with_slot_under slots at (f (slot_under slots at))) tag)
+under_so P f keeps slots zero tag so = so
+under_so P f keeps slots (suc at) zero so = so
+under_so P f keeps slots (suc at) (suc place) so = set_so P f keeps slots at place so
+
 -- A DEVICE STAYS SOUND
 
 HasRoom-kept : (lengths : List BlockLength) (before after : SlotState) → after.chunk ≡ before.chunk → length after.bytes ≡ length before.bytes →
     HasRoom lengths before → HasRoom lengths after
 HasRoom-kept lengths before after chunk len room = rw (chunk, len) room
 
-room_at : (units : List LogicalUnit) (slots : List SlotState) (place : ℕ) (read : SlotState) → IsSoundMachine units slots → place < length slots →
-    read ≡ slice_index_or slots place read → HasRoom (lengths_of units) read
-room_at units slots place read sound within is =
+room_at : (units : List LogicalUnit) (stale : List ℕ) (slots : List SlotState) (place : ℕ) (read : SlotState) → IsSoundMachine units stale slots →
+    place < length slots → read ≡ slice_index_or slots place read → HasRoom (lengths_of units) read
+room_at units stale slots place read sound within is =
     subst (HasRoom (lengths_of units)) (sym is) (All-get_or (HasRoom (lengths_of units)) slots place read within sound.rooms)
 
--- where a slot is written that keeps its chunk and its buffer's length
-pub IsSoundMachine-slot : (units : List LogicalUnit) (slots : List SlotState) (place : ℕ) (read now : SlotState) → IsSoundMachine units slots →
-    place < length slots → read ≡ slice_index_or slots place read → now.chunk ≡ read.chunk → length now.bytes ≡ length read.bytes →
-    IsSoundMachine units (slice_set slots place now)
-IsSoundMachine-slot units slots place read now sound within is chunk len =
-    let room = room_at units slots place read sound within is in
+pub within_at : (units : List LogicalUnit) (stale : List ℕ) (slots : List SlotState) (place : ℕ) (read : SlotState) → IsSoundMachine units stale slots →
+    place < length slots → read ≡ slice_index_or slots place read → IsWithin (length units) read
+within_at units stale slots place read sound within is =
+    subst (IsWithin (length units)) (sym is) (All-get_or (IsWithin (length units)) slots place read within sound.within)
+
+-- where a slot is written that keeps its chunk and its buffer's length, and the stale requests are counted then
+pub IsSoundMachine-written : (units : List LogicalUnit) (stale after : List ℕ) (slots : List SlotState) (place : ℕ) (read now : SlotState) →
+    IsSoundMachine units stale slots → place < length slots → read ≡ slice_index_or slots place read → now.chunk ≡ read.chunk →
+    length now.bytes ≡ length read.bytes → (IsWithin (length units) read → IsWithin (length units) now) → length after ≡ length stale →
+    AreCounted after (slice_set slots place now) → IsSoundMachine units after (slice_set slots place now)
+IsSoundMachine-written units stale after slots place read now sound within is chunk len keeps many counted =
+    let room = room_at units stale slots place read sound within is in
     record {
       most_units = sound.most_units;
       places = length-set slots place now ∙ sound.places;
       rooms = All-set (HasRoom (lengths_of units)) slots place now (HasRoom-kept (lengths_of units) read now chunk len room) sound.rooms;
+      many = many ∙ sound.many;
+      within = All-set (IsWithin (length units)) slots place now (keeps (within_at units stale slots place read sound within is)) sound.within;
+      counts = counted;
     }
+
+-- and where the same is stale
+pub IsSoundMachine-slot : (units : List LogicalUnit) (stale : List ℕ) (slots : List SlotState) (place : ℕ) (read now : SlotState) →
+    IsSoundMachine units stale slots → place < length slots → read ≡ slice_index_or slots place read → now.chunk ≡ read.chunk →
+    length now.bytes ≡ length read.bytes → (IsWithin (length units) read → Keeps (length units) read now) → IsSoundMachine units stale (slice_set slots place now)
+IsSoundMachine-slot units stale slots place read now sound within is chunk len keeps =
+    let kept = keeps (within_at units stale slots place read sound within is) in
+    IsSoundMachine-written units stale stale slots place read now sound within is chunk len kept.within refl
+    (AreCounted-kept stale slots place read now sound.counts within is kept.stale)
 
 All-mapped : {T : Type 0} (P : T → Type 0) (f : T → T) (xs : List T) → ((x : T) → P x → P (f x)) → All P xs → All P (map f xs)
 All-mapped P f xs keeps all = All-map P f xs (All-weaker P (λ x. P (f x)) keeps xs all)
 
 -- where the logical units keep the lengths of their blocks
-pub IsSoundMachine-units : (units after : List LogicalUnit) (slots : List SlotState) → IsSoundMachine units slots → lengths_of after ≡ lengths_of units →
-    length after ≡ length units → IsSoundMachine after slots
-IsSoundMachine-units units after slots sound same many =
-    record { most_units = omega (arith, many, sound.most_units); places = sound.places; rooms = rw same sound.rooms }
+pub IsSoundMachine-units : (units after : List LogicalUnit) (stale : List ℕ) (slots : List SlotState) → IsSoundMachine units stale slots →
+    lengths_of after ≡ lengths_of units → length after ≡ length units → IsSoundMachine after stale slots
+IsSoundMachine-units units after stale slots sound same many = record {
+  most_units = omega (arith, many, sound.most_units);
+  places = sound.places;
+  rooms = rw same sound.rooms;
+  many = sound.many ∙ sym many;
+  within = rw many sound.within;
+  counts = sound.counts;
+}
 
 -- one logical unit has another attention
 pub lengths_of-set : (units : List LogicalUnit) (number : ℕ) (read after : LogicalUnit) → read ≡ slice_index_or units number read →
@@ -93,21 +135,30 @@ unit_room [] number read slot room within = absurd (omega arith)
 unit_room (unit ∷ units) zero read slot room within = room.0
 unit_room (unit ∷ units) (suc number) read slot room within = unit_room units number read slot room.1 (omega arith)
 
-pub room_of : (units : List LogicalUnit) (slots : List SlotState) (place number : ℕ) (read : SlotState) (unit : LogicalUnit) → IsSoundMachine units slots →
-    place < length slots → read ≡ slice_index_or slots place read → number < length units → unit ≡ slice_index_or units number unit →
+pub room_of : (units : List LogicalUnit) (stale : List ℕ) (slots : List SlotState) (place number : ℕ) (read : SlotState) (unit : LogicalUnit) →
+    IsSoundMachine units stale slots → place < length slots → read ≡ slice_index_or slots place read → number < length units → unit ≡ slice_index_or units number unit →
     read.chunk * block_bytes unit.shape.block_length ≤ length read.bytes
-room_of units slots place number read unit sound within is there unit_is =
+room_of units stale slots place number read unit sound within is there unit_is =
     let P : LogicalUnit → Type 0 = λ u. read.chunk * block_bytes u.shape.block_length ≤ length read.bytes in
-    subst P (sym unit_is) (unit_room units number unit read (room_at units slots place read sound within is) there)
+    subst P (sym unit_is) (unit_room units number unit read (room_at units stale slots place read sound within is) there)
 
--- where every slot keeps its chunk and its buffer
-pub IsSoundMachine-map : (units : List LogicalUnit) (slots : List SlotState) (f : SlotState → SlotState) → IsSoundMachine units slots →
-    ((slot : SlotState) → (f slot).chunk ≡ slot.chunk) → ((slot : SlotState) → (f slot).bytes ≡ slot.bytes) → IsSoundMachine units (map f slots)
-IsSoundMachine-map units slots f sound chunk bytes = record {
+-- where every slot is changed and keeps its chunk and its buffer
+pub within-map : (units : List LogicalUnit) (stale : List ℕ) (slots : List SlotState) (f : SlotState → SlotState) → IsSoundMachine units stale slots →
+    ((slot : SlotState) → IsWithin (length units) slot → IsWithin (length units) (f slot)) → All (IsWithin (length stale)) (map f slots)
+within-map units stale slots f sound keeps = rw sound.many (All-mapped (IsWithin (length units)) f slots keeps sound.within)
+
+pub IsSoundMachine-map : (units : List LogicalUnit) (stale after : List ℕ) (slots : List SlotState) (f : SlotState → SlotState) →
+    IsSoundMachine units stale slots → ((slot : SlotState) → (f slot).chunk ≡ slot.chunk) → ((slot : SlotState) → (f slot).bytes ≡ slot.bytes) →
+    ((slot : SlotState) → IsWithin (length units) slot → IsWithin (length units) (f slot)) → length after ≡ length stale →
+    AreCounted after (map f slots) → IsSoundMachine units after (map f slots)
+IsSoundMachine-map units stale after slots f sound chunk bytes keeps many counted = record {
   most_units = sound.most_units;
   places = length-map slots f ∙ sound.places;
   rooms = All-mapped (HasRoom (lengths_of units)) f slots
       (λ slot room. HasRoom-kept (lengths_of units) slot (f slot) (chunk slot) (ap length (bytes slot)) room) sound.rooms;
+  many = many ∙ sound.many;
+  within = All-mapped (IsWithin (length units)) f slots keeps sound.within;
+  counts = counted;
 }
 
 -- attentions are nothing to the lengths of blocks
@@ -161,9 +212,23 @@ length_replicate : {T : Type 0} (n : ℕ) (x : T) → length (replicate n x) ≡
 length_replicate zero x = refl
 length_replicate (suc n) x = ap suc (length_replicate n x)
 
+-- none of so many fresh slots is stale
+fresh_counted : (many count chunk room number : ℕ) →
+    slice_index_or (replicate many 0) number 0 ≡ count_by (is_stale number) (replicate count (fresh_slot chunk room))
+fresh_counted many count chunk room number =
+    let sum : count_by (is_stale number) (replicate count (fresh_slot chunk room)) ≡ count * 0 =
+    sum_by-replicate (λ s. cond (is_stale number s) 1 0) count (fresh_slot chunk room)
+    in
+    zeros many number ∙ sym (sum ∙ mul-zero count)
+  where
+    zeros : (many number : ℕ) → slice_index_or (replicate many zero) number zero ≡ zero
+    zeros zero number = refl
+    zeros (suc many) zero = refl
+    zeros (suc many) (suc number) = zeros many number
+
 -- fresh slots have room for a chunk of each logical unit
 pub opening_sound : (units : List LogicalUnit) (chunk room : ℕ) → length units ≤ MAX_CLIENTS → room ≡ chunk * greatest_block units →
-    IsSoundMachine units (replicate GREATEST_TAG (fresh_slot chunk room))
+    IsSoundMachine units (replicate (length units) 0) (replicate GREATEST_TAG (fresh_slot chunk room))
 opening_sound units chunk room most is =
     let P : SlotState → Type 0 = HasRoom (lengths_of units) in
     let bytes : List ℕ = replicate room 0 in
@@ -173,6 +238,9 @@ opening_sound units chunk room most is =
       most_units = most;
       places = length_replicate GREATEST_TAG (fresh_slot chunk room);
       rooms = All-replicate P GREATEST_TAG (fresh_slot chunk room) fits;
+      many = length_replicate (length units) 0;
+      within = All-replicate (IsWithin (length units)) GREATEST_TAG (fresh_slot chunk room) (record { task = tt; written = tt });
+      counts = fresh_counted (length units) GREATEST_TAG chunk room;
     }
 
 pub replicate-more : {T : Type 0} (n : ℕ) (x : T) → replicate n x ++ x ∷ [] ≡ replicate (n + 1) x
@@ -186,3 +254,17 @@ out_on-some turn slot out is =
       | true ↦ λ here. here
       | false ↦ λ gone. let no : ◌≡◌ {A = Option Out} None (Some out) = gone in cc
     ] is
+
+-- the tags from one on, whether the next one has a stale request or not
+pub stale_from-next : (slots : List SlotState) (place : ℕ) (slot : SlotState) → place < length slots → slot ≡ slice_index_or slots place slot →
+    stale_from (place + 1) (drop place slots)
+    ≡ cond (is_some (stale_unit slot)) (Some (number_of (place + 1) slot)) (stale_from (place + 1 + 1) (drop (place + 1) slots))
+stale_from-next slots place slot within is =
+    let rest : drop place slots ≡ slot ∷ drop (suc place) slots =
+    drop-cons slots place slot within ∙ ap (λ s. s ∷ drop (suc place) slots) (sym is)
+    in
+    ap (stale_from (place + 1)) rest
+    ∙ ap (λ p. cond (is_some (stale_unit slot)) (Some (number_of (place + 1) slot)) (stale_from (place + 1 + 1) (drop p slots))) (sym (add-one place))
+
+pub stale_from-past : (slots : List SlotState) (place : ℕ) → length slots ≤ place → stale_from (place + 1) (drop place slots) ≡ None
+stale_from-past slots place past = ap (stale_from (place + 1)) (drop_all place slots past)

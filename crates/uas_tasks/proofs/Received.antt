@@ -6,7 +6,7 @@ use Rattle.uas_iu.specs.Units.{Fits, unit_text}
 use Rattle.uas_iu.proofs.Laws.{first_fault-unit_text}
 use Rattle.uas_target.specs.Fields.{tag_in}
 use Rattle.uas_target.proofs.Received.{at_command, at_task}
-use Rattle.uas_tasks.specs.Machine.{Machine, dropped, executed, managed, on_its_tag, received, received_unit, with_code}
+use Rattle.uas_tasks.specs.Machine.{Machine, dropped, executed, managed, on_its_tag, received, received_unit, with_answer}
 
 command_unit : (machine : Machine) (tag : ℕ) (lun cdb : List ℕ) → Fits (Command tag lun cdb) →
     received_unit machine (unit_text (Command tag lun cdb)) (tag_in (unit_text (Command tag lun cdb)))
@@ -20,12 +20,12 @@ received-command machine tag lun cdb fits = rw (first_fault-unit_text (Command t
 
 task_unit : (machine : Machine) (tag function task_tag : ℕ) (lun : List ℕ) → Fits (Task tag function task_tag lun) →
     received_unit machine (unit_text (Task tag function task_tag lun)) (tag_in (unit_text (Task tag function task_tag lun)))
-    ≡ on_its_tag machine tag (with_code tag (managed machine function task_tag lun))
+    ≡ on_its_tag machine tag (with_answer tag (managed machine function task_tag lun))
 unfolding unit_text
-task_unit machine tag function = at_task (λ tag task_tag lun. on_its_tag machine tag (with_code tag (managed machine function task_tag lun))) tag function
+task_unit machine tag function = at_task (λ tag task_tag lun. on_its_tag machine tag (with_answer tag (managed machine function task_tag lun))) tag function
 
 pub received-task : (machine : Machine) (tag function task_tag : ℕ) (lun : List ℕ) → Fits (Task tag function task_tag lun) →
-    received machine (unit_text (Task tag function task_tag lun)) ≡ on_its_tag machine tag (with_code tag (managed machine function task_tag lun))
+    received machine (unit_text (Task tag function task_tag lun)) ≡ on_its_tag machine tag (with_answer tag (managed machine function task_tag lun))
 received-task machine tag function task_tag lun fits =
     rw (first_fault-unit_text (Task tag function task_tag lun) fits) (task_unit machine tag function task_tag lun fits)
 

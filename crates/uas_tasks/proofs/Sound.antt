@@ -1,5 +1,5 @@
 -- Slots stay sound. Cited by the answers of a slot's calls.
-use Rattle.std.proofs.Common.{◌≡◌, ℕ, zero, suc, ◌+◌, ◌-◌, ◌*◌, ◌^◌, ◌<◌, ◌≤◌, min, Bool, true, false, cond, Option, Some, None, IfSome, arith, refl}
+use Rattle.std.proofs.Common.{◌≡◌, ℕ, ◌+◌, ◌*◌, ◌<◌, ◌≤◌, true, false, cond, Option, Some, None, IfSome, arith, refl}
 use Rattle.std.specs.Prelude.{nat_lt, option_map}
 use Rattle.std.proofs.lemmas.Bool.Decides.{nat_tests}
 use Rattle.uas_tasks.specs.declared.Job.{Job}
@@ -7,10 +7,9 @@ use Rattle.uas_tasks.specs.declared.JobKind.{JobKind}
 use Rattle.uas_tasks.specs.declared.JobKind.TheVariants.{Reads, Writes, Compares, Verifies, Synchronizes}
 use Rattle.uas_tasks.specs.declared.Outcome.{Outcome}
 use Rattle.uas_tasks.specs.declared.Outcome.TheVariants.{Done, Differs, MediumError, NotReady}
-use Rattle.uas_tasks.specs.declared.Stage.{Stage}
 use Rattle.uas_tasks.specs.declared.Stage.TheVariants.{Asking, Waiting, Moving}
 use Rattle.uas_tasks.specs.declared.Task.{Task}
-use Rattle.uas_tasks.specs.declared.Task.TheVariants.{Giving, Blocks, Ended}
+use Rattle.uas_tasks.specs.declared.Task.TheVariants.{Giving, Blocks, Ended, Held}
 use Rattle.uas_tasks.specs.Slots.{after_answer, after_outcome, chunk_blocks, chunk_bytes, done_by, ended_good, first_stage, next_chunk}
 use Rattle.uas_tasks.specs.Soundness.{FitsRoom, IsSoundJob, IsSoundStage, IsSoundTask}
 
@@ -93,6 +92,7 @@ after_answer-sound outcome chunk given (Some (Blocks unit job Asking)) some soun
 after_answer-sound outcome chunk given (Some (Blocks unit job Waiting)) some sound = after_outcome-sound outcome chunk given unit job some sound.0
 after_answer-sound outcome chunk given (Some (Blocks unit job (Moving at))) some sound = sound
 after_answer-sound outcome chunk given (Some (Ended unit answer)) some sound = tt
+after_answer-sound outcome chunk given (Some (Held unit code)) some sound = tt
 
 pub after_answer-fits : (outcome : Outcome) (chunk given room : ℕ) (task : Option Task) → 1 ≤ chunk → IfSome task (IsSoundTask chunk given) →
     IfSome task (FitsRoom chunk room) → IfSome (option_map (after_answer outcome chunk) task) (FitsRoom chunk room)
@@ -103,3 +103,4 @@ after_answer-fits outcome chunk given room (Some (Blocks unit job Waiting)) some
     after_outcome-fits outcome chunk room unit job some sound.0 fits
 after_answer-fits outcome chunk given room (Some (Blocks unit job (Moving at))) some sound fits = fits
 after_answer-fits outcome chunk given room (Some (Ended unit answer)) some sound fits = tt
+after_answer-fits outcome chunk given room (Some (Held unit code)) some sound fits = tt

@@ -1,4 +1,6 @@
 -- A device without blocks: its tasks by tag, and what each call makes of them.
 pub mod Slots
+pub mod Stale
 pub mod Machine
 pub mod Soundness
+pub mod Laws

@@ -1,9 +1,8 @@
 -- The device: the logical units and a slot for each tag, and what each call makes of them.
-use Rattle.std.specs.Prelude.{ℕ, zero, suc, ◌+◌, ◌*◌, ◌/◌, ◌%◌, nat_le, ◌==◌, Bool, true, false, not, ◌&&◌, ◌||◌, if◌then◌else◌, List, [], length, map, take}
+use Rattle.std.specs.Prelude.{ℕ, zero, suc, ◌+◌, ◌*◌, ◌/◌, ◌%◌, nat_le, ◌==◌, Bool, true, false, not, ◌&&◌, if◌then◌else◌, List, [], ◌∷◌, length, map, take, drop}
 use Rattle.std.specs.Prelude.{slice_index, slice_index_or, slice_get, slice_set, replicate, Option, None, Some, is_some, is_ok, option_map, option_and_then, Result, Ok, Err}
 use Rattle.std.specs.Option.{option_map_or}
 use Rattle.scsi_cmd.specs.declared.Sense.{Sense}
-use Rattle.device_server.specs.declared.Answer.TheVariants.{Check}
 use Rattle.host_commands.specs.declared.Attention.{Attention}
 use Rattle.host_commands.specs.declared.Attention.TheVariants.{Ignored, Given, Reported}
 use Rattle.std.specs.List.{list_any}
@@ -32,12 +31,13 @@ use Rattle.uas_tasks.specs.declared.Next.TheVariants.{Absent as NextAbsent, Asks
 use Rattle.uas_tasks.specs.declared.Outcome.{Outcome}
 use Rattle.uas_tasks.specs.declared.Request.{Request}
 use Rattle.uas_tasks.specs.declared.Task.{Task}
-use Rattle.uas_tasks.specs.declared.Task.TheVariants.{Ended}
+use Rattle.uas_tasks.specs.declared.Task.TheVariants.{Ended, Held}
 use Rattle.uas_tasks.specs.declared.Wants.{Wants}
 use Rattle.uas_tasks.specs.declared.Wants.TheVariants.{Absent, Asks, Waits, Gives, Takes, Ends}
 use Rattle.uas_tasks.specs.declared.slot.Out.{Out}
 use Rattle.uas_tasks.specs.Slots.{SlotState, answered_slot, asked_slot, fresh_slot, gave_slot, has_command, is_wrong_length, next_bytes, slot_wants}
 use Rattle.uas_tasks.specs.Slots.{spared_slot, started, started_none, task_answer, took_slot, with_task}
+use Rattle.uas_tasks.specs.Stale.{held_by, is_stale, stale_unit}
 
 -- the logical units by number, the command set, and a slot for each tag, tag 1 first
 pub record Machine : Type 0 where
@@ -69,9 +69,24 @@ with_slot machine tag now = record machine { slots = with_slot_under machine.slo
 abbrev pub has_task : Machine → ℕ → Bool
 has_task machine tag = is_some (slot_of machine tag).task
 
--- a tag's task has ended with a Response of this code
-abbrev pub with_response : Machine → ℕ → ℕ → Machine
-with_response machine tag code = with_slot machine tag (with_task (slot_of machine tag) (Some (Ended None (Response code))))
+-- a tag has this task now
+abbrev pub with_task_on : Machine → ℕ → Task → Machine
+with_task_on machine tag task = with_slot machine tag (with_task (slot_of machine tag) (Some task))
+
+-- a task that has ended with a Response of this code
+abbrev pub responded : ℕ → Task
+responded code = Ended None (Response code)
+
+-- WHAT WAITS FOR STALE REQUESTS
+
+-- whether the logical unit of a number has a stale request
+abbrev pub has_stale : Machine → ℕ → Bool
+has_stale machine number = list_any (is_stale number) machine.slots
+
+-- While a logical unit has one, no request of it is asked and no function that ended something there is answered: what is told and
+-- what is asked later lands later.
+abbrev pub is_held : Machine → SlotState → Bool
+is_held machine slot = option_map_or (has_stale machine) (option_and_then held_by slot.task) false
 
 -- a logical unit without an attention
 abbrev pub quiet : Shape → LogicalUnit
@@ -141,10 +156,16 @@ executed machine tag lun cdb = executed_on machine tag (slice_index lun 1) cdb (
 abbrev pub without_command : Machine → ℕ → ℕ → Machine
 without_command machine number tag = with_slot machine tag (spared_slot number (slot_of machine tag))
 
--- ABORT TASK: 00h, COMPLETE, whether the tag had such a command or not; 09h, INCORRECT LUN, where there is no logical unit
-abbrev pub aborted_on : Machine → ℕ → ℕ → Option LogicalUnit → Machine × ℕ
-aborted_on machine number tag None = (machine, 9)
-aborted_on machine number tag (Some unit) = (without_command machine number tag, 0)
+-- 00h, COMPLETE; where commands were ended and a stale request is left, it is held until that is answered
+abbrev pub completed : Machine → ℕ → Bool → Task
+completed machine number ended = if ended && has_stale machine number then Held number 0 else responded 0
+
+-- ABORT TASK: COMPLETE, whether the tag had such a command or not; 09h, INCORRECT LUN, where there is no logical unit
+abbrev pub aborted_on : Machine → ℕ → ℕ → Option LogicalUnit → Machine × Task
+aborted_on machine number tag None = (machine, responded 9)
+aborted_on machine number tag (Some unit) =
+    let after = without_command machine number tag in
+    (after, completed after number (has_command number (slot_of machine tag)))
 
 -- the attention of a logical unit that was reset: that it was powered on stands over that
 abbrev pub reset_over : Option UnitAttention → Option UnitAttention
@@ -153,27 +174,31 @@ reset_over (Some PowerOn) = Some PowerOn
 reset_over (Some Reset) = Some Reset
 
 -- LOGICAL UNIT RESET: its commands are gone and it has an attention
-abbrev pub reset_on : Machine → ℕ → Option LogicalUnit → Machine × ℕ
-reset_on machine number None = (machine, 9)
+abbrev pub reset_on : Machine → ℕ → Option LogicalUnit → Machine × Task
+reset_on machine number None = (machine, responded 9)
 reset_on machine number (Some unit) =
-    (record machine { units = with_attention machine.units number unit (reset_over unit.attention); slots = map (spared_slot number) machine.slots }, 0)
+    let after : Machine = record machine {
+      units = with_attention machine.units number unit (reset_over unit.attention);
+      slots = map (spared_slot number) machine.slots;
+    } in
+    (after, completed after number (list_any (has_command number) machine.slots))
 
 -- QUERY TASK: 08h, SUCCEEDED, where the tag has such a command, else 00h; nothing changes
-abbrev pub queried_on : Machine → ℕ → ℕ → Option LogicalUnit → Machine × ℕ
-queried_on machine number tag None = (machine, 9)
-queried_on machine number tag (Some unit) = (machine, if has_command number (slot_of machine tag) then 8 else 0)
+abbrev pub queried_on : Machine → ℕ → ℕ → Option LogicalUnit → Machine × Task
+queried_on machine number tag None = (machine, responded 9)
+queried_on machine number tag (Some unit) = (machine, responded (if has_command number (slot_of machine tag) then 8 else 0))
 
 -- 01h is ABORT TASK, 08h LOGICAL UNIT RESET, 80h QUERY TASK, and any other is 04h, NOT SUPPORTED, whatever its LUN
-abbrev pub managed : Machine → ℕ → ℕ → List ℕ → Machine × ℕ
+abbrev pub managed : Machine → ℕ → ℕ → List ℕ → Machine × Task
 managed machine function tag lun =
     if function == 1 then aborted_on machine (slice_index lun 1) tag (addressed machine.units lun)
     else (if function == 8 then reset_on machine (slice_index lun 1) (addressed machine.units lun)
     else (if function == 128 then queried_on machine (slice_index lun 1) tag (addressed machine.units lun)
-    else (machine, 4)))
+    else (machine, responded 4)))
 
 -- answered on a tag
-abbrev pub with_code : ℕ → Machine × ℕ → Machine
-with_code tag after = with_response after.0 tag after.1
+abbrev pub with_answer : ℕ → Machine × Task → Machine
+with_answer tag after = with_task_on after.0 tag after.1
 
 abbrev pub attentive : LogicalUnit → LogicalUnit
 attentive unit = record unit { attention = reset_over unit.attention }
@@ -212,12 +237,12 @@ on_its_tag machine tag after =
 abbrev pub received_unreadable : Machine → List ℕ → ℕ → Machine × Result Took Overlap
 received_unreadable machine bytes tag =
     if nat_le 4 (length bytes) && is_tag tag && not (has_task machine tag)
-    then (with_response machine tag 2, Ok (Began tag)) else dropped machine
+    then (with_task_on machine tag (responded 2), Ok (Began tag)) else dropped machine
 
 abbrev pub received_unit : Machine → List ℕ → ℕ → Machine × Result Took Overlap
 received_unit machine bytes tag =
     if identifier bytes == 1 then on_its_tag machine tag (executed machine tag (lun_in bytes) (cdb_in bytes))
-    else (if identifier bytes == 5 then on_its_tag machine tag (with_code tag (managed machine (function_in bytes) (task_tag_in bytes) (lun_in bytes)))
+    else (if identifier bytes == 5 then on_its_tag machine tag (with_answer tag (managed machine (function_in bytes) (task_tag_in bytes) (lun_in bytes)))
     else dropped machine)
 
 abbrev pub received : Machine → List ℕ → Machine × Result Took Overlap
@@ -228,7 +253,9 @@ received machine bytes =
 -- WHAT A TAG WANTS, AND DATA
 
 abbrev pub wanted : Machine → ℕ → Wants
-wanted machine tag = slot_wants (slot_of machine tag)
+wanted machine tag =
+    let slot = slot_of machine tag in
+    if is_held machine slot then Waits else slot_wants slot
 
 abbrev pub gave : Machine → ℕ → ℕ → Machine
 gave machine tag moved = with_slot machine tag (gave_slot (slot_of machine tag) moved)
@@ -287,10 +314,21 @@ answered_out machine tag outcome new (Some out) =
 abbrev pub answered : Machine → ℕ → Outcome → List ℕ → Machine × Result (Unit {0}) AnswerFault
 answered machine number outcome new = answered_out machine (number % 256) outcome new (out_of_number machine number)
 
+-- the number of the first stale request of these slots, the first of which is the tag's; None where there is none
+abbrev pub stale_from : ℕ → List SlotState → Option ℕ
+stale_from tag [] = None
+stale_from tag (slot ∷ slots) = if is_some (stale_unit slot) then Some (number_of tag slot) else stale_from (tag + 1) slots
+
+-- of the tags above that of a number; that of 0 is above all of them
+abbrev pub stale_after : Machine → ℕ → Option ℕ
+stale_after machine number = stale_from (number % 256 + 1) (drop (number % 256) machine.slots)
+
 -- ANSWERS
 
 abbrev pub answer_on : Machine → ℕ → Option Iu
-answer_on machine tag = option_and_then (task_answer tag) (slot_of machine tag).task
+answer_on machine tag =
+    let slot = slot_of machine tag in
+    if is_held machine slot then None else option_and_then (task_answer tag) slot.task
 
 abbrev pub without_task : Machine → ℕ → Machine
 without_task machine tag = with_slot machine tag (with_task (slot_of machine tag) None)

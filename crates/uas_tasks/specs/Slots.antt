@@ -13,7 +13,6 @@ use Rattle.host_commands.specs.declared.Work.TheVariants.{Verifies as VerifiesWo
 use Rattle.host_commands.specs.Data.{given_bytes}
 use Rattle.host_commands.specs.Shapes.{Shape, block_bytes}
 use Rattle.uas_iu.specs.declared.Iu.{Iu}
-use Rattle.uas_target.specs.declared.DeviceAnswer.{DeviceAnswer}
 use Rattle.uas_target.specs.declared.DeviceAnswer.TheVariants.{Status, Response}
 use Rattle.uas_target.specs.Tasks.{answer_unit, is_at}
 use Rattle.uas_tasks.specs.declared.Job.{Job}
@@ -26,7 +25,7 @@ use Rattle.uas_tasks.specs.declared.Request.TheVariants.{Read, Write, Compare, V
 use Rattle.uas_tasks.specs.declared.Stage.{Stage}
 use Rattle.uas_tasks.specs.declared.Stage.TheVariants.{Asking, Waiting, Moving}
 use Rattle.uas_tasks.specs.declared.Task.{Task}
-use Rattle.uas_tasks.specs.declared.Task.TheVariants.{Giving, Blocks, Ended}
+use Rattle.uas_tasks.specs.declared.Task.TheVariants.{Giving, Blocks, Ended, Held}
 use Rattle.uas_tasks.specs.declared.Wants.{Wants}
 use Rattle.uas_tasks.specs.declared.Wants.TheVariants.{Absent, Asks, Waits, Gives, Takes, Ends}
 use Rattle.uas_tasks.specs.declared.slot.Out.{Out}
@@ -77,6 +76,7 @@ abbrev pub task_wants : ℕ → Bool → ℕ → Task → Wants
 task_wants chunk out given (Giving unit at) = Gives (given - at)
 task_wants chunk out given (Blocks unit job stage) = if out then Waits else stage_wants chunk job stage
 task_wants chunk out given (Ended unit answer) = Ends
+task_wants chunk out given (Held unit code) = Ends
 
 abbrev pub slot_wants : SlotState → Wants
 slot_wants slot = option_map_or (task_wants slot.chunk (is_some slot.out) (length slot.given)) slot.task Absent
@@ -103,11 +103,13 @@ out_of chunk (Giving unit at) = None
 out_of chunk (Blocks unit job stage) =
     Some (record { request = request_of job.kind unit chunk job; len = request_bytes job.kind (chunk_bytes chunk job) })
 out_of chunk (Ended unit answer) = None
+out_of chunk (Held unit code) = None
 
 abbrev pub waiting : Task → Task
 waiting (Giving unit at) = Giving unit at
 waiting (Blocks unit job stage) = Blocks unit job Waiting
 waiting (Ended unit answer) = Ended unit answer
+waiting (Held unit code) = Held unit code
 
 -- the request of the task is out, and it is one more of its tag
 abbrev pub asked_slot : SlotState → SlotState
@@ -180,6 +182,7 @@ abbrev pub after_answer : Outcome → ℕ → Task → Task
 after_answer outcome chunk (Giving unit at) = Giving unit at
 after_answer outcome chunk (Blocks unit job stage) = after_stage outcome chunk unit job stage
 after_answer outcome chunk (Ended unit answer) = Ended unit answer
+after_answer outcome chunk (Held unit code) = Held unit code
 
 -- whether a task waits for an answer
 abbrev pub stage_waits : Stage → Bool
@@ -191,6 +194,7 @@ abbrev pub task_waits : Task → Bool
 task_waits (Giving unit at) = false
 task_waits (Blocks unit job stage) = stage_waits stage
 task_waits (Ended unit answer) = false
+task_waits (Held unit code) = false
 
 -- whether an answer brings the bytes of blocks: a Read that is done
 abbrev pub is_read : Request → Bool
@@ -238,6 +242,7 @@ gave_task chunk given moved (Giving unit at) =
     if nat_lt (at + moved) given then Giving unit (at + moved) else Ended unit (Status Good)
 gave_task chunk given moved (Blocks unit job stage) = moved_on chunk moved unit job (next_chunk chunk unit job) stage
 gave_task chunk given moved (Ended unit answer) = Ended unit answer
+gave_task chunk given moved (Held unit code) = Held unit code
 
 abbrev pub gave_slot : SlotState → ℕ → SlotState
 gave_slot slot moved = with_task slot (option_map (gave_task slot.chunk (length slot.given) moved) slot.task)
@@ -252,6 +257,7 @@ abbrev pub task_bytes : List ℕ → List ℕ → Task → List ℕ
 task_bytes given bytes (Giving unit at) = drop at given
 task_bytes given bytes (Blocks unit job stage) = stage_bytes bytes stage
 task_bytes given bytes (Ended unit answer) = []
+task_bytes given bytes (Held unit code) = []
 
 abbrev pub next_bytes : SlotState → ℕ → List ℕ
 next_bytes slot moved = take moved (option_map_or (task_bytes slot.given slot.bytes) slot.task [])
@@ -262,6 +268,7 @@ abbrev pub took_task : ℕ → ℕ → Task → Task
 took_task chunk moved (Giving unit at) = Giving unit at
 took_task chunk moved (Blocks unit job stage) = moved_on chunk moved unit job (Blocks unit job Asking) stage
 took_task chunk moved (Ended unit answer) = Ended unit answer
+took_task chunk moved (Held unit code) = Held unit code
 
 abbrev pub stage_taken : List ℕ → List ℕ → Stage → List ℕ
 stage_taken bytes new Asking = bytes
@@ -272,6 +279,7 @@ abbrev pub task_taken : List ℕ → List ℕ → Task → List ℕ
 task_taken bytes new (Giving unit at) = bytes
 task_taken bytes new (Blocks unit job stage) = stage_taken bytes new stage
 task_taken bytes new (Ended unit answer) = bytes
+task_taken bytes new (Held unit code) = bytes
 
 abbrev pub took_slot : SlotState → List ℕ → SlotState
 took_slot slot new = record slot {
@@ -334,6 +342,7 @@ is_command_of number (Giving unit at) = is_at number unit
 is_command_of number (Blocks unit job stage) = unit == number
 is_command_of number (Ended unit (Status answer)) = is_at number unit
 is_command_of number (Ended unit (Response code)) = false
+is_command_of number (Held unit code) = false
 
 -- what a tag has once the commands to the logical unit of this number are gone; a request that is out stays out
 abbrev pub spared : ℕ → Option Task → Option Task
@@ -352,3 +361,4 @@ abbrev pub task_answer : ℕ → Task → Option Iu
 task_answer tag (Giving unit at) = None
 task_answer tag (Blocks unit job stage) = None
 task_answer tag (Ended unit answer) = Some (answer_unit tag answer)
+task_answer tag (Held unit code) = Some (answer_unit tag (Response code))

@@ -1,5 +1,5 @@
 //! The information units that answer tasks.
-ghost use Rattle.std.specs.Prelude.{◌≡◌, MatchOption, false, true};
+ghost use Rattle.std.specs.Prelude.{◌≡◌, MatchOption, false, option_map, true};
 ghost use Rattle.arrayvec.specs.ArrayVec.{array_vec_len};
 ghost use Rattle.uas_iu.specs.Units.{IsTextOf};
 ghost use Rattle.uas_target.specs.Tasks.{answer_unit};
@@ -13,14 +13,12 @@ use uas_iu::{Iu, write, write_sense};
 use uas_profile::STATUS_BYTES;
 
 impl Tasks {
-    /// The information unit that answers the task of a tag, once it has ended: Sense with GOOD or CHECK CONDITION, or Response.
+    /// The information unit that answers the task of a tag, once it has ended: Sense with GOOD or CHECK CONDITION, or Response. Of a
+    /// function that ended a command there is none while a stale request of its logical unit is out.
     pub fn status_of(&self, tag: u16) -> Option<Iu>
         ensures { result ≡ answer_on self.now tag }
     {
-        match self.slot(tag)?.task() {
-            Some(Task::Ended { answer, .. }) => Some(unit_of(tag, answer)),
-            _ => None,
-        }
+        Some(unit_of(tag, &self.answer_of(tag)?))
     }
 
     /// Writes the information unit that answers the task of a tag, once it has ended, into `text`, which is asked to be empty.
@@ -30,15 +28,27 @@ impl Tasks {
         ensures { MatchOption (answer_on self.now tag) ((result ≡ false) × (text.new ≡ text.old))
             (λ unit. (result ≡ true) × IsTextOf text.new.items unit) }
     {
-        let Some(slot) = self.slot(tag) else {
-            return false;
-        };
-        match slot.task() {
-            Some(Task::Ended { answer, .. }) => {
-                write_answer(tag, answer, text);
+        match self.answer_of(tag) {
+            Some(answer) => {
+                write_answer(tag, &answer, text);
                 true
             }
-            _ => false,
+            None => false,
+        }
+    }
+
+    /// What a tag is answered, once its task has ended and waits for nothing more.
+    fn answer_of(&self, tag: u16) -> Option<DeviceAnswer>
+        ensures { answer_on self.now tag ≡ option_map (answer_unit tag) result }
+    {
+        let slot = self.slot(tag)?;
+        if self.is_held(slot) {
+            return None;
+        }
+        match slot.task() {
+            Some(Task::Ended { answer, .. }) => Some(*answer),
+            Some(Task::Held { code, .. }) => Some(DeviceAnswer::Response(*code)),
+            _ => None,
         }
     }
 }

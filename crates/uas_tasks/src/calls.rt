@@ -3,19 +3,20 @@ ghost use Rattle.std.specs.Prelude.{◌≡◌, ◌*◌, ◌≤◌, IfOk, MatchOp
 ghost use Rattle.std.specs.List.{list_any};
 ghost use Rattle.std.specs.Option.{option_copied};
 ghost use Rattle.uas_profile.specs.declared.TheConstants.{GREATEST_TAG, MAX_CLIENTS};
-ghost use Rattle.uas_tasks.specs.Machine.{answered, attention_on, bytes_out, gave, given, greatest_block, is_long, next_of, no_slot, opening};
+ghost use Rattle.uas_tasks.specs.Machine.{answered, attention_on, bytes_out, gave, given, greatest_block, is_long, next_asked, next_by, next_of, no_slot, opening};
 ghost use Rattle.uas_tasks.specs.Machine.{out_of_number, quiet, request_out, slot_of, slot_under, took, wanted, with_slot, without_task};
 ghost use Rattle.uas_tasks.specs.Slots.{answered_slot, fresh_slot, is_wrong_length};
 ghost use Rattle.uas_tasks.specs.Soundness.{MayGive, MayTake};
 
 use crate::slot::{Out, Slot};
+use crate::stale::{count_down, number_of};
 use crate::{AnswerFault, LogicalUnit, Next, Outcome, Request, Tasks, Wants};
 use host_commands::{BlockLength, CommandSet, LogicalUnitShape};
 use std::alloc::{AllocError, Global};
 use uas_profile::GREATEST_TAG;
 
 /// The numbers of tags' requests have this many places for tags.
-const TAG_PLACES: u64 = 256;
+pub(crate) const TAG_PLACES: u64 = 256;
 
 impl Tasks {
     /// A device of these logical units, at most 15 (`MAX_CLIENTS`), without a task, that knows the commands of a set and moves
@@ -33,8 +34,14 @@ impl Tasks {
     {
         let units = quiet_units(alloc, shapes)?;
         let room = usize::from(chunk) * greatest_block(&units);
+        let stale = vec![in alloc; 0; units.len()]?;
         let slots = fresh_slots(alloc, chunk, room)?;
-        Ok(Tasks { units, set, slots })
+        Ok(Tasks {
+            units,
+            set,
+            stale,
+            slots,
+        })
     }
 
     /// The slot of a tag, where a task may have it.
@@ -52,7 +59,13 @@ impl Tasks {
         ensures { result ≡ wanted self.now tag }
     {
         match self.slot(tag) {
-            Some(slot) => slot.wants(),
+            Some(slot) => {
+                if self.is_held(slot) {
+                    Wants::Waits
+                } else {
+                    slot.wants()
+                }
+            }
             None => Wants::Absent,
         }
     }
@@ -74,18 +87,11 @@ impl Tasks {
 
     fn ask(&mut self, tag: u16) -> Next
         requires { wanted self.old tag ≡ Wants.Asks }
-        ensures { (self.new, result) ≡ next_of self.old tag }
+        ensures { (self.new, result) ≡ next_by self.old tag Wants.Asks }
     {
         let slot = &mut self.slots[usize::from(tag) - 1];
         slot.ask();
-        let number = TAG_PLACES * u64::from(slot.turn()) + u64::from(tag);
-        match slot.out() {
-            Some(out) => Next::Asks {
-                number,
-                request: out.request,
-            },
-            None => Next::Waits,
-        }
+        asked(tag, slot)
     }
 
     /// Fills `bytes` with the next ones that a tag gives: any part of what it wants to give.
@@ -135,8 +141,8 @@ impl Tasks {
         Some(slot.bytes_out(&out))
     }
 
-    /// The request of a number is answered; `bytes` are those of its blocks where a Read is done, and nothing otherwise. What a
-    /// task that is gone had asked for is dropped. Refused, and nothing changes, with `NotOut` where no request of this number is
+    /// The request of a number is answered; `bytes` are those of its blocks where a Read is done, and nothing otherwise. What came of
+    /// one whose task is gone is dropped; after a stale one any tag of its logical unit that waited may go on. Refused, and nothing changes, with `NotOut` where no request of this number is
     /// out, and with `WrongLength` where the bytes of a Read that is done are more or fewer than its blocks have.
     pub fn answered(
         &mut self,
@@ -171,7 +177,9 @@ impl Tasks {
         requires len { is_wrong_length (slot_under self.old.slots tag) out.now outcome (length bytes.now) ≡ false }
         ensures { self.new ≡ with_slot self.old tag (answered_slot (slot_of self.old tag) out.now outcome bytes.now) }
     {
-        self.slots[usize::from(tag) - 1].answer(out, outcome, bytes);
+        let slot = &mut self.slots[usize::from(tag) - 1];
+        count_down(&mut self.stale, slot.stale_unit());
+        slot.answer(out, outcome, bytes);
     }
 
     /// The answer of a tag whose task has ended was sent: the device has no task of it any more.
@@ -190,6 +198,19 @@ impl Tasks {
             Some(unit) => unit.attention.is_some(),
             None => false,
         }
+    }
+}
+
+/// The request of a tag that is out now.
+fn asked(tag: u16, slot: &Slot) -> Next
+    ensures { result ≡ next_asked tag slot.now }
+{
+    match slot.out() {
+        Some(out) => Next::Asks {
+            number: number_of(tag, slot),
+            request: out.request,
+        },
+        None => Next::Waits,
     }
 }
 

@@ -6,6 +6,7 @@ ghost use Rattle.uas_tasks.specs.Slots.{after_answer, after_outcome, chunk_block
 ghost use Rattle.uas_tasks.specs.Slots.{gave_task, is_done, is_read, job_task, medium_error, moved_on, moved_way, next_chunk, out_of, request_bytes};
 ghost use Rattle.uas_tasks.specs.Slots.{request_of, stage_wants, task_waits, took_task, waiting};
 ghost use Rattle.uas_tasks.specs.Soundness.{FitsRoom, IsSoundJob, IsSoundStage, IsSoundTask, IsSoundWork};
+ghost use Rattle.uas_tasks.specs.Stale.{unit_written};
 
 use crate::slot::Out;
 use crate::{Answer, DeviceAnswer, Job, JobKind, Outcome, Request, Stage, Task, Wants};
@@ -136,7 +137,7 @@ pub(crate) fn out_of(task: Option<Task>, chunk: u16) -> Option<Out>
             request: request_of(unit, &job, chunk),
             len: request_bytes(job.kind, chunk_bytes(&job, chunk)),
         }),
-        Some(Task::Giving { .. } | Task::Ended { .. }) | None => None,
+        Some(Task::Giving { .. } | Task::Ended { .. } | Task::Held { .. }) | None => None,
     }
 }
 
@@ -279,6 +280,16 @@ pub(crate) fn is_read(request: &Request) -> bool
     ensures { result ≡ is_read request.now }
 {
     matches!(request, Request::Read { .. })
+}
+
+/// The logical unit whose blocks a request changes.
+pub(crate) fn unit_written(request: &Request) -> Option<usize>
+    ensures { result ≡ unit_written request.now }
+{
+    match request {
+        Request::Write { unit, .. } => Some(*unit),
+        _ => None,
+    }
 }
 
 pub(crate) fn is_done(outcome: Outcome) -> bool

@@ -26,12 +26,16 @@
 //! outcome is dropped. So a request is named by a number of its own: the tag in its lowest eight bits, and above them a count of
 //! the requests of that tag. Data of the device itself (INQUIRY and the like) need no chunk buffer and never wait.
 //!
-//! Task management, overlapped tags, unreadable and unaddressed information units are those of `uas_target`.
+//! A Write that is out and that no task waits for any more is *stale*: it may still change blocks. While a logical unit has one, none of its
+//! requests is asked, and the Response of a function that ended a command there is held: both wait. So what a host is told, and what it does
+//! then, lands later (`nothing_stale_passes`). [`Tasks::stale`] names these requests, so that a caller may cancel them.
+//!
+//! But for that, task management, overlapped tags, unreadable and unaddressed information units are those of `uas_target`.
 //!
 //! What is promised: a [`Tasks`] is the record `Machine` of `specs/Machine.antt`, logical units by number and a slot for each
 //! tag, and each call makes of it exactly what the definition of that name says, and answers so.
 //!
-//! [`Tasks::new`] takes all memory; no later call takes any, and none but a reset goes over the tags.
+//! [`Tasks::new`] takes all memory; no later call takes any, and none but a reset and `stale` goes over the tags.
 //!
 //! It stands on `uas_iu` for the information units, `host_commands` for what a CDB asks, `scsi_cmd` for sense, and `uas_target`
 //! for the words that both devices share.
@@ -40,13 +44,16 @@
 mod answers;
 mod calls;
 mod jobs;
+mod laws;
 mod management;
 mod receiver;
 mod slot;
+mod stale;
 mod starts;
 
 pub use device_server::Answer;
 use host_commands::{CommandSet, LogicalUnitShape, UnitAttention};
+pub use laws::{last_answer_frees, nothing_stale_passes};
 use slot::Slot;
 use std::marker::Model;
 use thiserror::Error;
@@ -168,6 +175,11 @@ pub enum Task {
         unit: Option<usize>,
         answer: DeviceAnswer,
     },
+    /// Its Response waits for the stale requests of a logical unit, a command of which it ended.
+    Held {
+        unit: usize,
+        code: u8,
+    },
 }
 
 /// What the device wants on a tag.
@@ -214,6 +226,8 @@ const _: () = prove!(MOST_CHUNK_BLOCKS == 128);
 pub struct Tasks {
     units: Vec<LogicalUnit>,
     set: CommandSet,
+    /// How many stale requests each logical unit has.
+    stale: Vec<u8>,
     slots: Vec<Slot>,
 }
 
@@ -226,5 +240,5 @@ impl Model for Tasks {
 
     ghost view = { λ tasks. record { units = tasks.units.items; set = tasks.set; slots = tasks.slots.items } };
 
-    ghost invariant = { λ tasks. IsSoundMachine tasks.units.items tasks.slots.items };
+    ghost invariant = { λ tasks. IsSoundMachine tasks.units.items tasks.stale.items tasks.slots.items };
 }

@@ -1,12 +1,14 @@
-//! Task management (SAM): what ABORT TASK and LOGICAL UNIT RESET end, and what they and QUERY TASK are answered; and a reset of the
-//! whole device.
+//! Task management (SAM): what ABORT TASK and LOGICAL UNIT RESET end, and what they and QUERY TASK are answered, at once or after what is
+//! stale; and a reset of the whole device.
 ghost use Rattle.std.specs.Prelude.{◌≡◌, map, slice_index};
+ghost use Rattle.std.specs.List.{list_any};
 ghost use Rattle.uas_target.specs.Fields.{addressed};
 ghost use Rattle.uas_target.specs.Tasks.{is_at};
-ghost use Rattle.uas_tasks.specs.Machine.{aborted_on, attentive, managed, powered, powered_machine, queried_on, reset_machine, reset_on, reset_over, slot_under, tasks_ended, without_command, without_its_task};
+ghost use Rattle.uas_tasks.specs.Machine.{aborted_on, attentive, completed, managed, powered, powered_machine, queried_on, reset_machine, reset_on, reset_over, responded, slot_under, tasks_ended, without_command, without_its_task};
 ghost use Rattle.uas_tasks.specs.Slots.{has_command, is_command_of, spared_slot};
 
 use crate::slot::Slot;
+use crate::stale::{count_anew, count_up};
 use crate::{DeviceAnswer, LogicalUnit, Task, Tasks};
 use host_commands::UnitAttention;
 use uas_iu::{
@@ -21,7 +23,7 @@ impl Tasks {
     pub fn reset(&mut self)
         ensures { self.new ≡ reset_machine self.old }
     {
-        end_all(&mut self.slots);
+        self.end_tasks();
         establish_attentions(&mut self.units);
     }
 
@@ -29,7 +31,7 @@ impl Tasks {
     pub fn power_on(&mut self)
         ensures { self.new ≡ powered_machine self.old }
     {
-        end_all(&mut self.slots);
+        self.end_tasks();
         power_units(&mut self.units);
     }
 
@@ -39,28 +41,30 @@ impl Tasks {
         ensures { self.new ≡ tasks_ended self.old }
     {
         end_all(&mut self.slots);
+        count_anew(&mut self.stale, &self.slots);
     }
 
-    /// Does a task management function on the logical unit that a LUN addresses; its response code.
-    pub(crate) fn manage(&mut self, function: u8, tag: u16, lun: &[u8; LUN_BYTES]) -> u8
+    /// Does a task management function on the logical unit that a LUN addresses; the task of its tag, which is to answer it.
+    pub(crate) fn manage(&mut self, function: u8, tag: u16, lun: &[u8; LUN_BYTES]) -> Task
         ensures { (self.new, result) ≡ managed self.old function tag lun.now }
     {
         match function {
             ABORT_TASK => self.abort(tag, lun),
             LOGICAL_UNIT_RESET => self.reset_unit(lun),
             QUERY_TASK => self.query(tag, lun),
-            _ => NOT_SUPPORTED,
+            _ => responded(NOT_SUPPORTED),
         }
     }
 
-    fn abort(&mut self, tag: u16, lun: &[u8; LUN_BYTES]) -> u8
+    fn abort(&mut self, tag: u16, lun: &[u8; LUN_BYTES]) -> Task
         ensures { (self.new, result) ≡ aborted_on self.old (slice_index lun.now 1) tag (addressed self.old.units lun.now) }
     {
         let Some(number) = unit_number(&self.units, lun) else {
-            return INCORRECT_LUN;
+            return responded(INCORRECT_LUN);
         };
+        let ended = self.has_command(number, tag);
         self.end_command(number, tag);
-        TASK_COMPLETE
+        self.completed(number, ended)
     }
 
     /// The task of a tag is gone where it is a command's to the logical unit of this number.
@@ -69,34 +73,59 @@ impl Tasks {
     {
         let place = usize::from(tag);
         if place != 0 && place <= self.slots.len() {
-            self.slots[place - 1].end_command(number);
+            let slot = &mut self.slots[place - 1];
+            count_up(&mut self.stale, slot.stale_without(number));
+            slot.end_command(number);
         }
     }
 
-    fn reset_unit(&mut self, lun: &[u8; LUN_BYTES]) -> u8
+    /// The task that answers a function which is done, and which ended commands or didn't.
+    fn completed(&self, number: usize, ended: bool) -> Task
+        ensures { result ≡ completed self.now number ended }
+    {
+        if ended && self.has_stale(number) {
+            Task::Held {
+                unit: number,
+                code: TASK_COMPLETE,
+            }
+        } else {
+            responded(TASK_COMPLETE)
+        }
+    }
+
+    fn reset_unit(&mut self, lun: &[u8; LUN_BYTES]) -> Task
         ensures { (self.new, result) ≡ reset_on self.old (slice_index lun.now 1) (addressed self.old.units lun.now) }
     {
         let Some(number) = unit_number(&self.units, lun) else {
-            return INCORRECT_LUN;
+            return responded(INCORRECT_LUN);
         };
-        end_commands(&mut self.slots, number);
+        let ended = has_command_of(&self.slots, number);
+        self.end_commands(number);
         let unit = self.units[number];
         let attention = reset_over(unit.attention);
         self.units[number] = LogicalUnit { attention, ..unit };
-        TASK_COMPLETE
+        self.completed(number, ended)
     }
 
-    fn query(&self, tag: u16, lun: &[u8; LUN_BYTES]) -> u8
+    /// No tag has a command's task of the logical unit of this number any more.
+    fn end_commands(&mut self, number: usize)
+        ensures { self.new ≡ record self.old { slots = map (spared_slot number) self.old.slots } }
+    {
+        end_commands(&mut self.slots, number);
+        count_anew(&mut self.stale, &self.slots);
+    }
+
+    fn query(&self, tag: u16, lun: &[u8; LUN_BYTES]) -> Task
         ensures { (self.now, result) ≡ queried_on self.now (slice_index lun.now 1) tag (addressed self.now.units lun.now) }
     {
         let Some(number) = unit_number(&self.units, lun) else {
-            return INCORRECT_LUN;
+            return responded(INCORRECT_LUN);
         };
-        if self.has_command(number, tag) {
+        responded(if self.has_command(number, tag) {
             TASK_SUCCEEDED
         } else {
             TASK_COMPLETE
-        }
+        })
     }
 
     fn has_command(&self, number: usize, tag: u16) -> bool
@@ -107,6 +136,23 @@ impl Tasks {
             None => false,
         }
     }
+}
+
+/// A task that has ended with a Response of this code.
+pub(crate) fn responded(code: u8) -> Task
+    ensures { result ≡ responded code }
+{
+    Task::Ended {
+        unit: None,
+        answer: DeviceAnswer::Response(code),
+    }
+}
+
+/// Whether a tag has a command's task of the logical unit of this number.
+fn has_command_of(slots: &[Slot], number: usize) -> bool
+    ensures { result ≡ list_any (has_command number) slots.now }
+{
+    slots.iter().any(|slot| slot.has_command(number))
 }
 
 /// No tag has a task any more.
@@ -157,7 +203,7 @@ fn reset_over(attention: Option<UnitAttention>) -> Option<UnitAttention>
 
 impl Slot {
     /// Whether its task is a command's to the logical unit of this number.
-    fn has_command(&self, number: usize) -> bool
+    pub(crate) fn has_command(&self, number: usize) -> bool
         ensures { result ≡ has_command number self.now }
     {
         match self.task() {
@@ -187,6 +233,7 @@ fn is_command_of(number: usize, task: &Task) -> bool
             DeviceAnswer::Status(_) => is_at(number, *unit),
             DeviceAnswer::Response(_) => false,
         },
+        Task::Held { .. } => false,
     }
 }
 

@@ -1,10 +1,12 @@
 //! What comes of received bytes.
 ghost use Rattle.std.specs.Prelude.{◌≡◌, ℕ, ◌<◌, true, false, None, Ok, IfNone, IfSome, length, slice_get};
 ghost use Rattle.uas_target.specs.Fields.{is_tag, tag_in};
-ghost use Rattle.uas_tasks.specs.Machine.{Machine, executed, executed_on, has_task, managed, on_its_tag, received, received_unreadable, with_code, with_response};
+ghost use Rattle.uas_tasks.specs.Machine.{Machine, executed, executed_on, has_task, managed, on_its_tag, received, received_unreadable, with_answer, with_task_on};
+ghost use Rattle.uas_tasks.specs.Soundness.{IsAnswer};
 
+use crate::management::responded;
 use crate::starts::begin;
-use crate::{DeviceAnswer, LogicalUnit, Overlap, Task, Tasks, Took};
+use crate::{LogicalUnit, Overlap, Task, Tasks, Took};
 use host_commands::read_without_logical_unit;
 use uas_iu::{CDB_BYTES, INVALID_INFORMATION_UNIT, Iu, LUN_BYTES, read};
 use uas_target::{is_tag, unit_number};
@@ -80,7 +82,8 @@ impl Tasks {
 
     /// The addressed logical unit executes a CDB as far as its data and its first request, on the slot of a tag.
     fn execute(&mut self, tag: u16, lun: &[u8; LUN_BYTES], cdb: &[u8; CDB_BYTES])
-        requires { is_tag tag ≡ true }
+        requires tag { is_tag tag ≡ true }
+        requires free { has_task self.old tag ≡ false }
         ensures { self.new ≡ executed self.old tag lun.now cdb.now }
     {
         match unit_number(&self.units, lun) {
@@ -91,6 +94,7 @@ impl Tasks {
 
     fn execute_on(&mut self, tag: u16, number: usize, cdb: &[u8; CDB_BYTES])
         requires tag { is_tag tag ≡ true }
+        requires free { has_task self.old tag ≡ false }
         requires there { number < length self.old.units }
         ensures { self.new ≡ executed_on self.old tag number cdb.now (slice_get self.old.units number) }
     {
@@ -102,7 +106,8 @@ impl Tasks {
     }
 
     fn execute_nowhere(&mut self, tag: u16, cdb: &[u8; CDB_BYTES])
-        requires { is_tag tag ≡ true }
+        requires tag { is_tag tag ≡ true }
+        requires free { has_task self.old tag ≡ false }
         ensures { (number : ℕ) → self.new ≡ executed_on self.old tag number cdb.now None }
     {
         let count = self.units.len() as u8;
@@ -117,13 +122,13 @@ impl Tasks {
         task_tag: u16,
         lun: &[u8; LUN_BYTES],
     ) -> Result<Took, Overlap>
-        ensures { (self.new, result) ≡ on_its_tag self.old tag (with_code tag (managed self.old function task_tag lun.now)) }
+        ensures { (self.new, result) ≡ on_its_tag self.old tag (with_answer tag (managed self.old function task_tag lun.now)) }
     {
         if let Some(refused) = self.refusal(tag) {
             return refused;
         }
-        let code = self.manage(function, task_tag, lun);
-        self.respond(tag, code);
+        let answer = self.manage(function, task_tag, lun);
+        self.respond(tag, answer);
         Ok(Took::Began(tag))
     }
 
@@ -137,18 +142,17 @@ impl Tasks {
         if !is_tag(tag) || self.has_task(tag) {
             return Took::Dropped;
         }
-        self.respond(tag, INVALID_INFORMATION_UNIT);
+        self.respond(tag, responded(INVALID_INFORMATION_UNIT));
         Took::Began(tag)
     }
 
-    /// The task of a free tag has ended with a response code.
-    fn respond(&mut self, tag: u16, code: u8)
-        requires { is_tag tag ≡ true }
-        ensures { self.new ≡ with_response self.old tag code }
+    /// The task of a free tag is this answer to an information unit.
+    fn respond(&mut self, tag: u16, answer: Task)
+        requires tag { is_tag tag ≡ true }
+        requires free { has_task self.old tag ≡ false }
+        requires answer { IsAnswer answer }
+        ensures { self.new ≡ with_task_on self.old tag answer }
     {
-        self.slots[usize::from(tag) - 1].set(Some(Task::Ended {
-            unit: None,
-            answer: DeviceAnswer::Response(code),
-        }));
+        self.slots[usize::from(tag) - 1].set(Some(answer));
     }
 }

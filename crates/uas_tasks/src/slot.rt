@@ -1,16 +1,18 @@
 //! What the device has for one tag: its task, the request that is out, and the chunk buffer.
-ghost use Rattle.std.specs.Prelude.{◌≡◌, ◌≤◌, if◌then◌else◌, IfOk, IfSome, Some, false, length, take, true};
+ghost use Rattle.std.specs.Prelude.{◌≡◌, ◌≤◌, if◌then◌else◌, IfOk, IfSome, Some, false, length, option_and_then, take, true};
 ghost use Rattle.scsi_cmd.specs.declared.Sense.{Sense};
 ghost use Rattle.scsi_cmd.specs.Buffers.{with_bytes_at};
 ghost use Rattle.host_commands.specs.Data.{IsOfDevice, given_bytes};
 ghost use Rattle.uas_tasks.specs.Slots.{SlotState, answered_slot, asked_slot, brings_bytes, filled, fresh_slot, gave_slot, giving_slot};
 ghost use Rattle.uas_tasks.specs.Slots.{is_wrong_length, next_bytes, slot_wants, took_slot, with_task};
 ghost use Rattle.uas_tasks.specs.Soundness.{FitsRoom, IsSoundTask, MayGive, MayTake};
+ghost use Rattle.uas_tasks.specs.Stale.{held_by, stale_unit, stale_without, writes_out};
 ghost use Rattle.uas_tasks.specs.declared.Wants.{Wants};
 ghost use Rattle.uas_tasks.specs.declared.slot.Out.{Out};
 
 use crate::jobs::{
-    after_answer, gave_task, is_done, is_read, is_waiting, out_of, stage_wants, took_task, waiting,
+    after_answer, gave_task, is_done, is_read, is_waiting, out_of, stage_wants, took_task,
+    unit_written, waiting,
 };
 use crate::{Answer, DeviceAnswer, Outcome, Request, Stage, Task, Wants};
 use arrayvec::ArrayVec;
@@ -113,7 +115,7 @@ impl Slot {
                     stage_wants(job, self.chunk, *stage)
                 }
             }
-            Some(Task::Ended { .. }) => Wants::Ends,
+            Some(Task::Ended { .. } | Task::Held { .. }) => Wants::Ends,
         }
     }
 
@@ -165,6 +167,55 @@ impl Slot {
         ensures { result ≡ self.now.out }
     {
         self.out
+    }
+
+    /// The logical unit of the Write that is out.
+    fn writes_out(&self) -> Option<usize>
+        ensures { result ≡ writes_out self.now }
+    {
+        match &self.out {
+            Some(out) => unit_written(&out.request),
+            None => None,
+        }
+    }
+
+    /// That of one that is stale.
+    pub(crate) fn stale_unit(&self) -> Option<usize>
+        ensures { result ≡ stale_unit self.now }
+    {
+        if is_waiting(&self.task) {
+            None
+        } else {
+            self.writes_out()
+        }
+    }
+
+    /// That of one which is stale once the command to the logical unit of this number is gone, and isn't yet.
+    pub(crate) fn stale_without(&self, number: usize) -> Option<usize>
+        ensures { result ≡ stale_without number self.now }
+    {
+        if is_waiting(&self.task) && self.has_command(number) {
+            self.writes_out()
+        } else {
+            None
+        }
+    }
+
+    /// The logical unit for whose stale requests the task waits.
+    pub(crate) fn held_by(&self) -> Option<usize>
+        ensures { result ≡ option_and_then held_by self.now.task }
+    {
+        match &self.task {
+            Some(
+                Task::Blocks {
+                    unit,
+                    stage: Stage::Asking,
+                    ..
+                }
+                | Task::Held { unit, .. },
+            ) => Some(*unit),
+            _ => None,
+        }
     }
 
     /// The bytes of the chunk buffer that belong to the request that is out.

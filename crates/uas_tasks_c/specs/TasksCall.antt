@@ -1,5 +1,5 @@
 -- What a call through the door makes of the device without blocks, the door and the bytes.
-use Rattle.std.specs.Prelude.{ℕ, ◌==◌, nat_lt, if◌then◌else◌, List, [], ◌∷◌, ◌++◌, length, drop, Option, None, Some, Result, Ok, Err}
+use Rattle.std.specs.Prelude.{ℕ, ◌==◌, nat_lt, if◌then◌else◌, List, [], ◌∷◌, ◌++◌, length, drop, Option, None, Some, unwrap_or, Result, Ok, Err}
 use Rattle.c_common.specs.Bytes.{yes}
 use Rattle.c_common.specs.Door.{After, DoorAfter, numbered, refused, with_bytes}
 use Rattle.c_faults.specs.declared.TheConstants.{TASKS_CALL, TASKS_LENGTH, TASKS_NOT_OUT, TASKS_OVERLAP, TASKS_PHASE}
@@ -18,7 +18,7 @@ use Rattle.uas_tasks.specs.declared.Request.{Request}
 use Rattle.uas_tasks.specs.declared.Request.TheVariants as requests
 use Rattle.uas_tasks.specs.declared.Wants.{Wants}
 use Rattle.uas_tasks.specs.declared.Wants.TheVariants.{Gives, Takes, Ends}
-use Rattle.uas_tasks.specs.Machine.{Machine, answer_on, answered, bytes_out, gave, given, next_of, received, reset_machine, took, wanted, without_task}
+use Rattle.uas_tasks.specs.Machine.{Machine, answer_on, answered, bytes_out, gave, given, next_of, received, reset_machine, stale_after, took, wanted, without_task}
 use Rattle.uas_tasks_c.specs.declared.door.Call.{Call}
 use Rattle.uas_tasks_c.specs.declared.door.Call.TheVariants as calls
 use Rattle.uas_tasks_c.specs.declared.door.UasTasksDoor.{UasTasksDoor}
@@ -121,10 +121,14 @@ after_sent machine door = by (wanted machine door.tag)
 abbrev pub after_reset : Machine → UasTasksDoor → DoorAfter Machine UasTasksDoor
 after_reset machine door = (0, (reset_machine machine, door))
 
+-- STALE (10): the number of the next stale request, or 0
+abbrev pub after_stale : Machine → UasTasksDoor → DoorAfter Machine UasTasksDoor
+after_stale machine door = (0, (machine, record door { number = unwrap_or (stale_after machine door.number) 0 }))
+
 abbrev pub call_numbered : ℕ → Option Call
 call_numbered =
     numbered ((1, calls.Receive) ∷ (2, calls.Next) ∷ (3, calls.Give) ∷ (4, calls.Take) ∷ (5, calls.Data) ∷ (6, calls.Answered) ∷ (7, calls.Status)
-    ∷ (8, calls.Sent) ∷ (9, calls.Reset) ∷ [])
+    ∷ (8, calls.Sent) ∷ (9, calls.Reset) ∷ (10, calls.Stale) ∷ [])
 
 abbrev pub after_named : Machine → UasTasksDoor → List ℕ → Call → After Machine UasTasksDoor
 after_named machine door bytes calls.Receive = with_bytes bytes (after_receive machine door bytes)
@@ -136,6 +140,7 @@ after_named machine door bytes calls.Answered = with_bytes bytes (after_answer m
 after_named machine door bytes calls.Status = after_status machine door bytes
 after_named machine door bytes calls.Sent = with_bytes bytes (after_sent machine door)
 after_named machine door bytes calls.Reset = with_bytes bytes (after_reset machine door)
+after_named machine door bytes calls.Stale = with_bytes bytes (after_stale machine door)
 
 -- a call of a number that is none is refused
 abbrev pub after_call : Machine → UasTasksDoor → List ℕ → After Machine UasTasksDoor

@@ -1,6 +1,6 @@
 //! A device without blocks for C: information units in, requests, data and information units out, over one call with a door.
 ghost use Rattle.std.specs.Prelude.{◌≡◌};
-ghost use Rattle.uas_tasks_c.specs.TasksCall.{after_answer, after_call, after_data, after_give, after_next, after_receive, after_sent, after_status};
+ghost use Rattle.uas_tasks_c.specs.TasksCall.{after_answer, after_call, after_data, after_give, after_next, after_receive, after_sent, after_stale, after_status};
 ghost use Rattle.uas_tasks_c.specs.TasksCall.{after_take, answer_told, call_numbered, outcome_numbered, with_next, with_request, with_took};
 
 use c_common::put_unit;
@@ -12,7 +12,7 @@ use uas_tasks::{AnswerFault, Next, Outcome, Request, Tasks, Took, Wants};
 #[repr(C)]
 #[derive(Clone, Copy)]
 pub struct UasTasksDoor {
-    /// The call, 1 to 9.
+    /// The call, 1 to 10.
     pub call: u8,
     /// Out of NEXT: 0 absent, 1 gives, 2 takes, 3 ends, 4 asks, 5 waits.
     pub phase: u8,
@@ -30,7 +30,7 @@ pub struct UasTasksDoor {
     pub unit: u64,
     /// Out of NEXT: bytes that it gives or takes. Out of STATUS: bytes of the information unit.
     pub length: u64,
-    /// Out of a NEXT that asks, and of DATA and ANSWERED: the request's number.
+    /// Out of a NEXT that asks, and of DATA and ANSWERED: the request's number. Of STALE: the last one told, or 0; out: the next, or 0.
     pub number: u64,
     /// Out of a NEXT that asks: the first block.
     pub block: u64,
@@ -64,6 +64,7 @@ enum Call {
     Status,
     Sent,
     Reset,
+    Stale,
 }
 
 fn call_numbered(number: u8) -> Option<Call>
@@ -79,6 +80,7 @@ fn call_numbered(number: u8) -> Option<Call>
         7 => Some(Call::Status),
         8 => Some(Call::Sent),
         9 => Some(Call::Reset),
+        10 => Some(Call::Stale),
         _ => None,
     }
 }
@@ -116,6 +118,7 @@ pub(crate) fn serve(kept: &mut KeptTasks, door: &mut UasTasksDoor, bytes: &mut [
             tasks.reset();
             0
         }
+        Call::Stale => show_stale(tasks, door),
     }
 }
 
@@ -265,5 +268,16 @@ fn sent(tasks: &mut Tasks, door: &UasTasksDoor) -> u8
         return TASKS_PHASE;
     }
     tasks.sent(door.tag);
+    0
+}
+
+/// The next stale request behind the door's number.
+fn show_stale(tasks: &Tasks, door: &mut UasTasksDoor) -> u8
+    ensures { (result, (tasks.now, door.new)) ≡ after_stale tasks.now door.old }
+{
+    door.number = match tasks.stale(door.number) {
+        Some(number) => number,
+        None => 0,
+    };
     0
 }

@@ -9,6 +9,7 @@ use Rattle.guest_tasks.specs.declared.GuestTasks.{GuestTasks}
 use Rattle.uas_tasks.specs.declared.Next.{Next}
 use Rattle.uas_tasks.specs.Machine.{Machine as Tasks, next_of, no_slot, slot_of}
 use Rattle.uas_tasks.specs.Slots.{SlotState, slot_wants}
+use Rattle.uas_tasks.proofs.Keeping.{wanted-free}
 use Rattle.xhci_machine.specs.declared.Machine.{Machine}
 use Rattle.uas_xhci_c.specs.XhciCall.{first_asking, next_request, with_tasks}
 
@@ -19,7 +20,8 @@ has_slot device (suc place) least asks = elim (cases_lt place (length device.tas
   | inl there ↦ omega (arith, there)
   | inr past ↦
       let none : slot_of device.tasks (suc place) ≡ no_slot = get_or_past device.tasks.slots place no_slot past in
-      absurd (false≢true (sym (ap (λ (slot : SlotState). is_asking (slot_wants slot)) none) ∙ (and_parts _ _ asks).1))
+      let wants = wanted-free (λ w. is_asking w ≡ true) false≢true device.tasks (suc place) (and_parts _ _ asks).1 in
+      absurd (false≢true (sym (ap (λ (slot : SlotState). is_asking (slot_wants slot)) none) ∙ wants))
 ]
 
 pub request-told : (old new : Machine) (result : Option Next)

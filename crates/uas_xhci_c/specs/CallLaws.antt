@@ -16,11 +16,12 @@ use Rattle.uas_tasks.specs.declared.Request.{Request}
 use Rattle.uas_tasks.specs.declared.Request.TheVariants.{Read, Write, Compare, Verify, Sync}
 use Rattle.uas_tasks.specs.declared.slot.Out.{Out}
 use Rattle.uas_tasks.specs.declared.Task.{Task}
-use Rattle.uas_tasks.specs.declared.Task.TheVariants.{Giving, Blocks, Ended}
+use Rattle.uas_tasks.specs.declared.Task.TheVariants.{Giving, Blocks, Ended, Held}
 use Rattle.uas_tasks.specs.declared.Wants.{Wants}
 use Rattle.uas_tasks.specs.declared.Wants.TheVariants as wants
 use Rattle.uas_tasks.specs.Machine.{Machine as Tasks, next_by, number_of, slot_of, wanted}
 use Rattle.uas_tasks.specs.Slots.{SlotState, asked_slot, out_of, task_wants}
+use Rattle.uas_tasks.proofs.Keeping.{wanted-free}
 use Rattle.xhci_machine.specs.declared.Machine.{Machine}
 use Rattle.uas_xhci_c.specs.declared.door.Call.{Call}
 use Rattle.uas_xhci_c.specs.declared.door.Call.TheVariants as calls
@@ -73,6 +74,7 @@ module _ (machine : Machine) (door : UasXhciDoor) (bytes : List ℕ) where
   named calls.Answered =
       either (λ after. Whole (with_bytes bytes after)) (answered_with machine door bytes) (outcome_numbered door.outcome) _ (refl, λ some. refl)
       (λ outcome. told _)
+  named calls.Stale = done _ _ bytes
 
   pub calls_are_whole : Whole (after_call machine door bytes)
   calls_are_whole = either Whole (after_named machine door bytes) (call_numbered door.call) _ (refl, λ some. refl) named
@@ -97,6 +99,7 @@ has_request chunk given out None is = absurd (false≢true is)
 has_request chunk given out (Some (Giving unit at)) is = absurd (false≢true is)
 has_request chunk given out (Some (Blocks unit job stage)) is = refl
 has_request chunk given out (Some (Ended unit answer)) is = absurd (false≢true is)
+has_request chunk given out (Some (Held unit code)) is = absurd (false≢true is)
 
 module _ (door : UasXhciDoor) where
   good_request : (number : ℕ) (request : Request) → (with_next door (Some (Asks number request))).good ≡ 1
@@ -128,7 +131,8 @@ module _ (door : UasXhciDoor) where
       let wanting : is_asking (wanted machine.device.tasks tag) ≡ true = (and_parts _ _ asks).1 in
       let slot : SlotState = slot_of machine.device.tasks tag in
       good_next machine.device.tasks tag (wanted machine.device.tasks tag) wanting
-      (has_request slot.chunk (length slot.given) (is_some slot.out) slot.task wanting)
+      (has_request slot.chunk (length slot.given) (is_some slot.out) slot.task
+      (wanted-free (λ w. is_asking w ≡ true) false≢true machine.device.tasks tag wanting))
 
   pub requests_are_told : (machine : Machine) → IsTold machine door
   requests_are_told machine = told_by machine (first_asking machine.device) refl

@@ -1,5 +1,5 @@
 -- What a call through the door makes of the controller, the door and the bytes.
-use Rattle.std.specs.Prelude.{ℕ, ◌%◌, ◌==◌, not, if◌then◌else◌, List, [], ◌∷◌, length, Option, None, Some, Result, Ok, Err}
+use Rattle.std.specs.Prelude.{ℕ, ◌%◌, ◌==◌, not, if◌then◌else◌, List, [], ◌∷◌, length, Option, None, Some, unwrap_or, Result, Ok, Err}
 use Rattle.std.specs.List.{find, range_with_len}
 use Rattle.std.specs.Option.{option_map_or}
 use Rattle.c_common.specs.Bytes.{yes}
@@ -15,7 +15,7 @@ use Rattle.uas_tasks.specs.declared.Outcome.{Outcome}
 use Rattle.uas_tasks.specs.declared.Outcome.TheVariants as outcomes
 use Rattle.uas_tasks.specs.declared.Request.{Request}
 use Rattle.uas_tasks.specs.declared.Request.TheVariants as requests
-use Rattle.uas_tasks.specs.Machine.{Machine as Tasks, answered, bytes_out, next_of}
+use Rattle.uas_tasks.specs.Machine.{Machine as Tasks, answered, bytes_out, next_of, stale_after}
 use Rattle.xhci_registers.specs.declared.Width.{Width}
 use Rattle.xhci_registers.specs.declared.Width.TheVariants as widths
 use Rattle.xhci_registers.specs.Signals.{is_asserted, messaged}
@@ -129,12 +129,16 @@ abbrev pub after_answer : Machine → UasXhciDoor → List ℕ → DoorAfter Mac
 after_answer machine door bytes =
     option_map_or (answered_with machine door bytes) (outcome_numbered door.outcome) (refused TASKS_CALL machine door)
 
+-- STALE (11): the number of the next stale request, or 0
+abbrev pub after_stale : Machine → UasXhciDoor → DoorAfter Machine UasXhciDoor
+after_stale machine door = (0, (machine, record door { number = unwrap_or (stale_after machine.device.tasks door.number) 0 }))
+
 -- CALLS
 
 abbrev pub call_numbered : ℕ → Option Call
 call_numbered =
     numbered ((1, calls.Read) ∷ (2, calls.Write) ∷ (3, calls.Interrupt) ∷ (4, calls.Message) ∷ (5, calls.Plug) ∷ (6, calls.Frame) ∷ (7, calls.Reset)
-    ∷ (8, calls.Request) ∷ (9, calls.Data) ∷ (10, calls.Answered) ∷ [])
+    ∷ (8, calls.Request) ∷ (9, calls.Data) ∷ (10, calls.Answered) ∷ (11, calls.Stale) ∷ [])
 
 abbrev pub after_named : Machine → UasXhciDoor → List ℕ → Call → After Machine UasXhciDoor
 after_named machine door bytes calls.Read = with_bytes bytes (after_read machine door)
@@ -147,6 +151,7 @@ after_named machine door bytes calls.Reset = with_bytes bytes (after_reset machi
 after_named machine door bytes calls.Request = with_bytes bytes (after_request machine door)
 after_named machine door bytes calls.Data = after_data machine door bytes
 after_named machine door bytes calls.Answered = with_bytes bytes (after_answer machine door bytes)
+after_named machine door bytes calls.Stale = with_bytes bytes (after_stale machine door)
 
 -- a call of a number that is none is refused
 abbrev pub after_call : Machine → UasXhciDoor → List ℕ → After Machine UasXhciDoor

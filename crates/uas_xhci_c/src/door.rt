@@ -1,7 +1,7 @@
 //! A controller over a caller's memory for C: register accesses, interrupts and requests, over one call with a door.
 ghost use Rattle.std.specs.Prelude.{◌≡◌};
 ghost use Rattle.uas_xhci_c.specs.CallLaws.{IsTold, IsWhole};
-ghost use Rattle.uas_xhci_c.specs.XhciCall.{after_answer, after_call, after_data, after_read, after_request, after_write, call_numbered};
+ghost use Rattle.uas_xhci_c.specs.XhciCall.{after_answer, after_call, after_data, after_read, after_request, after_stale, after_write, call_numbered};
 ghost use Rattle.uas_xhci_c.specs.XhciCall.{outcome_numbered, width_of, with_next, with_request};
 
 use c_faults::{TASKS_CALL, TASKS_LENGTH, TASKS_NOT_OUT};
@@ -13,7 +13,7 @@ use xhci_machine::{Machine, Width};
 #[repr(C)]
 #[derive(Clone, Copy)]
 pub struct UasXhciDoor {
-    /// The call, 1 to 10.
+    /// The call, 1 to 11.
     pub call: u8,
     /// Of READ and WRITE: 1, 2, 4 or 8 bytes.
     pub width: u8,
@@ -30,7 +30,7 @@ pub struct UasXhciDoor {
     pub offset: u64,
     /// Of WRITE: what is written; of PLUG: 0 to pull the disk; of FRAME: MFINDEX. Out of READ: what was read.
     pub value: u64,
-    /// Out of REQUEST, and of DATA and ANSWERED: the request's number.
+    /// Out of REQUEST, and of DATA and ANSWERED: the request's number. Of STALE: the last one told, or 0; out: the next, or 0.
     pub number: u64,
     /// Out of REQUEST: the logical unit's number.
     pub unit: u64,
@@ -67,6 +67,7 @@ enum Call {
     Request,
     Data,
     Answered,
+    Stale,
 }
 
 fn call_numbered(number: u8) -> Option<Call>
@@ -83,6 +84,7 @@ fn call_numbered(number: u8) -> Option<Call>
         8 => Some(Call::Request),
         9 => Some(Call::Data),
         10 => Some(Call::Answered),
+        11 => Some(Call::Stale),
         _ => None,
     }
 }
@@ -145,6 +147,7 @@ pub(crate) fn serve(kept: &mut KeptXhci, door: &mut UasXhciDoor, bytes: &mut [u8
         Call::Request => show_request(machine, door),
         Call::Data => show_data(machine, door, bytes),
         Call::Answered => answer(machine, door, bytes),
+        Call::Stale => show_stale(machine, door),
     }
 }
 
@@ -235,6 +238,17 @@ fn answer(machine: &mut Machine, door: &UasXhciDoor, bytes: &[u8]) -> u8
         Err(AnswerFault::NotOut) => TASKS_NOT_OUT,
         Err(AnswerFault::WrongLength) => TASKS_LENGTH,
     }
+}
+
+/// The next stale request behind the door's number.
+fn show_stale(machine: &Machine, door: &mut UasXhciDoor) -> u8
+    ensures { (result, (machine.now, door.new)) ≡ after_stale machine.now door.old }
+{
+    door.number = match machine.stale(door.number) {
+        Some(number) => number,
+        None => 0,
+    };
+    0
 }
 
 #[tactic(auto, using(crate::specs::CallLaws::calls_are_whole))]

@@ -1,7 +1,7 @@
 //! Register accesses, and what they ask for beyond the registers.
 ghost use Rattle.std.specs.Prelude.{◌≡◌, ℕ, ◌<◌, ◌≤◌, ◌%◌, IfOk, IfSome, IfNone, option_copied, true, false};
 ghost use Rattle.guest_tasks.specs.Active.{IsIdle, TasksAreActive, asks_on};
-ghost use Rattle.uas_tasks.specs.Machine.{answered, bytes_out, has_task, next_of};
+ghost use Rattle.uas_tasks.specs.Machine.{answered, bytes_out, has_task, next_of, stale_after};
 ghost use Rattle.xhci_registers.specs.Signals.{is_asserted, messaged};
 ghost use Rattle.xhci_registers.specs.Words.{read_of};
 ghost use Rattle.xhci_registers.specs.Writes.{reset_registers};
@@ -189,7 +189,15 @@ impl Machine {
         self.device.tasks.request_bytes(number)
     }
 
-    /// What came of a request; its tag goes on at the next step.
+    /// The number of the first stale request on a tag above that of a number, `after`, and the first of all after 0. A caller may cancel
+    /// it, and answers it all the same.
+    pub fn stale(&self, after: u64) -> Option<u64>
+        ensures { result ≡ stale_after self.now.device.tasks after }
+    {
+        self.device.tasks.stale(after)
+    }
+
+    /// What came of a request; its tag goes on at the next step, and after a stale one each tag that waited for it.
     pub fn answered(
         &mut self,
         number: u64,

@@ -1,6 +1,10 @@
-use Rattle.std.proofs.Common.{◌≡◌, ℕ, ◌-◌, ◌<◌, ◌≤◌, length, length-set, refl, ap, sym, subst, ◌∙◌}
+use Rattle.std.proofs.Common.{◌-◌, Option, length, length-set, refl, ap, sym, subst, ◌∙◌}
+use Rattle.host_commands.specs.declared.UnitAttention.{UnitAttention}
 use Rattle.uas_tasks.specs.Machine.{begun}
-use Rattle.uas_tasks.proofs.Machines.{executed_there, tag_there}
+use Rattle.uas_tasks.specs.Slots.{SlotState}
+use Rattle.uas_tasks.proofs.Counts.{Keeps}
+use Rattle.uas_tasks.proofs.Keeping.{begun-keeps}
+use Rattle.uas_tasks.proofs.Machines.{executed_there, free_read, tag_there}
 use Rattle.uas_tasks.proofs.Places.{IsSoundMachine-slot, IsSoundMachine-units, lengths_of-set, room_of, slot_read, slot_written}
 use Rattle.uas_tasks.proofs.Tasks.execute_on.Goals as goal
 
@@ -11,7 +15,7 @@ begin-attention-requires-clause-room c =
     let here = tag_there c.args.tag slots c.requires.tag c.self.invariant.places in
     let within = rw (sym c.from.ensures) at here.1 in
     let number_there = rw (← c.self.view_is) at c.requires.there in
-    room_of units slots (c.from.result - 1) c.args.number c.index_mut-slot.result.now c.index.result.now c.self.invariant within
+    room_of units c.self.inside.stale.items slots (c.from.result - 1) c.args.number c.index_mut-slot.result.now c.index.result.now c.self.invariant within
     c.index_mut-slot.ensures.value number_there c.index.ensures
 
 pub invariant_of-self : goal.invariant_of-self
@@ -20,11 +24,18 @@ invariant_of-self c =
     let slots = c.self.inside.slots.items in
     let here = tag_there c.args.tag slots c.requires.tag c.self.invariant.places in
     let within = rw (sym c.from.ensures) at here.1 in
+    let read = c.index_mut-slot.result.now in
+    let free = rw (← c.self.view_is) at c.requires.free in
+    let number_there = rw (← c.self.view_is) at c.requires.there in
+    let still = free_read slots c.args.tag c.from.result read c.requires.tag c.self.invariant.places c.from.ensures c.index_mut-slot.ensures.value free in
+    let begun_so = ap (λ (after : Option UnitAttention × SlotState). after.1) c.begin-attention.ensures.begun in
     let sound =
-    IsSoundMachine-slot units slots (c.from.result - 1) c.index_mut-slot.result.now c.begin-attention.new.slot c.self.invariant within
+    IsSoundMachine-slot units c.self.inside.stale.items slots (c.from.result - 1) read c.begin-attention.new.slot c.self.invariant within
     c.index_mut-slot.ensures.value c.begin-attention.ensures.chunk c.begin-attention.ensures.len
+    (λ was. subst (Keeps (length units) read) (sym begun_so)
+    (begun-keeps (length units) c.index.result.now c.args.number c.self.inside.set c.len-count.result c.args.cdb.now read number_there still))
     in
-    IsSoundMachine-units units _ _ sound (lengths_of-set units c.args.number c.index.result.now _ c.index.ensures refl)
+    IsSoundMachine-units units _ _ _ sound (lengths_of-set units c.args.number c.index.result.now _ c.index.ensures refl)
     (length-set units c.args.number _)
 
 pub returns : goal.returns

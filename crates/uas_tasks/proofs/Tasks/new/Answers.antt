@@ -1,4 +1,4 @@
-use Rattle.std.proofs.Common.{◌≡◌, ◌*◌, ◌≤◌, length, refl, ap, arith}
+use Rattle.std.proofs.Common.{◌≡◌, ℕ, ◌*◌, ◌≤◌, length, replicate, refl, ap, arith, ◌∙◌}
 use Rattle.std.proofs.lemmas.List.{length-map}
 use Rattle.uas_profile.specs.declared.TheConstants.{GREATEST_TAG, MAX_CLIENTS}
 use Rattle.uas_tasks.specs.Machine.{greatest_block, quiet}
@@ -12,7 +12,8 @@ invariant_of-result c =
     let room = c.from.result * c.greatest_block.result in
     let room_is : room ≡ c.args.chunk * greatest_block units = rw (c.from.ensures, c.greatest_block.ensures.bytes, c.deref.ensures.value) refl in
     let most : length units ≤ MAX_CLIENTS = omega (arith, ap length c.in_ok-units.ensures, length-map c.args.shapes.now quiet, c.requires.units) in
-    rw c.in_ok-slots.ensures (opening_sound units c.args.chunk room most room_is)
+    let none = c.in_ok-stale.ensures.items_if_clones_equal (λ y is. is) ∙ ap (λ n. replicate {A = ℕ} n 0) (c.len.ensures ∙ c.in_ok-units.units.ok.0) in
+    rw (c.in_ok-slots.ensures, none) (opening_sound units c.args.chunk room most room_is)
 
 pub returns : goal.returns
 returns c =

@@ -1,20 +1,13 @@
-use Rattle.std.proofs.Common.{length, refl, ap, sym, ◌∙◌}
+use Rattle.std.proofs.Common.{map}
 use Rattle.std.proofs.lemmas.List.{length-map}
-use Rattle.uas_tasks.specs.Machine.{attentive, without_its_task}
-use Rattle.uas_tasks.proofs.Places.{IsSoundMachine-map, IsSoundMachine-units, lengths_of-attentive, written_over}
+use Rattle.uas_tasks.specs.Machine.{attentive}
+use Rattle.uas_tasks.proofs.Places.{IsSoundMachine-units, lengths_of-attentive, written_over}
 use Rattle.uas_tasks.proofs.Tasks.reset.Goals as goal
 
 pub invariant_of-self : goal.invariant_of-self
 invariant_of-self c =
     let units = c.self.inside.units.items in
-    let slots = c.self.inside.slots.items in
-    let slots_now = rw c.deref_mut.ensures.value at c.end_all.ensures in
-    let units_now = rw c.deref_mut-2.ensures.value at c.establish_attentions.ensures in
-    rw (
-      slots_now,
-      units_now,
-      written_over c.self.inside.units.len units _ c.self.inside.units.ok.0 (length-map units attentive),
-      written_over c.self.inside.slots.len slots _ c.self.inside.slots.ok.0 (length-map slots without_its_task),
-    )
-    (IsSoundMachine-units units _ _ (IsSoundMachine-map units slots without_its_task c.self.invariant (λ slot. refl) (λ slot. refl))
-    (lengths_of-attentive units) (length-map units attentive))
+    let units_now = rw c.deref_mut.ensures.value at c.establish_attentions.ensures in
+    rw (units_now, written_over c.self.inside.units.len units (map attentive units) c.self.inside.units.ok.0 (length-map units attentive))
+    (IsSoundMachine-units units (map attentive units) c.self.inside.stale.items c.self.inside.slots.items c.self.invariant (lengths_of-attentive units)
+    (length-map units attentive))

@@ -1,5 +1,6 @@
-use Rattle.std.proofs.Common.{rules, ◌≡◌, ◌∙◌, Err, ap}
-use Rattle.byte_io.specs.declared.streams.StreamFault.TheVariants.{File}
+use Rattle.std.proofs.Common.{rules, ◌≡◌, ◌∙◌, Err, ap, sym, subst}
+use Rattle.work_run.specs.SavedEnds.{SavedGivesUp}
+use Rattle.work_run.specs.declared.faults.WorkFault.{WorkFault}
 use Rattle.work_run.proofs.GivingUp.{gives_up_before, gives_up_unbegun}
 use Rattle.work_run.proofs.saved.work.Goals as goal
 
@@ -7,8 +8,11 @@ use Rattle.work_run.proofs.saved.work.Goals as goal
 pub returns-in-Err-clause-fault : goal.returns-in-Err-clause-fault
 returns-in-Err-clause-fault g c =
     let failed : c.begin_file.result ≡ Err c.in-Err.fault = search rules in
-    gives_up_unbegun c.args.load.clients c.args.load.rounds (g.F.Files.can_fail c.args.files.now c.args.file.now) (g.O.Sink.can_fail c.args.output.now)
-    (g.O.Sink.written c.args.output.now) c.in-Err.fault (λ is. c.begin_file.ensures.fault (failed ∙ ap Err is))
+    let old = g.O.Sink.written c.args.output.now in
+    let can_fail = g.O.Sink.can_fail c.args.output.now in
+    let can_file_fail = g.F.Files.can_fail c.args.files.now c.args.file.now in
+    subst (λ (fault : WorkFault). SavedGivesUp c.args.load.clients c.args.load.rounds can_file_fail can_fail old old fault) (sym c.file_fault.ensures)
+    (gives_up_unbegun c.args.load.clients c.args.load.rounds can_file_fail can_fail old c.in-Err.fault (λ is. c.begin_file.ensures.fault (failed ∙ ap Err is)))
 
 -- what stops the threads prints nothing
 pub returns-in-Err-ran-clause-fault : goal.returns-in-Err-ran-clause-fault

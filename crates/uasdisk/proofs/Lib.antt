@@ -1,2 +1,3 @@
 mod RefusedEnds
 mod MemoryEnds
+mod SavedWork

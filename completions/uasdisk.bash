@@ -17,7 +17,7 @@ _uasdisk() {
         trace) words='--bad --color -h --help' ;;
         work) words='--sync -h --help' files=1 ;;
         decode) words='--color -h --help' ;;
-        make) words='-h --help' files=1 ;;
+        make) words='--force -h --help' files=1 ;;
         info) words='-h --help' files=1 ;;
         dump) words='-h --help' files=1 ;;
         fill) words='-h --help' files=1 ;;

@@ -15,6 +15,7 @@ complete -c uasdisk -n __fish_use_subcommand -a decode -d 'Reads lines of bytes 
 complete -c uasdisk -n '__fish_seen_subcommand_from decode' -l color -x -a 'always auto never' -d 'Colours: always, auto (on a terminal alone, as without this option) or never'
 complete -c uasdisk -n '__fish_seen_subcommand_from decode' -s h -l help -d 'Print help'
 complete -c uasdisk -n __fish_use_subcommand -a make -d 'Makes an image file of zeroed blocks'
+complete -c uasdisk -n '__fish_seen_subcommand_from make' -l force -d 'Write over a file that is there'
 complete -c uasdisk -n '__fish_seen_subcommand_from make' -s h -l help -d 'Print help'
 complete -c uasdisk -n '__fish_seen_subcommand_from make' -F
 complete -c uasdisk -n __fish_use_subcommand -a info -d 'Tells how many blocks an image file has, and the number of the last'
@@ -41,8 +42,8 @@ complete -c uasdisk -n '__fish_seen_subcommand_from capture' -F
 complete -c uasdisk -n __fish_use_subcommand -a help -d 'Print this message or the help of the given subcommand(s)'
 complete -c uasdisk -n '__fish_seen_subcommand_from help' -a 'replay trace work decode make info dump fill audit draw capture serve prove many completions'
 complete -c uasdisk -n __fish_use_subcommand -a serve -d 'Serves an image as a disk over standard input and output, to any client of NBD'
-complete -c uasdisk -n '__fish_seen_subcommand_from serve' -l bad -x -d 'A block that is bad: 0 to 65535'
-complete -c uasdisk -n '__fish_seen_subcommand_from serve' -l file -d 'Leaves the blocks in the file, which may be of any length'
+complete -c uasdisk -n '__fish_seen_subcommand_from serve' -l bad -x -d 'A block that is bad: 0 to 4294967295'
+complete -c uasdisk -n '__fish_seen_subcommand_from serve' -l file -d 'Changes nothing: blocks always stay in the file'
 complete -c uasdisk -n '__fish_seen_subcommand_from serve' -s h -l help -d 'Print help'
 complete -c uasdisk -n '__fish_seen_subcommand_from serve' -F
 complete -c uasdisk -n __fish_use_subcommand -a prove -d 'Builds the proved program, which later calls take'

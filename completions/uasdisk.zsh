@@ -32,7 +32,7 @@ _uasdisk() {
     trace) _arguments '--bad[A block that is bad in every unit: 0 to 65535]:LBA:' '--color[Colours: always, auto (on a terminal alone, as without this option) or never]:WHEN:(always auto never)' '(-h --help)'{-h,--help}'[Print help]' ':CLIENTS:' ':BLOCKS:' ;;
     work) _arguments '--sync[Keep LOG while it grows, synced after each N steps, or at the end alone where N is 0: 0 to 4294967295]:N:' '(-h --help)'{-h,--help}'[Print help]' ':CLIENTS:' ':ROUNDS:' ':LOG:_files' ;;
     decode) _arguments '--color[Colours: always, auto (on a terminal alone, as without this option) or never]:WHEN:(always auto never)' '(-h --help)'{-h,--help}'[Print help]' ;;
-    make) _arguments '(-h --help)'{-h,--help}'[Print help]' ':FILE:_files' ':BLOCKS:' ;;
+    make) _arguments '--force[Write over a file that is there]' '(-h --help)'{-h,--help}'[Print help]' ':FILE:_files' ':BLOCKS:' ;;
     info) _arguments '(-h --help)'{-h,--help}'[Print help]' ':FILE:_files' ;;
     dump) _arguments '(-h --help)'{-h,--help}'[Print help]' ':FILE:_files' ':LBA:' ':COUNT:' ;;
     fill) _arguments '(-h --help)'{-h,--help}'[Print help]' ':FILE:_files' ':LBA:' ':COUNT:' ':BYTE:' ;;
@@ -40,7 +40,7 @@ _uasdisk() {
     draw) _arguments '--bad[A block that is bad in every unit: 0 to 65535]:LBA:' '--page[Write a page (HTML) that shows the run step by step, in place of the picture]' '(-h --help)'{-h,--help}'[Print help]' ':CLIENTS:' ':BLOCKS:' ;;
     capture) _arguments '--bad[A block that is bad in every unit: 0 to 65535]:LBA:' '(-h --help)'{-h,--help}'[Print help]' ':CLIENTS:' ':BLOCKS:' ':FILE:_files' ;;
     help) _arguments ':COMMAND:(replay trace work decode make info dump fill audit draw capture serve prove many completions)' ;;
-    serve) _arguments '--bad[A block that is bad: 0 to 65535]:LBA:' '--file[Leaves the blocks in the file, which may be of any length]' '(-h --help)'{-h,--help}'[Print help]' ':FILE:_files' ;;
+    serve) _arguments '--bad[A block that is bad: 0 to 4294967295]:LBA:' '--file[Changes nothing: blocks always stay in the file]' '(-h --help)'{-h,--help}'[Print help]' ':FILE:_files' ;;
     prove) _arguments '(-h --help)'{-h,--help}'[Print help]' ':PROGRAM:(decode serve)' ;;
     many) _arguments '(-h --help)'{-h,--help}'[Print help]' ':FOLDER:_files' ':WORDS:(replay trace work decode make info dump fill audit draw capture)' ;;
     completions) _arguments '(-h --help)'{-h,--help}'[Print help]' ':SHELL:(bash zsh fish)' ;;

@@ -11,7 +11,8 @@ work is false or decode refused a line; 2 a word is refused; 3 a fault of a scri
 
 /// What a script has, and an example.
 pub(crate) const SCRIPT_HELP: &str = "\
-A script has a line for each command, task management or step; words stand between spaces, and # begins a remark:
+A script has a line for each command, task management or step; words stand between spaces. A line whose first byte is #
+is a remark, and no other # begins one:
   C tur | C inquiry LEN | C capacity        a command of client C, which is below CLIENTS
   C read LBA COUNT [fua]                    LBA to 4294967295, COUNT to 128
   C write LBA COUNT BYTE [fua]              the blocks are filled with BYTE

@@ -174,7 +174,7 @@ fn complaint(matches: &ArgMatches<'_>) -> &'static str {
         return "a word is missing";
     };
     match name {
-        "work" => "--sync N is told of a log: LOG is missing",
+        "work" => "--sync keeps the log in LOG, and LOG is missing",
         "audit" => "HEX isn't 1 to 8 hexadecimal digits",
         _ if !has_when(words) => "WHEN is one of always, auto and never",
         _ => "a word is missing",

@@ -18,11 +18,19 @@
 
 mod pipes;
 mod states;
+mod tags;
 
 pub use pipes::doorbell;
+pub use tags::{client_of, slot_of, tag_laws, tag_of, task_slot};
 
-/// Tags of a client: those for commands and one for task management.
-pub const TAGS: usize = 16;
+/// The fewest tags of a client: one for commands and one for task management.
+pub const LEAST_TAGS: usize = 2;
+
+/// The most tags of a client, and so the places of an array by slot: the slots from a machine's number of tags on stay empty.
+pub const MOST_TAGS: usize = 16;
+
+/// Tags of a client where nobody says another number: those for commands and one for task management.
+pub const TAGS: usize = MOST_TAGS;
 
 /// The slot (index less 1) of the tag for task management; those below it are for commands.
 pub const TASK_SLOT: usize = TAGS - 1;
@@ -148,6 +156,8 @@ pub const CONTEXT_STATE_ERROR: u8 = 19;
 pub const INVALID_STREAM_ID: u8 = 34;
 
 // Each number once more, so that none changes unseen: a change of the profile is a change of its line above and of its line here.
+const _: () = prove!(LEAST_TAGS == 2 && MOST_TAGS == 16);
+
 const _: () = prove!(TAGS == 16 && TASK_SLOT == 15 && MAX_CLIENTS == 15 && GREATEST_TAG == 240);
 
 const _: () = prove!(STREAMS == 248 && STREAM_ENTRIES == 256 && STREAM_RING_PLACES == 20);

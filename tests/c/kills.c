@@ -1,7 +1,8 @@
 /* The disk in a file of examples/file_disk.c, killed: what was synced is on the medium, whatever else was on its way.
  *
- *   kills FOLDER COUNT SEED    COUNT times: tags write, with FUA or with SYNCHRONIZE CACHE behind it; the disk is killed by SIGKILL as soon as some
- *                              were told that theirs is synced; each of their blocks has that write or a later one
+ *   kills FOLDER COUNT SEED full|ample    COUNT times: tags write, with FUA or with SYNCHRONIZE CACHE behind it; the disk is killed by SIGKILL as soon
+ *                              as some were told that theirs is synced; each of their blocks has that write or a later one. `full`: the medium
+ *                              is full now and then, and loses what it has no room for; fdatasync tells that once, as Linux does
  *   kills FOLDER memory        a disk of 1 TiB in a sparse file, blocks far apart written and read: the program stays below 64 MiB
  *
  * The file is the disk's cache, and a file beside it the medium, to which fdatasync brings what was written since: the program is linked with
@@ -18,6 +19,7 @@ int example_main(int words, char **word);
 #include "../../examples/file_disk.c"
 #undef main
 
+#include <errno.h>
 #include <inttypes.h>
 #include <signal.h>
 #include <sys/wait.h>
@@ -32,7 +34,9 @@ struct told {
 
 static uint64_t seed;
 static int medium = -1, teller;
-static bool dirty[PARTS];
+static bool dirty[PARTS], fills_up, has_failed;
+static uint32_t brought, full_at; /* parts that were brought to the medium; where of 400 it has no room */
+static unsigned long full_times;
 static pthread_mutex_t syncing = PTHREAD_MUTEX_INITIALIZER;
 static uint32_t version[DISK_TAGS + 1];
 
@@ -65,16 +69,23 @@ ssize_t __wrap_pwrite(int number, const void *bytes, size_t length, off_t place)
 int __wrap_fdatasync(int number)
 {
     uint8_t bytes[PART];
+    bool is_full = false;
     pthread_mutex_lock(&syncing);
     for (off_t part = 0; medium >= 0 && part < PARTS; part++) {
         if (!dirty[part])
             continue;
+        if (fills_up && ++brought % 400 == full_at) {
+            dirty[part] = false;
+            is_full = true;
+            continue;
+        }
         if (pread(number, bytes, PART, part * PART) != PART || __real_pwrite(medium, bytes, PART, part * PART) != PART)
             fail("no medium", (uint64_t)part);
         dirty[part] = false;
     }
     pthread_mutex_unlock(&syncing);
-    return 0;
+    errno = ENOSPC;
+    return is_full ? -1 : 0;
 }
 
 static int opened(const char *path)
@@ -141,7 +152,8 @@ static bool advance(uint16_t tag)
         } else if (phase == UAS_ENDS) {
             must(uas_tasks_status(tasks, tag, status, sizeof status, &length));
             must(uas_tasks_sent(tasks, tag));
-            if (status[6] != UAS_GOOD)
+            has_failed = status[6] != UAS_GOOD;
+            if (has_failed && !fills_up)
                 fail("a command failed", tag);
             return true;
         } else
@@ -164,10 +176,12 @@ static void fill(uint16_t tag, uint32_t number)
         memcpy(data[tag] + at, &number, 4);
 }
 
-/* The process that is killed: each tag writes its zone and has it synced, again and again, and tells it. */
+/* The process that is killed: each tag writes its zone and has it synced, again and again, and tells it. Where commands fail it goes on for a
+ * while, and then waits for its end. */
 static void live(void)
 {
     bool synced[DISK_TAGS + 1];
+    int failures = 0;
     start(DISK_BLOCKS);
     for (uint16_t tag = 1; tag <= DISK_TAGS; tag++) {
         synced[tag] = true;
@@ -180,9 +194,13 @@ static void live(void)
     for (;;) {
         uint16_t tag = answer_one();
         while (advance(tag)) {
+            if (has_failed && ++failures == 40) {
+                close(teller);
+                pause();
+            }
             if (synced[tag]) {
                 struct told told = { tag, version[tag] };
-                if (write(teller, &told, sizeof told) != sizeof told)
+                if (!has_failed && write(teller, &told, sizeof told) != sizeof told)
                     _exit(1);
                 fill(tag, ++version[tag]);
                 synced[tag] = below(2);
@@ -230,6 +248,7 @@ static uint64_t kill_once(const char *folder, uint32_t *least)
         if (pread(medium, bytes, PART, part * PART) != PART || __real_pwrite(image.file, bytes, PART, part * PART) != PART)
             fail("no cache", (uint64_t)part);
     uint32_t most = 1 + below(60);
+    full_at = below(400);
     pid_t process = fork();
     if (process == 0) {
         teller = ends[1];
@@ -244,8 +263,9 @@ static uint64_t kill_once(const char *folder, uint32_t *least)
         least[told.tag] = told.version;
     }
     kill(process, SIGKILL);
-    if (count < most)
+    if (count < most && !fills_up)
         fail("the disk ended by itself", count);
+    full_times += count < most;
     while (read(ends[0], &told, sizeof told) == sizeof told) {
         count++;
         least[told.tag] = told.version;
@@ -268,7 +288,10 @@ static void kill_often(const char *folder, unsigned long times)
         fail("no medium", 0);
     for (unsigned long i = 0; i < times; i++)
         count += kill_once(folder, least);
-    printf("%lu kills: %" PRIu64 " writes of %d blocks were synced, and none was lost\n", times, count, ZONE);
+    if (fills_up && full_times == 0)
+        fail("the medium was never full", times);
+    printf("%lu kills: %" PRIu64 " writes of %d blocks were synced, and none was lost; the medium was full in %lu\n", times, count, ZONE,
+           full_times);
 }
 
 /* ---- Memory ---- */
@@ -323,12 +346,14 @@ static void measure(const char *folder)
 int main(int words, char **word)
 {
     if (words < 3) {
-        fprintf(stderr, "usage: kills FOLDER COUNT|memory [SEED]\n");
+        fprintf(stderr, "usage: kills FOLDER memory | kills FOLDER COUNT SEED full|ample\n");
         return 2;
     }
     seed = (words > 3 ? strtoul(word[3], NULL, 10) : 1) * 0x9e3779b97f4a7c15u + 1;
     if (strcmp(word[2], "memory") == 0)
         measure(word[1]);
-    else
+    else {
+        fills_up = words > 4 && strcmp(word[4], "full") == 0;
         kill_often(word[1], strtoul(word[2], NULL, 10));
+    }
 }

@@ -1,5 +1,5 @@
 -- Worked rows of the host set: what the definitions give, byte by byte.
-use Rattle.std.proofs.Common.{◌≡◌, ℕ, true, false, List, [], ◌∷◌, ◌++◌, Some, None, Result, Ok, Err, refl}
+use Rattle.std.proofs.Common.{◌≡◌, ℕ, false, List, [], ◌∷◌, ◌++◌, Some, None, Result, Ok, Err, refl}
 use Rattle.scsi_cmd.specs.declared.Sense.{Sense}
 use Rattle.scsi_cmd.specs.Fields.{zeros}
 use Rattle.scsi_cmd.specs.Sense.{invalid_field_in_cdb}

@@ -9,3 +9,4 @@ pub mod Data
 pub mod Meaning
 pub mod Profile
 pub mod Laws
+pub mod Told

@@ -1,5 +1,6 @@
 //! Laws of the command sets.
 ghost use Rattle.host_commands.specs.Laws.{ProfileIsKept, ProfileIsKeptOfNone};
+ghost use Rattle.host_commands.specs.Told.{PagesAreListed, PagesTellThemselves, TakenAreTold, ToldAreTaken};
 
 /// Law: on a logical unit of at most 2^32 blocks of 512 bytes, and where no logical unit is, the profile's set asks for what
 /// `scsi_cmd` says, with the same first fault and the same bytes of data.
@@ -7,4 +8,13 @@ ghost use Rattle.host_commands.specs.Laws.{ProfileIsKept, ProfileIsKeptOfNone};
 pub fn profile_is_kept()
     ensures there { ProfileIsKept }
     ensures none { ProfileIsKeptOfNone }
+{}
+
+/// Law: what a host is told of the host set is so. Page 00h lists just the pages that are answered, and each page tells its code and its length;
+/// REPORT SUPPORTED OPERATION CODES tells just the commands that are taken, each with its operation code.
+pub fn lists_are_true()
+    ensures pages { PagesAreListed }
+    ensures lengths { PagesTellThemselves }
+    ensures taken { TakenAreTold }
+    ensures told { ToldAreTaken }
 {}

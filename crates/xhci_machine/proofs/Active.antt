@@ -1,5 +1,5 @@
 -- Each tag with a task is active, and stays so over rounds.
-use Rattle.std.proofs.Common.{◌≡◌, ℕ, zero, suc, ◌-◌, ◌<◌, ◌==◌, Bool, true, false, cond, Option, Some, None, sym, subst, arith, inl, inr}
+use Rattle.std.proofs.Common.{◌≡◌, ℕ, zero, suc, ◌-◌, ◌<◌, ◌==◌, List, ◌++◌, Bool, true, false, cond, Option, Some, None, sym, subst, arith, inl, inr}
 use Rattle.std.specs.Prelude.{◌⊎◌, not}
 use Rattle.std.proofs.lemmas.Bool.{false≢true}
 use Rattle.guest_pipes.specs.declared.acted.Acted.{Acted}
@@ -9,6 +9,7 @@ use Rattle.guest_rings.specs.Events.{has_room}
 use Rattle.guest_tasks.specs.declared.GuestTasks.{GuestTasks}
 use Rattle.guest_tasks.specs.Active.{TasksAreActive, rested}
 use Rattle.guest_tasks.specs.Tasks.{tasks_kind}
+use Rattle.guest_transfers.specs.Steps.{command_world}
 use Rattle.guest_transfers.specs.declared.control.StreamPipe.{StreamPipe}
 use Rattle.guest_transfers.specs.declared.control.StreamPipe.TheVariants.{Status, DataOut, DataIn}
 use Rattle.marks.specs.Marks.{is_marked}
@@ -22,29 +23,24 @@ use Rattle.xhci_machine.specs.Rounds.{Turning, command_pipe_stepped, control_ste
 use Rattle.xhci_machine.specs.Steps.{commands_stepped}
 use Rattle.xhci_machine.specs.Turns.{World, detected, full_posted, has_full, interrupted, noted, port_posted, port_turned, settled, tells_port, told_of_port}
 use Rattle.xhci_machine.specs.Worked.{IsOver, RoundsTurned, RoundsWorked, busy_turned, dropped_at, gone_dropped, is_busy, is_gone, tag_by, tag_turned, tags_turned, then_status, then_tag, turned_if}
-use Rattle.xhci_machine.proofs.Device.{Keeps, command_pipe_kept, data_kept, either, status_kept}
+use Rattle.xhci_machine.proofs.Device.{Moves, Receives, Sends, command_pipe_kept, data_kept, either, status_kept}
 use Rattle.xhci_machine.proofs.Nothing.{nothing_of}
 use Rattle.xhci_machine.proofs.RingStep.{commands_kept}
 
--- what each call on the device keeps
-pub record KeptByAll (P : GuestTasks → Type 0) : Type 0 where
-  pub calls : Keeps tasks_kind P
-  pub rests : (device : GuestTasks) (tag : ℕ) → P device → P (rested device tag)
-  pub ends : (device : GuestTasks) → P device → P (record device { tasks = tasks_ended device.tasks })
-
-module _ (P : GuestTasks → Type 0) (kept : KeptByAll P) where
-  abbrev Holds : World → Type 0
+-- What is no call keeps all that holds of the device.
+module _ (P : GuestTasks → Type 0) where
+  abbrev pub Holds : World → Type 0
   Holds w = P w.machine.device
 
-  interrupted_kept : (asks : Bool) (m : Machine) → P m.device → P (interrupted asks m).device
+  pub interrupted_kept : (asks : Bool) (m : Machine) → P m.device → P (interrupted asks m).device
   interrupted_kept true m p = p
   interrupted_kept false m p = p
 
-  settled_kept : (w : World) → Holds w → Holds (settled w).0
+  pub settled_kept : (w : World) → Holds w → Holds (settled w).0
   unfolding settled
   settled_kept w p = interrupted_kept w.events.asks w.machine p
 
-  noted_kept : (acted : Acted) (w : World) → Holds w → Holds (noted w acted).0
+  pub noted_kept : (acted : Acted) (w : World) → Holds w → Holds (noted w acted).0
   unfolding noted
   noted_kept Off w p = p
   noted_kept Idle w p = p
@@ -54,14 +50,14 @@ module _ (P : GuestTasks → Type 0) (kept : KeptByAll P) where
   noted_kept Waits w p = p
   noted_kept HasWorked w p = settled_kept w p
 
-  noted_in_kept : (left : ℕ) (step : World × Option Acted) → Holds step.0 → Holds (noted_in left step).0.0
+  pub noted_in_kept : (left : ℕ) (step : World × Option Acted) → Holds step.0 → Holds (noted_in left step).0.0
   noted_in_kept left (w, None) p = p
   noted_in_kept left (w, Some acted) p = noted_kept acted w p
 
-  turned_kept : (left : ℕ) (w : World) (step : World × Option Acted) → Holds w → Holds step.0 → Holds (turned left w step).0.0
+  pub turned_kept : (left : ℕ) (w : World) (step : World × Option Acted) → Holds w → Holds step.0 → Holds (turned left w step).0.0
   turned_kept left w step p q = either (λ (t : Turning). Holds t.0.0) (left == 0) ((w, 0), true) (noted_in left step) p (noted_in_kept left step q)
 
-  port_told_kept : (w : World) → Holds w → Holds (told_of_port w).0
+  pub port_told_kept : (w : World) → Holds w → Holds (told_of_port w).0
   unfolding told_of_port
   port_told_kept w p =
       let Q : World × Bool → Type 0 = λ x. Holds x.0 in
@@ -72,129 +68,154 @@ module _ (P : GuestTasks → Type 0) (kept : KeptByAll P) where
       (either Q (not (has_room w.events)) (noted w Full) third (noted_kept Full w p)
       (either Q (has_place w.memory w.events) posted (w, false) (noted_kept HasWorked (port_posted w) p) p))
 
-  port_kept : (left : ℕ) (w : World) → Holds w → Holds (port_in left w).0.0
+  pub port_kept : (left : ℕ) (w : World) → Holds w → Holds (port_in left w).0.0
   port_kept left w p =
       let tells : Turning = (((port_turned w).0, cond (tells_port w) (left - 1) left), (port_turned w).1) in
       either (λ (t : Turning). Holds t.0.0) (left == 0) ((w, 0), true) tells p (port_told_kept (detected w) p)
 
-  restarted_kept : (restarts : Bool) (w : World) → Holds w → Holds (restarted restarts w)
-  restarted_kept true w p = kept.ends w.machine.device p
-  restarted_kept false w p = p
-
-  served_kept : (w : World) (done : ControlWorld × Option Served) → Holds w → Holds (served w done).0
-  served_kept w (after, None) p = p
-  served_kept w (after, Some how) p = restarted_kept how.restarted (with_control w after) p
-
-  control_kept : (w : World) → Holds w → Holds (control_stepped w).0
-  unfolding control_stepped
-  control_kept w p = served_kept w (stepped (control_world w)) p
-
-  invalid_kept : (w : World) (name : StreamPipe) → Holds w → Holds (invalid_stepped w name).0
+  pub invalid_kept : (w : World) (name : StreamPipe) → Holds w → Holds (invalid_stepped w name).0
   unfolding invalid_stepped
   invalid_kept w name p = p
 
-  pipe_kept : (w : World) → Holds w → Holds (command_pipe_stepped w).0
+  pub dropped_kept : (w : World) (tag : ℕ) → Holds w → Holds (dropped_at w tag)
+  unfolding gone_dropped
+  dropped_kept w tag p = either (λ (m : Machine). P m.device) (is_gone w.machine tag) _ w.machine p p
+
+-- what each call on the device keeps
+pub record KeptByAll (P : GuestTasks → Type 0) : Type 0 where
+  pub gave : (device : GuestTasks) (tag : ℕ) → P device → P (tasks_kind.gave device tag)
+  pub took : (device : GuestTasks) (tag : ℕ) (bytes : List ℕ) → P device → P (tasks_kind.took device tag bytes)
+  pub sent : (device : GuestTasks) (tag : ℕ) → P device → P (tasks_kind.sent device tag)
+  pub received : (device : GuestTasks) (bytes : List ℕ) → P device → P (tasks_kind.received device bytes).0
+  pub rests : (device : GuestTasks) (tag : ℕ) → P device → P (rested device tag)
+  pub ends : (device : GuestTasks) → P device → P (record device { tasks = tasks_ended device.tasks })
+
+module _ (P : GuestTasks → Type 0) (kept : KeptByAll P) where
+  restarted_kept : (restarts : Bool) (w : World) → Holds P w → Holds P (restarted restarts w)
+  restarted_kept true w p = kept.ends w.machine.device p
+  restarted_kept false w p = p
+
+  served_kept : (w : World) (done : ControlWorld × Option Served) → Holds P w → Holds P (served w done).0
+  served_kept w (after, None) p = p
+  served_kept w (after, Some how) p = restarted_kept how.restarted (with_control w after) p
+
+  control_kept : (w : World) → Holds P w → Holds P (control_stepped w).0
+  unfolding control_stepped
+  control_kept w p = served_kept w (stepped (control_world w)) p
+
+  pipe_kept : (w : World) → Holds P w → Holds P (command_pipe_stepped w).0
   unfolding command_pipe_stepped
-  pipe_kept w p = command_pipe_kept tasks_kind P kept.calls (transfers_world w) p
+  pipe_kept w p =
+      let from = command_world tasks_kind (transfers_world w) in
+      let receives : Receives tasks_kind from P P = record {
+        stays = λ device p. p;
+        received = λ device p. kept.received device from.taken p;
+        drawn = λ device buffer bytes is p. kept.received device (from.taken ++ bytes) p;
+      } in
+      command_pipe_kept tasks_kind P P (transfers_world w) receives p
 
-  data_of_kept : (w : World) (tag : ℕ) → Holds w → Holds (data_of w tag).0
+  data_of_kept : (w : World) (tag : ℕ) → Holds P w → Holds P (data_of w tag).0
   unfolding data_of
-  data_of_kept w tag p = data_kept tasks_kind P kept.calls (transfers_world w) tag p
+  data_of_kept w tag p =
+      let moves : Moves tasks_kind tag P P = record {
+        stays = λ device p. p;
+        gave = λ device p. kept.gave device tag p;
+        took = λ device bytes p. kept.took device tag bytes p;
+      } in
+      data_kept tasks_kind tag P P moves (transfers_world w) p
 
-  status_of_kept : (w : World) (tag : ℕ) → Holds w → Holds (status_of w tag).0
+  status_of_kept : (w : World) (tag : ℕ) → Holds P w → Holds P (status_of w tag).0
   unfolding status_of
-  status_of_kept w tag p = status_kept tasks_kind P kept.calls (transfers_world w) tag p
+  status_of_kept w tag p =
+      let sends : Sends tasks_kind tag P P = record { stays = λ device p. p; sent = λ device p. kept.sent device tag p } in
+      status_kept tasks_kind tag P P sends (transfers_world w) p
 
-  port_then : (t : Turning) → Holds t.0.0 → Holds (then_port t).0.0
+  port_then : (t : Turning) → Holds P t.0.0 → Holds P (then_port t).0.0
   port_then (at, false) p = p
-  port_then (at, true) p = port_kept at.1 at.0 p
+  port_then (at, true) p = port_kept P at.1 at.0 p
 
-  commands_then : (t : Turning) → Holds t.0.0 → Holds (then_commands t).0.0
+  commands_then : (t : Turning) → Holds P t.0.0 → Holds P (then_commands t).0.0
   commands_then (at, false) p = p
-  commands_then (at, true) p = turned_kept at.1 at.0 (commands_stepped at.0) p (commands_kept P at.0 p)
+  commands_then (at, true) p = turned_kept P at.1 at.0 (commands_stepped at.0) p (commands_kept P at.0 p)
 
-  control_then : (t : Turning) → Holds t.0.0 → Holds (then_control t).0.0
+  control_then : (t : Turning) → Holds P t.0.0 → Holds P (then_control t).0.0
   control_then (at, false) p = p
-  control_then (at, true) p = turned_kept at.1 at.0 (control_stepped at.0) p (control_kept at.0 p)
+  control_then (at, true) p = turned_kept P at.1 at.0 (control_stepped at.0) p (control_kept at.0 p)
 
-  invalid_then : (name : StreamPipe) (t : Turning) → Holds t.0.0 → Holds (then_invalid name t).0.0
+  invalid_then : (name : StreamPipe) (t : Turning) → Holds P t.0.0 → Holds P (then_invalid name t).0.0
   invalid_then name (at, false) p = p
-  invalid_then name (at, true) p = turned_kept at.1 at.0 (invalid_stepped at.0 name) p (invalid_kept at.0 name p)
+  invalid_then name (at, true) p = turned_kept P at.1 at.0 (invalid_stepped at.0 name) p (invalid_kept P at.0 name p)
 
-  pipes_kept : (left : ℕ) (w : World) → Holds w → Holds (pipes_turned left w).0.0
+  pipes_kept : (left : ℕ) (w : World) → Holds P w → Holds P (pipes_turned left w).0.0
   unfolding pipes_turned
   pipes_kept left w p =
       let first : Turning = turned left w (command_pipe_stepped w) in
       invalid_then DataIn (then_invalid DataOut (then_invalid Status first))
-      (invalid_then DataOut (then_invalid Status first) (invalid_then Status first (turned_kept left w (command_pipe_stepped w) p (pipe_kept w p))))
+      (invalid_then DataOut (then_invalid Status first) (invalid_then Status first (turned_kept P left w (command_pipe_stepped w) p (pipe_kept w p))))
 
-  pipes_then : (t : Turning) → Holds t.0.0 → Holds (then_pipes t).0.0
+  pipes_then : (t : Turning) → Holds P t.0.0 → Holds P (then_pipes t).0.0
   pipes_then (at, false) p = p
   pipes_then (at, true) p = pipes_kept at.1 at.0 p
 
-  pub front_kept : (left : ℕ) (w : World) → Holds w → Holds (front_turned left w).0.0
+  pub front_kept : (left : ℕ) (w : World) → Holds P w → Holds P (front_turned left w).0.0
   unfolding front_turned
   front_kept left w p =
       let first : Turning = settled_in left w in
       pipes_then (then_control (then_commands (then_port first)))
-      (control_then (then_commands (then_port first)) (commands_then (then_port first) (port_then first (settled_kept w p))))
+      (control_then (then_commands (then_port first)) (commands_then (then_port first) (port_then first (settled_kept P w p))))
 
-  dropped_kept : (w : World) (tag : ℕ) → Holds w → Holds (dropped_at w tag)
-  unfolding gone_dropped
-  dropped_kept w tag p = either (λ (m : Machine). P m.device) (is_gone w.machine tag) _ w.machine p p
-
-  status_then : (tag : ℕ) (t : Turning) → Holds t.0.0 → Holds (then_status tag t).0.0
+  status_then : (tag : ℕ) (t : Turning) → Holds P t.0.0 → Holds P (then_status tag t).0.0
   status_then tag (at, false) p = p
-  status_then tag (at, true) p = turned_kept at.1 at.0 (status_of at.0 tag) p (status_of_kept at.0 tag p)
+  status_then tag (at, true) p = turned_kept P at.1 at.0 (status_of at.0 tag) p (status_of_kept at.0 tag p)
 
-  busy_kept : (left tag : ℕ) (w : World) → Holds w → Holds (busy_turned left tag w).0.0
+  busy_kept : (left tag : ℕ) (w : World) → Holds P w → Holds P (busy_turned left tag w).0.0
   unfolding busy_turned
-  busy_kept left tag w p = status_then tag (turned left w (data_of w tag)) (turned_kept left w (data_of w tag) p (data_of_kept w tag p))
+  busy_kept left tag w p = status_then tag (turned left w (data_of w tag)) (turned_kept P left w (data_of w tag) p (data_of_kept w tag p))
 
-  by_kept : (busy : Bool) (left tag : ℕ) (w : World) → Holds w → Holds (tag_by busy left tag w).0.0
+  by_kept : (busy : Bool) (left tag : ℕ) (w : World) → Holds P w → Holds P (tag_by busy left tag w).0.0
   by_kept true left tag w p = busy_kept left tag w p
   by_kept false left tag w p = kept.rests w.machine.device tag p
 
-  tag_kept : (left tag : ℕ) (w : World) → Holds w → Holds (tag_turned left tag w).0.0
+  tag_kept : (left tag : ℕ) (w : World) → Holds P w → Holds P (tag_turned left tag w).0.0
   unfolding tag_turned
   tag_kept left tag w p =
       let busy = is_busy (dropped_at w tag).machine tag in
-      either (λ (t : Turning). Holds t.0.0) (left == 0) ((w, 0), true) (tag_by busy left tag (dropped_at w tag)) p
-      (by_kept busy left tag (dropped_at w tag) (dropped_kept w tag p))
+      either (λ (t : Turning). Holds P t.0.0) (left == 0) ((w, 0), true) (tag_by busy left tag (dropped_at w tag)) p
+      (by_kept busy left tag (dropped_at w tag) (dropped_kept P w tag p))
 
-  turned_if_kept : (b : Bool) (tag : ℕ) (at : World × ℕ) → Holds at.0 → Holds (turned_if b tag at).0.0
+  turned_if_kept : (b : Bool) (tag : ℕ) (at : World × ℕ) → Holds P at.0 → Holds P (turned_if b tag at).0.0
   turned_if_kept true tag at p = tag_kept at.1 tag at.0 p
   turned_if_kept false tag at p = p
 
-  tag_then : (tag : ℕ) (t : Turning) → Holds t.0.0 → Holds (then_tag tag t).0.0
+  tag_then : (tag : ℕ) (t : Turning) → Holds P t.0.0 → Holds P (then_tag tag t).0.0
   tag_then tag (at, false) p = p
   tag_then tag (at, true) p = turned_if_kept (is_marked at.0.machine.device.active tag) tag at p
 
-  pub tags_kept : (tag : ℕ) (t : Turning) → Holds t.0.0 → Holds (tags_turned tag t).0.0
+  pub tags_kept : (tag : ℕ) (t : Turning) → Holds P t.0.0 → Holds P (tags_turned tag t).0.0
   unfolding tags_turned
   tags_kept zero t p = p
   tags_kept (suc tag) t p = tag_then tag (tags_turned tag t) (tags_kept tag t p)
 
-  pub come_kept : (tag : ℕ) (at : World × ℕ) → Holds at.0 → Holds (come_to tag at).0.0
+  pub come_kept : (tag : ℕ) (at : World × ℕ) → Holds P at.0 → Holds P (come_to tag at).0.0
   come_kept tag at p = tags_kept tag (front_turned at.1 at.0) (front_kept at.1 at.0 p)
 
   -- ROUNDS
-  pub rounds_kept : (n : ℕ) (at after : World × ℕ) → RoundsTurned n at after → Holds at.0 → Holds after.0
-  rounds_kept zero at after turned p = subst (λ (end : World × ℕ). Holds end.0) (sym turned) p
+  pub rounds_kept : (n : ℕ) (at after : World × ℕ) → RoundsTurned n at after → Holds P at.0 → Holds P after.0
+  rounds_kept zero at after turned p = subst (λ (end : World × ℕ). Holds P end.0) (sym turned) p
   rounds_kept (suc n) at after turned p =
-      subst (λ (t : Turning). Holds t.0.0) (sym turned.2)
+      subst (λ (t : Turning). Holds P t.0.0) (sym turned.2)
       (come_kept 241 turned.0 (rounds_kept n at turned.0 turned.1 p))
 
-  over_kept : (at : World × ℕ) (after : World) (more : Bool) → IsOver at after more → Holds at.0 → Holds after
-  over_kept at after true over p = subst Holds (sym over.1) p
+  over_kept : (at : World × ℕ) (after : World) (more : Bool) → IsOver at after more → Holds P at.0 → Holds P after
+  over_kept at after true over p = subst (Holds P) (sym over.1) p
   over_kept at after false over p = elim over.1 [
-    | inl last ↦ subst (λ (t : Turning). Holds t.0.0) (sym last.2) (come_kept 241 at p)
+    | inl last ↦ subst (λ (t : Turning). Holds P t.0.0) (sym last.2) (come_kept 241 at p)
     | inr last ↦
-        let end : P last.0.0.machine.device = subst (λ (t : Turning). Holds t.0.0) (sym last.1) (come_kept 241 at p) in
-        subst Holds (sym last.2) end
+        let end : P last.0.0.machine.device = subst (λ (t : Turning). Holds P t.0.0) (sym last.1) (come_kept 241 at p) in
+        subst (Holds P) (sym last.2) end
   ]
 
-  pub worked_kept : (budget : ℕ) (w after : World) (worked : Worked) → RoundsWorked budget w after worked → Holds w → Holds after
+  pub worked_kept : (budget : ℕ) (w after : World) (worked : Worked) → RoundsWorked budget w after worked → Holds P w → Holds P after
   worked_kept budget w after worked rounds p =
       over_kept rounds.at after worked.more rounds.over (rounds_kept rounds.rounds (w, budget) rounds.at rounds.turned p)
 

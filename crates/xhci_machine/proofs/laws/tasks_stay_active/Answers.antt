@@ -6,7 +6,10 @@ pub returns : goal.returns
 returns c =
     let law = c.tasks_stay_active.ensures in
     let kept : KeptByAll TasksAreActive = record {
-      calls = record { gave = law.gave; took = law.took; sent = law.sent; received = law.received };
+      gave = law.gave;
+      took = law.took;
+      sent = law.sent;
+      received = law.received;
       rests = law.rested;
       ends = law.ended;
     } in

@@ -1,0 +1,146 @@
+-- Each turn's calls on the device.
+use Rattle.std.proofs.Common.{◌≡◌, ℕ, zero, suc, ◌==◌, Bool, true, false, cond, List, [], ◌∷◌, ◌++◌, Option, Some, None, refl, ap, sym, ◌∙◌, inl, inr, arith}
+use Rattle.std.proofs.lemmas.Bool.{ne_eqb}
+use Rattle.guest_pipes.specs.declared.acted.Acted.{Acted}
+use Rattle.guest_tasks.specs.declared.GuestTasks.{GuestTasks}
+use Rattle.guest_tasks.specs.Tasks.{chunk_in, tasks_kind}
+use Rattle.guest_transfers.specs.Steps.{command_world}
+use Rattle.guest_transfers.specs.declared.control.StreamPipe.{StreamPipe}
+use Rattle.guest_transfers.specs.declared.control.StreamPipe.TheVariants.{Status, DataOut, DataIn}
+use Rattle.uas_tasks.specs.Machine.{Machine, gave, received, took, wanted, without_task}
+use Rattle.units_apart.specs.Calls.{Call, Receive, Give, Take, Send, EndTasks, called}
+use Rattle.units_apart.specs.Runs.{after}
+use Rattle.xhci_control.specs.declared.pipe.Served.{Served}
+use Rattle.xhci_control.specs.Steps.{ControlWorld, stepped}
+use Rattle.xhci_machine.specs.Rounds.{Turning, command_pipe_stepped, control_stepped, control_world, data_of, invalid_stepped, noted_in, pipes_turned, restarted, served, status_of, then_commands, then_control, then_invalid, then_pipes, then_port, transfers_world, turned, with_control}
+use Rattle.xhci_machine.specs.Steps.{commands_stepped}
+use Rattle.xhci_machine.specs.Turns.{World}
+use Rattle.xhci_machine.specs.Worked.{then_status}
+use Rattle.xhci_machine.proofs.Active.{invalid_kept, noted_in_kept, port_kept, turned_kept}
+use Rattle.xhci_machine.proofs.Device.{Moves, Receives, Sends, command_pipe_kept, data_kept, status_kept}
+use Rattle.xhci_machine.proofs.RingStep.{commands_kept}
+use Rattle.guest_units.specs.Turns.{IsAnswerOn, IsDataOn, IsEnd, IsUnitIn, Makes, TurnMakes, tasks_of}
+
+-- the device has these tasks
+abbrev pub Has : Machine → GuestTasks → Type 0
+Has tasks device = device.tasks ≡ tasks
+
+-- it has what at most one call makes of them
+abbrev pub Made : (Call → Type 0) → Machine → GuestTasks → Type 0
+Made May start device = (calls : List Call) × Makes May start device.tasks calls
+
+unmade : (May : Call → Type 0) (start : Machine) (device : GuestTasks) → Has start device → Made May start device
+unmade May start device same = ([], record { one = tt {0}; is = same })
+
+-- LISTS
+pub after_append : (start : Machine) (first rest : List Call) → after called start (first ++ rest) ≡ after called (after called start first) rest
+after_append start [] rest = refl
+after_append start (call ∷ first) rest = after_append (called start call) first rest
+
+pub joined : (start middle end : Machine) (first rest : List Call) → middle ≡ after called start first → end ≡ after called middle rest
+    → end ≡ after called start (first ++ rest)
+joined start middle end first rest one two = two ∙ ap (λ m. after called m rest) one ∙ sym (after_append start first rest)
+
+-- STEPS
+pub data_made : (w : World) (tag : ℕ) → (calls : List Call) × Makes (IsDataOn tag) (tasks_of w) (tasks_of (data_of w tag).0) calls
+unfolding data_of
+data_made w tag =
+    let start : Machine = tasks_of w in
+    let moves : Moves tasks_kind tag (Has start) (Made (IsDataOn tag) start) = record {
+      stays = λ device same. unmade (IsDataOn tag) start device same;
+      gave = λ device same.
+          (Give tag (chunk_in (wanted start tag)) ∷ [], record { one = refl; is = ap (λ m. gave m tag (chunk_in (wanted m tag))) same });
+      took = λ device bytes same. (Take tag bytes ∷ [], record { one = refl; is = ap (λ m. took m tag bytes) same });
+    } in
+    data_kept tasks_kind tag (Has start) (Made (IsDataOn tag) start) moves (transfers_world w) refl
+
+pub status_made : (w : World) (tag : ℕ) → (calls : List Call) × Makes (IsAnswerOn tag) (tasks_of w) (tasks_of (status_of w tag).0) calls
+unfolding status_of
+status_made w tag =
+    let start : Machine = tasks_of w in
+    let sends : Sends tasks_kind tag (Has start) (Made (IsAnswerOn tag) start) = record {
+      stays = λ device same. unmade (IsAnswerOn tag) start device same;
+      sent = λ device same. (Send tag ∷ [], record { one = refl; is = ap (λ m. without_task m tag) same });
+    } in
+    status_kept tasks_kind tag (Has start) (Made (IsAnswerOn tag) start) sends (transfers_world w) refl
+
+pub unit_made : (w : World) → (calls : List Call) × Makes (IsUnitIn w) (tasks_of w) (tasks_of (command_pipe_stepped w).0) calls
+unfolding command_pipe_stepped
+unit_made w =
+    let start : Machine = tasks_of w in
+    let from = command_world tasks_kind (transfers_world w) in
+    let receives : Receives tasks_kind from (Has start) (Made (IsUnitIn w) start) = record {
+      stays = λ device same. unmade (IsUnitIn w) start device same;
+      received = λ device same. (Receive from.taken ∷ [], record { one = inl refl; is = ap (λ m. (received m from.taken).0) same });
+      drawn = λ device buffer bytes is same. (
+        Receive (from.taken ++ bytes) ∷ [],
+        record {
+          one = inr (buffer, bytes, is, refl);
+          is = ap (λ m. (received m (from.taken ++ bytes)).0) same;
+        },
+      );
+    } in
+    command_pipe_kept tasks_kind (Has start) (Made (IsUnitIn w) start) (transfers_world w) receives refl
+
+restarted_made : (restarts : Bool) (w : World) → (calls : List Call) × Makes IsEnd (tasks_of w) (tasks_of (restarted restarts w)) calls
+restarted_made true w = (EndTasks ∷ [], record { one = tt {0}; is = refl })
+restarted_made false w = unmade IsEnd (tasks_of w) w.machine.device refl
+
+served_made : (w : World) (done : ControlWorld × Option Served) → (calls : List Call) × Makes IsEnd (tasks_of w) (tasks_of (served w done).0) calls
+served_made w (now, None) = unmade IsEnd (tasks_of w) w.machine.device refl
+served_made w (now, Some how) = restarted_made how.restarted (with_control w now)
+
+pub control_made : (w : World) → (calls : List Call) × Makes IsEnd (tasks_of w) (tasks_of (control_stepped w).0) calls
+unfolding control_stepped
+control_made w = served_made w (stepped (control_world w))
+
+-- TURNS
+abbrev pub then_step : (World → World × Option Acted) → Turning → Turning
+then_step step (at, false) = (at, false)
+then_step step (at, true) = turned at.1 at.0 (step at.0)
+
+pub turn_made : (May : World → Call → Type 0) (step : World → World × Option Acted)
+    → ((w : World) → (calls : List Call) × Makes (May w) (tasks_of w) (tasks_of (step w).0) calls) → (t : Turning)
+    → (calls : List Call) × TurnMakes May step t calls × (tasks_of (then_step step t).0.0 ≡ after called (tasks_of t.0.0) calls)
+turn_made May step makes (at, false) = ([], refl, refl)
+turn_made May step makes ((w, zero), true) = ([], refl, refl)
+turn_made May step makes ((w, suc left), true) =
+    let made = makes w in
+    let some : (suc left == 0) ≡ false = ne_eqb (suc left) 0 (λ is. omega (arith, is)) in
+    let stepped : tasks_of (turned (suc left) w (step w)).0.0 ≡ tasks_of (noted_in (suc left) (step w)).0.0 =
+    ap (λ b. tasks_of (cond b (let none : Turning = ((w, 0), true) in none) (noted_in (suc left) (step w))).0.0) some in
+    (made.0, made.1, stepped ∙ noted_in_kept (Has (tasks_of (step w).0)) (suc left) (step w) refl ∙ made.1.is)
+
+-- those that make no call
+pub port_same : (t : Turning) → tasks_of (then_port t).0.0 ≡ tasks_of t.0.0
+port_same (at, false) = refl
+port_same (at, true) = port_kept (Has (tasks_of at.0)) at.1 at.0 refl
+
+pub commands_same : (t : Turning) → tasks_of (then_commands t).0.0 ≡ tasks_of t.0.0
+commands_same (at, false) = refl
+commands_same (at, true) =
+    turned_kept (Has (tasks_of at.0)) at.1 at.0 (commands_stepped at.0) refl (commands_kept (Has (tasks_of at.0)) at.0 refl)
+
+invalid_same : (name : StreamPipe) (t : Turning) → tasks_of (then_invalid name t).0.0 ≡ tasks_of t.0.0
+invalid_same name (at, false) = refl
+invalid_same name (at, true) =
+    turned_kept (Has (tasks_of at.0)) at.1 at.0 (invalid_stepped at.0 name) refl (invalid_kept (Has (tasks_of at.0)) at.0 name refl)
+
+pub control_then : (t : Turning) → tasks_of (then_control t).0.0 ≡ tasks_of (then_step control_stepped t).0.0
+control_then (at, false) = refl
+control_then (at, true) = refl
+
+pub status_then : (tag : ℕ) (t : Turning) → tasks_of (then_status tag t).0.0 ≡ tasks_of (then_step (λ w. status_of w tag) t).0.0
+status_then tag (at, false) = refl
+status_then tag (at, true) = refl
+
+pipes_same : (left : ℕ) (w : World) → tasks_of (pipes_turned left w).0.0 ≡ tasks_of (turned left w (command_pipe_stepped w)).0.0
+unfolding pipes_turned
+pipes_same left w =
+    let first : Turning = turned left w (command_pipe_stepped w) in
+    invalid_same DataIn (then_invalid DataOut (then_invalid Status first))
+    ∙ invalid_same DataOut (then_invalid Status first) ∙ invalid_same Status first
+
+pub pipes_then : (t : Turning) → tasks_of (then_pipes t).0.0 ≡ tasks_of (then_step command_pipe_stepped t).0.0
+pipes_then (at, false) = refl
+pipes_then (at, true) = pipes_same at.1 at.0

@@ -1,0 +1,120 @@
+-- What a host is told. Cited by the law `lists_are_true`.
+use Rattle.std.proofs.Common.{◌≡◌, ℕ, ◌/◌, ◌^◌, ◌==◌, Bool, true, false, cond, ◌||◌, Option, Some, None, IfSome, is_some, refl}
+use Rattle.std.proofs.lemmas.Bool.{eqb-true}
+use Rattle.host_commands.specs.declared.HostCommand.{HostCommand}
+use Rattle.host_commands.specs.declared.HostCommand.TheVariants.{TestUnitReady, RequestSense, Read6, Write6, Inquiry, ModeSense6, StartStopUnit, ReadCapacity10}
+use Rattle.host_commands.specs.declared.HostCommand.TheVariants.{Read10, Write10, Verify10, SynchronizeCache10, ModeSense10, Read16, Write16, Verify16}
+use Rattle.host_commands.specs.declared.HostCommand.TheVariants.{SynchronizeCache16, ReadCapacity16, ReportLuns, ReportSupportedOperationCodes}
+use Rattle.host_commands.specs.declared.HostCommand.TheVariants.{ReportSupportedTaskManagementFunctions, Read12, Write12, Verify12}
+use Rattle.host_commands.specs.declared.VitalPage.{VitalPage}
+use Rattle.host_commands.specs.declared.VitalPage.TheVariants.{SupportedPages, UnitSerialNumber, DeviceIdentification, BlockLimits}
+use Rattle.host_commands.specs.declared.VitalPage.TheVariants.{BlockDeviceCharacteristics, LogicalBlockProvisioning}
+use Rattle.host_commands.specs.Commands.{of_maintenance, of_six, of_sixteen, of_ten, of_twelve}
+use Rattle.host_commands.specs.Pages.{page_bytes}
+use Rattle.host_commands.specs.Told.{IsTold, PagesAreListed, PagesTellThemselves, TakenAreTold, TellsItself, ToldAreTaken}
+
+-- PAGES
+
+-- one page more, whose code this is or isn't
+listed : (is_code : Bool) (page : VitalPage) (rest : Option VitalPage) (others : Bool) → is_some rest ≡ others
+    → is_some (cond is_code (Some page) rest) ≡ (is_code || others)
+listed true page rest others same = refl
+listed false page rest others same = same
+
+pub pages_listed : PagesAreListed
+unfolding page_bytes
+pages_listed code serial maximum present =
+    listed (code == 0x00) SupportedPages _ _ (listed (code == 0x80) (UnitSerialNumber serial) _ _ (listed (code == 0x83) (DeviceIdentification serial) _ _
+    (listed (code == 0xb0) (BlockLimits maximum) _ _ (listed (code == 0xb1) BlockDeviceCharacteristics _ _ (listed (code == 0xb2) LogicalBlockProvisioning _ _ refl)))))
+
+tells : (code one : ℕ) (present : Bool) (page : VitalPage) (rest : Option VitalPage) → TellsItself one present page → IfSome rest (TellsItself code present)
+    → IfSome (cond (code == one) (Some page) rest) (TellsItself code present)
+tells code one present page rest so others =
+    elim (code == one) as (λ b. code == one ≡ b → IfSome (cond b (Some page) rest) (TellsItself code present)) [
+      | true ↦ λ is. rw (eqb-true code one is) so
+      | false ↦ λ is. others
+    ] refl
+
+pub pages_tell : PagesTellThemselves
+unfolding page_bytes
+pages_tell code serial maximum present =
+    tells code 0x00 present SupportedPages _ (refl, refl) (tells code 0x80 present (UnitSerialNumber serial) _ (refl, refl)
+    (tells code 0x83 present (DeviceIdentification serial) _ (refl, refl) (tells code 0xb0 present (BlockLimits maximum) _ (refl, refl)
+    (tells code 0xb1 present BlockDeviceCharacteristics _ (refl, refl) (tells code 0xb2 present LogicalBlockProvisioning _ (refl, refl) (tt {0}))))))
+
+-- COMMANDS
+named : (code one : ℕ) (command : HostCommand) (rest : Option HostCommand) → IsTold one command → IfSome rest (IsTold code)
+    → IfSome (cond (code == one) (Some command) rest) (IsTold code)
+named code one command rest so others =
+    elim (code == one) as (λ b. code == one ≡ b → IfSome (cond b (Some command) rest) (IsTold code)) [
+      | true ↦ λ is. rw (eqb-true code one is) so
+      | false ↦ λ is. others
+    ] refl
+
+six : (code : ℕ) → IfSome (of_six code) (IsTold code)
+six code =
+    named code 0x00 TestUnitReady _ (refl, refl) (named code 0x03 RequestSense _ (refl, refl) (named code 0x08 Read6 _ (refl, refl)
+    (named code 0x0a Write6 _ (refl, refl) (named code 0x12 Inquiry _ (refl, refl) (named code 0x1a ModeSense6 _ (refl, refl)
+    (named code 0x1b StartStopUnit _ (refl, refl) (tt {0})))))))
+
+ten : (code : ℕ) → IfSome (of_ten code) (IsTold code)
+ten code =
+    named code 0x25 ReadCapacity10 _ (refl, refl) (named code 0x28 Read10 _ (refl, refl) (named code 0x2a Write10 _ (refl, refl)
+    (named code 0x2f Verify10 _ (refl, refl) (named code 0x35 SynchronizeCache10 _ (refl, refl) (named code 0x5a ModeSense10 _ (refl, refl) (tt {0}))))))
+
+sixteen : (code : ℕ) → IfSome (of_sixteen code) (IsTold code)
+sixteen code =
+    named code 0x88 Read16 _ (refl, refl) (named code 0x8a Write16 _ (refl, refl) (named code 0x8f Verify16 _ (refl, refl)
+    (named code 0x91 SynchronizeCache16 _ (refl, refl) (named code 0x9e ReadCapacity16 _ (refl, refl) (tt {0})))))
+
+-- the two of A3h, by their service action
+maintenance : (action : ℕ) → IfSome (of_maintenance action) (IsTold 0xa3)
+maintenance action =
+    chosen (action == 0x0c) ReportSupportedOperationCodes _ (refl, refl) (chosen (action == 0x0d) ReportSupportedTaskManagementFunctions _ (refl, refl) (tt {0}))
+  where
+    chosen : (b : Bool) (command : HostCommand) (rest : Option HostCommand) → IsTold 0xa3 command → IfSome rest (IsTold 0xa3)
+        → IfSome (cond b (Some command) rest) (IsTold 0xa3)
+    chosen true command rest so others = so
+    chosen false command rest so others = others
+
+either_one : (code : ℕ) (b : Bool) (one other : Option HostCommand) → (b ≡ true → IfSome one (IsTold code)) → IfSome other (IsTold code)
+    → IfSome (cond b one other) (IsTold code)
+either_one code true one other so others = so refl
+either_one code false one other so others = others
+
+twelve : (code action : ℕ) → IfSome (of_twelve code action) (IsTold code)
+twelve code action =
+    named code 0xa0 ReportLuns _ (refl, refl) (either_one code (code == 0xa3) (of_maintenance action) _ (λ is. rw (eqb-true code 0xa3 is) (maintenance action))
+    (named code 0xa8 Read12 _ (refl, refl) (named code 0xaa Write12 _ (refl, refl) (named code 0xaf Verify12 _ (refl, refl) (tt {0})))))
+
+pub taken_told : TakenAreTold
+taken_told code action =
+    let group : ℕ = code / 2 ^ 5 in
+    either_one code (group == 0) (of_six code) _ (λ is. six code) (either_one code ((group == 1) || (group == 2)) (of_ten code) _ (λ is. ten code)
+    (either_one code (group == 4) (of_sixteen code) _ (λ is. sixteen code) (either_one code (group == 5) (of_twelve code action) None (λ is. twelve code action) (tt {0}))))
+
+pub told_taken : ToldAreTaken
+told_taken TestUnitReady = refl
+told_taken RequestSense = refl
+told_taken Read6 = refl
+told_taken Write6 = refl
+told_taken Inquiry = refl
+told_taken ModeSense6 = refl
+told_taken StartStopUnit = refl
+told_taken ReadCapacity10 = refl
+told_taken Read10 = refl
+told_taken Write10 = refl
+told_taken Verify10 = refl
+told_taken SynchronizeCache10 = refl
+told_taken ModeSense10 = refl
+told_taken Read16 = refl
+told_taken Write16 = refl
+told_taken Verify16 = refl
+told_taken SynchronizeCache16 = refl
+told_taken ReadCapacity16 = refl
+told_taken ReportLuns = refl
+told_taken ReportSupportedOperationCodes = refl
+told_taken ReportSupportedTaskManagementFunctions = refl
+told_taken Read12 = refl
+told_taken Write12 = refl
+told_taken Verify12 = refl

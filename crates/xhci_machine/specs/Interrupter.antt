@@ -49,10 +49,12 @@ segment_of base places =
 abbrev pub entry_ring : List ℕ → Option (Option EventEnd)
 entry_ring bytes = segment_of (little_number 8 bytes - little_number 8 bytes % 64) (little_number 2 (drop 8 bytes))
 
--- the event ring of the table's one entry; none where the table has no entry
+-- the event ring of the table's one entry; none where the table has no entry. One of more is longer than ERST Max allows (5.3.4, 5.5.2.3.1).
 unfoldable pub loaded : Memory → Interrupter → Option (Option EventEnd)
 loaded memory interrupter =
-    if interrupter.table_size == 0 then Some None else (bytes_from memory interrupter.table 16 >>= entry_ring)
+    if interrupter.table_size == 0 then Some None
+    else if nat_lt 1 interrupter.table_size then None
+    else (bytes_from memory interrupter.table 16 >>= entry_ring)
 
 -- ERDP
 
@@ -110,7 +112,7 @@ taken memory interrupts registers = with_pointer registers (ring_taken memory re
 -- the table's entry, where it is to be read and isn't there
 abbrev pub missing_entry : Memory → Interrupts → Interrupter → Option Range
 missing_entry memory interrupts interrupter =
-    if is_some interrupts.ring || interrupter.table_size == 0 then None else missing memory (record { at = interrupter.table; count = 16 }) None
+    if is_some interrupts.ring || not (interrupter.table_size == 1) then None else missing memory (record { at = interrupter.table; count = 16 }) None
 
 -- the ring that a step takes; nothing where there is none, or the step fails by it
 abbrev pub seen_taken : Option (Option EventEnd) → Seen

@@ -15,6 +15,7 @@ use Rattle.xhci_slots.specs.declared.Done.{Done}
 use Rattle.xhci_slots.specs.declared.SlotCommand.{SlotCommand}
 use Rattle.xhci_slots.specs.declared.SlotCommand.TheVariants.{Enable, Disable, Address, Configure, Evaluate, Reset}
 use Rattle.xhci_slots.specs.Slots.{World as SlotWorld, executed}
+use Rattle.xhci_registers.specs.Writes.{has_slots}
 use Rattle.xhci_machine.specs.declared.Machine.{Machine}
 use Rattle.xhci_machine.specs.declared.ring.Ended.{Ended}
 use Rattle.xhci_machine.specs.declared.states.States.{States}
@@ -127,9 +128,11 @@ commanded m slot command after = (
   (changed (record m { slot = after.0.slot }) after.1.changes, ended (code_number after.1.code) (slot_told slot command after.1.code)),
 )
 
--- memory, the whole controller, and how the command ended: of another slot than 1 all but Enable Slot end with Slot Not Enabled. None:
+-- Memory, the whole controller, and how the command ended: of another slot than 1 all but Enable Slot end with Slot Not Enabled, and Enable
+-- Slot with No Slots Available where CONFIG enables none. None:
 -- memory that the command needs isn't there
 unfoldable pub on_slot_done : Memory → Machine → ℕ → SlotCommand → Option (Memory × (Machine × Ended))
 on_slot_done memory m slot command =
     if not (slot == 1) && not (is_enable command) then Some (memory, (m, ended 11 slot))
+    else if is_enable command && not (has_slots m.registers) then Some (memory, (m, ended 9 0))
     else option_map (commanded m slot command) (executed (record { memory = memory; slot = m.slot }) m.registers.contexts command)

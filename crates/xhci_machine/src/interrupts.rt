@@ -27,13 +27,16 @@ pub(crate) struct Interrupts {
 }
 
 /// The event ring of the segment table's one entry, or None where the table has no entry. Refused where the entry isn't there or is no
-/// segment.
+/// segment, and where there are more.
 #[tactic(auto, unfolding(crate::specs::Interrupter::loaded))]
 fn load<M: GuestMemory>(memory: &M, interrupter: &Interrupter) -> Result<Option<EventRing>, Outside>
     ensures { result_ok result ≡ loaded (M.contents memory.now) interrupter.now }
 {
     if interrupter.table_size == 0 {
         return Ok(None);
+    }
+    if interrupter.table_size > 1 {
+        return Err(Outside);
     }
     let mut bytes = [0; 16];
     memory.read(interrupter.table, &mut bytes)?;
@@ -216,7 +219,7 @@ impl Interrupts {
     fn missing_entry<M: GuestMemory>(&self, memory: &M, interrupter: &Interrupter) -> Option<Range>
         ensures { result ≡ missing_entry (M.contents memory.now) self.now interrupter.now }
     {
-        if self.ring.is_some() || interrupter.table_size == 0 {
+        if self.ring.is_some() || interrupter.table_size != 1 {
             return None;
         }
         let entry = Range {

@@ -27,6 +27,8 @@ const TRB_ERROR: u8 = 5;
 
 pub(crate) const SLOT_NOT_ENABLED: u8 = 11;
 
+const NO_SLOTS_AVAILABLE: u8 = 9;
+
 const COMMAND_RING_STOPPED: u8 = 24;
 
 /// What is kept of the command ring beside CRCR: whether its doorbell is rung, whether its stop is still to be told, and the next stream
@@ -77,7 +79,7 @@ fn number_of(code: Code) -> u8
 {
     match code {
         Code::Success => SUCCESS,
-        Code::NoSlotsAvailable => 9,
+        Code::NoSlotsAvailable => NO_SLOTS_AVAILABLE,
         Code::SlotNotEnabled => SLOT_NOT_ENABLED,
         Code::ParameterError => 17,
         Code::ContextStateError => 19,
@@ -322,6 +324,9 @@ impl Machine {
     {
         if slot != SLOT && !matches!(command, SlotCommand::Enable) {
             return Ok(end_with(SLOT_NOT_ENABLED, slot));
+        }
+        if matches!(command, SlotCommand::Enable) && !self.registers.has_slots() {
+            return Ok(end_with(NO_SLOTS_AVAILABLE, 0));
         }
         let array = self.registers.contexts;
         let done = self.slot.execute(memory, array, command)?;

@@ -20,6 +20,12 @@ is_suspended U3 = true
 is_suspended Disabled = false
 is_suspended RxDetect = false
 
+abbrev pub is_disabled : Link → Bool
+is_disabled U0 = false
+is_disabled U3 = false
+is_disabled Disabled = true
+is_disabled RxDetect = false
+
 abbrev pub no_changes : Changes
 no_changes = record { connect = false; warm_reset = false; reset = false; link = false }
 
@@ -84,9 +90,12 @@ wake_word wake = bit wake.connect 0x2000000 + bit wake.disconnect 0x4000000 + bi
 abbrev pub acknowledged : Port → ℕ → Port
 acknowledged port value = record port { changes = cleared port.changes value; wake = wake_in value }
 
--- PED written 1 disables the port
+-- PED written 1 disables the port, which isn't connected then (4.19.1.2, our reading): CSC
 abbrev pub disabled_by : Port → ℕ → Port
-disabled_by port value = if is_set value 1 && port.enabled then record port { enabled = false; link = Disabled } else port
+disabled_by port value =
+    if is_set value 1 && port.enabled
+    then changed (record port { connected = false; enabled = false; link = Disabled }) (record no_changes { connect = true })
+    else port
 
 -- PR or, with WRC too, WPR resets the device that is there
 abbrev pub resets : Port → ℕ → Bool
@@ -101,7 +110,11 @@ reset_by port value =
     then changed (record port { link = link_after_reset port }) (record no_changes { reset = true; warm_reset = is_set value 31 })
     else port
 
--- PLS is written with LWS, bit 16: 3 suspends an enabled port; 0 resumes a suspended one, and PLC tells when that is done; 5 detects anew
+-- a disabled port looks for the device anew
+abbrev pub looked_for : Port → Port
+looked_for port = if port.attached then detected port else record port { link = RxDetect }
+
+-- PLS is written with LWS, bit 16: 3 suspends an enabled port; 0 resumes a suspended one, and PLC tells when that is done; 5 is for a disabled one
 abbrev pub linked_by : Port → ℕ → Port
 linked_by port value = if is_set value 16 then linked port (field value 5 16) else port
   where
@@ -109,7 +122,7 @@ linked_by port value = if is_set value 16 then linked port (field value 5 16) el
     linked port state =
         if state == 3 && port.enabled then record port { link = U3 }
         else (if state == 0 && is_suspended port.link then changed (record port { link = U0 }) (record no_changes { link = true })
-        else (if state == 5 && port.attached then detected port
+        else (if state == 5 && is_disabled port.link then looked_for port
         else port))
 
 -- the port once PORTSC was written

@@ -19,7 +19,7 @@ reset_registers attached = record {
   port_change = false;
   restore_error = false;
   notifications = 0;
-  command_ring = record { pointer = 0; cycle = false; runs = false };
+  command_ring = record { pointer = 0; cycle = false; runs = false; low_refused = false };
   contexts = 0;
   config = 0;
   empty_port_wake = no_wake;
@@ -28,16 +28,21 @@ reset_registers attached = record {
   interrupter = record { pending = false; enabled = false; moderation = 0; table_size = 0; table = 0; dequeue = 0; segment = 0; busy = false };
 }
 
+-- CONFIG's MaxSlotsEn, bits 7:0: slot 1 is enabled where it isn't 0 (5.4.7)
+abbrev pub has_slots : Registers → Bool
+has_slots registers = not (field registers.config 0 0x100 == 0)
+
 -- a write that asks for nothing else
 abbrev pub only : Registers → Registers × Effect
 only registers = (registers, Nothing)
 
--- USBCMD: HCRST resets all at once; R/S that is cleared stops the command ring too (5.4.5); CRS isn't supported and sets SRE (own)
+-- USBCMD: HCRST resets all at once; R/S stays 0 while HSE is 1 (5.4.2), and where it is cleared the command ring stops too (5.4.5); CRS isn't
+-- supported and sets SRE (own)
 abbrev pub command_written : Registers → ℕ → Registers × Effect
 command_written registers value =
     if is_set value 1 then (reset_registers registers.port.attached, Reset)
     else only (record registers {
-      runs = is_set value 0;
+      runs = is_set value 0 && not registers.host_error;
       interrupts = is_set value 2;
       host_error_interrupts = is_set value 3;
       wrap_events = is_set value 10;
@@ -54,12 +59,12 @@ status_written registers value = record registers {
   restore_error = registers.restore_error && not (is_set value 10);
 }
 
--- CRCR (5.4.5) while the ring runs: CS or CA stops it, and all else is ignored; else pointer and cycle state are set
+-- CRCR (5.4.5) while the ring runs: CS or CA stops it, and all else is ignored, the high half behind it too; else pointer and cycle state are set
 abbrev pub ring_low_written : Registers → ℕ → Registers × Effect
 ring_low_written registers value =
-    if registers.command_ring.runs then stopped_by registers value
+    if registers.command_ring.runs then stopped_by (record registers { command_ring = record registers.command_ring { low_refused = true } }) value
     else only (record registers {
-      command_ring = record registers.command_ring { pointer = with_low registers.command_ring.pointer (multiple value 64); cycle = is_set value 0 };
+      command_ring = record registers.command_ring { pointer = with_low registers.command_ring.pointer (multiple value 64); cycle = is_set value 0; low_refused = false };
     })
   where
     stopped_by : Registers → ℕ → Registers × Effect
@@ -70,7 +75,7 @@ ring_low_written registers value =
 
 abbrev pub ring_high_written : Registers → ℕ → Registers
 ring_high_written registers value =
-    if registers.command_ring.runs then registers
+    if registers.command_ring.runs || registers.command_ring.low_refused then registers
     else record registers { command_ring = record registers.command_ring { pointer = with_high registers.command_ring.pointer value } }
 
 -- PORTSC of the disk: PCD is set with the port's change bits
@@ -127,11 +132,12 @@ runtime_written registers at value =
     else (if at == 0x63c then (record registers { interrupter = record registers.interrupter { dequeue = with_high registers.interrupter.dequeue value } }, Dequeued false)
     else only registers))))))
 
--- Doorbells (5.6): DB target 7:0, stream 31:16. Doorbell 0 with target 0 starts the command ring where the controller runs.
+-- Doorbells (5.6): DB target 7:0, stream 31:16. Doorbell 0 with target 0 starts the command ring where the controller runs. That of a slot
+-- which CONFIG doesn't enable does nothing (5.4.7).
 abbrev pub doorbell_written : Registers → ℕ → ℕ → Registers × Effect
 doorbell_written registers at value =
     if at == 0x800 then command_doorbell registers (field value 0 0x100)
-    else (if at == 0x804 then (registers, Doorbell (field value 0 0x100) (field value 16 0x10000))
+    else (if at == 0x804 && has_slots registers then (registers, Doorbell (field value 0 0x100) (field value 16 0x10000))
     else only registers)
   where
     command_doorbell : Registers → ℕ → Registers × Effect

@@ -12,9 +12,10 @@
 //!
 //! 1. Reads of 1, 2, 4 and 8 bytes at their multiples give the bytes; any other reads 0. Words of 4 bytes are written; what is reserved or
 //!    read-only stays.
-//! 2. A register of 64 bits may be written in halves. CRCR's pointer and cycle state are set only while the command ring stands, and read
-//!    as 0.
-//! 3. HCRST resets all registers at once. HCH is R/S inverted.
+//! 2. A register of 64 bits may be written in halves, the low one first. CRCR's pointer and cycle state are set only while the command ring
+//!    stands, and read as 0; a high half behind a low one that wasn't taken isn't taken.
+//! 3. HCRST resets all registers at once. HCH is R/S inverted, and R/S stays 0 while HSE is 1. Where MaxSlotsEn is 0 slot 1's doorbells do
+//!    nothing.
 //! 4. PED and the change bits of a port are cleared by writing 1. A change bit that is set while none was owes a Port Status Change event
 //!    and sets PCD.
 //! 5. IP and EHB are cleared by writing 1. An event that isn't blocked sets IP and EHB, and EINT.
@@ -73,6 +74,8 @@ pub struct CommandRing {
     pub cycle: bool,
     /// CRR.
     pub runs: bool,
+    /// Whether CRCR's low half was last written while the ring ran, so that the high half behind it isn't taken.
+    pub low_refused: bool,
 }
 
 /// The registers of interrupter 0.

@@ -1,7 +1,7 @@
 //! The port of the disk: PORTSC and what changes it (xHCI 1.2, 4.19 and 5.4.8).
 ghost use Rattle.std.specs.Prelude.{◌≡◌, ◌<◌, ◌≤◌, ◌^◌, true};
-ghost use Rattle.xhci_registers.specs.Ports.{acknowledged, changed, cleared, detected, disabled_by, has_change, idle_port, is_idle, is_reset_by, is_suspended};
-ghost use Rattle.xhci_registers.specs.Ports.{link_after_reset, link_number, linked_by, lost, no_changes, no_wake, port_word, port_written, reset_by, resets, wake_in, wake_word};
+ghost use Rattle.xhci_registers.specs.Ports.{acknowledged, changed, cleared, detected, disabled_by, has_change, idle_port, is_disabled, is_idle, is_reset_by, is_suspended};
+ghost use Rattle.xhci_registers.specs.Ports.{link_after_reset, link_number, linked_by, looked_for, lost, no_changes, no_wake, port_word, port_written, reset_by, resets, wake_in, wake_word};
 
 use crate::bits::{field, is_set};
 
@@ -66,6 +66,12 @@ impl Link {
         ensures { result ≡ is_suspended self }
     {
         matches!(self, Link::U3)
+    }
+
+    fn is_disabled(self) -> bool
+        ensures { result ≡ is_disabled self }
+    {
+        matches!(self, Link::Disabled)
     }
 }
 
@@ -238,8 +244,13 @@ impl Port {
         ensures { self.new ≡ disabled_by self.old value }
     {
         if is_set(value, 1) && self.enabled {
+            self.connected = false;
             self.enabled = false;
             self.link = Link::Disabled;
+            self.change(&Changes {
+                connect: true,
+                ..Changes::none()
+            });
         }
     }
 
@@ -264,6 +275,17 @@ impl Port {
         }
     }
 
+    /// A disabled port looks for the device anew.
+    fn look_for_device(&mut self)
+        ensures { self.new ≡ looked_for self.old }
+    {
+        if self.attached {
+            self.detect();
+        } else {
+            self.link = Link::RxDetect;
+        }
+    }
+
     fn link_by(&mut self, value: u32)
         ensures { self.new ≡ linked_by self.old value }
     {
@@ -279,7 +301,7 @@ impl Port {
                     ..Changes::none()
                 });
             }
-            5 if self.attached => self.detect(),
+            5 if self.link.is_disabled() => self.look_for_device(),
             _ => {}
         }
     }

@@ -1,6 +1,6 @@
 //! The page, written.
 ghost use Rattle.std.specs.Prelude.{◌≡◌, Bool};
-ghost use Rattle.xhci_registers.specs.Writes.{command_written, dequeue_low_written, doorbell_written, management_written, operational_written};
+ghost use Rattle.xhci_registers.specs.Writes.{command_written, dequeue_low_written, doorbell_written, has_slots, management_written, operational_written};
 ghost use Rattle.xhci_registers.specs.Writes.{port_change_written, ports_written, reset_registers, ring_high_written, ring_low_written, runtime_written};
 ghost use Rattle.xhci_registers.specs.Writes.{status_written, word_written};
 
@@ -26,6 +26,7 @@ impl Registers {
                 pointer: 0,
                 cycle: false,
                 runs: false,
+                low_refused: false,
             },
             contexts: 0,
             config: 0,
@@ -43,6 +44,13 @@ impl Registers {
                 busy: false,
             },
         }
+    }
+
+    /// Whether CONFIG enables the slot (MaxSlotsEn, 5.4.7).
+    pub fn has_slots(&self) -> bool
+        ensures { result ≡ has_slots self.now }
+    {
+        field(u32::from(self.config), 0, 0x100) != 0
     }
 
     /// A write of the word at a multiple of 4, and what it asks for beyond the registers. What is reserved, read-only or isn't there stays
@@ -129,7 +137,9 @@ impl Registers {
                 self.command_ring.runs = true;
                 Effect::CommandDoorbell
             }
-            0x804 => Effect::Doorbell(target, field(value, 16, 0x10000) as u16),
+            0x804 if self.has_slots() => {
+                Effect::Doorbell(target, field(value, 16, 0x10000) as u16)
+            }
             _ => Effect::Nothing,
         }
     }
@@ -143,7 +153,7 @@ impl Registers {
             *self = Registers::new(self.port.attached);
             return Effect::Reset;
         }
-        self.runs = is_set(value, 0);
+        self.runs = is_set(value, 0) && !self.host_error;
         self.interrupts = is_set(value, 2);
         self.host_error_interrupts = is_set(value, 3);
         self.wrap_events = is_set(value, 10);
@@ -170,8 +180,11 @@ impl Registers {
         if !self.command_ring.runs {
             self.command_ring.pointer = with_low(self.command_ring.pointer, multiple(value, 64));
             self.command_ring.cycle = is_set(value, 0);
-            Effect::Nothing
-        } else if is_set(value, 1) || is_set(value, 2) {
+            self.command_ring.low_refused = false;
+            return Effect::Nothing;
+        }
+        self.command_ring.low_refused = true;
+        if is_set(value, 1) || is_set(value, 2) {
             self.command_ring.runs = false;
             Effect::CommandRingStopped
         } else {
@@ -183,7 +196,7 @@ impl Registers {
     fn write_ring_high(&mut self, value: u32)
         ensures { self.new ≡ ring_high_written self.old value }
     {
-        if !self.command_ring.runs {
+        if !self.command_ring.runs && !self.command_ring.low_refused {
             self.command_ring.pointer = with_high(self.command_ring.pointer, value);
         }
     }

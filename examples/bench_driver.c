@@ -545,14 +545,65 @@ static void unplug(void)
     }
 }
 
-/* The command ring goes on where no memory is (HSE): the controller halts, and its reset makes it whole. */
+/* CA stops the command ring while it runs, by one write or by halves. Its pointer stays, and it goes on there (5.4.5). */
+static void abort_commands(void)
+{
+    ring_doorbell(COMMANDS, 0);
+    run();
+    SAME(get(CRCR), 8); /* CRR */
+    expect(COMMANDS, 0, next_place(&commands), RING_STOPPED, 0, false);
+    set_address(CRCR, 4);
+    SAME(get(CRCR), 0);
+    run();
+    command(NO_OP_COMMAND, 0, 0, 0, SUCCESS);
+}
+
+/* PED written 1 disables the port; PLS 5, which does nothing where the disk is connected, has it look for the disk again (4.19.1.2). */
+static void disable_port(void)
+{
+    set(PORTSC2, 0x102a0);
+    SAME(get(PORTSC2), 0x1203);
+    for (int i = 0; i < 2; i++) {
+        set(PORTSC2, i == 0 ? 0x202 : 0x102a0);
+        expect(PORTS, 0, 2 << 24, SUCCESS, 0, false);
+        finish();
+        SAME(get(PORTSC2), i == 0 ? 0x20280 : 0x21203); /* CSC; PLS 4, or SuperSpeed, PED, CCS */
+        set(PORTSC2, 0x20200);
+    }
+}
+
+/* An error of the host's memory halts the controller until it is cleared (5.4.2). */
+static void halted(void)
+{
+    SAME(get(USBSTS) & 5, 5);
+    SAME(get(USBCMD) & 1, 0);
+    set(USBCMD, 5);
+    SAME(get(USBCMD) & 1, 0);
+    set(USBSTS, 4);
+    set(USBCMD, 5);
+    SAME(get(USBSTS) & 5, 0);
+}
+
+/* The command ring goes on where no memory is: the controller halts, and its reset makes it whole. */
 static void no_memory(void)
 {
     write_trb(next_place(&commands), BASE - 0x1000, 0, LINK | commands.cycle);
     ring_doorbell(COMMANDS, 0);
     finish();
-    SAME(get(USBSTS) & 5, 5);
-    SAME(get(USBCMD) & 1, 0);
+    halted();
+}
+
+/* No slot is enabled by CONFIG (5.4.7); the event ring's table is longer than ERST Max says (5.3.4). */
+static void wrong_settings(void)
+{
+    start();
+    set(CONFIG, 0);
+    command(ENABLE_SLOT, 0, 0, 0, NO_SLOTS);
+    SAME(last_slot, 0);
+    set(ERSTSZ, 2);
+    set_address(ERSTBA, uas_xhci_read(xhci, ERSTBA, 8));
+    run();
+    halted();
 }
 
 static void set_up(void)
@@ -596,7 +647,10 @@ int main(int words, char **word)
         port_reset();
         random_commands(100);
         unplug();
+        abort_commands();
+        disable_port();
         no_memory();
+        wrong_settings();
         set_up();
         printf("  a reset of the port, unplugged, halted for want of memory, set up again\n");
         uas_xhci_free(xhci);

@@ -32,6 +32,7 @@ memory_ends (replay clients blocks bad) host old new status four kept files inpu
 memory_ends (trace clients blocks bad) host old new status four kept files input = record {
   statuses = inr (inr four);
   traced = λ low. absurd (omega (arith, four, low));
+  text = λ low. absurd (omega (arith, four, low));
   read = λ low. absurd (omega (arith, four, low));
   fault = λ three. absurd (omega (arith, four, three));
   files = files;
@@ -120,6 +121,7 @@ memory_ends (draw clients blocks bad) host old new status four kept files input 
   statuses = inr (inr four);
   traced = λ low. absurd (omega (arith, four, low));
   drawn = λ low. absurd (omega (arith, four, low));
+  of = λ low. absurd (omega (arith, four, low));
   read = λ low. absurd (omega (arith, four, low));
   fault = λ three. absurd (omega (arith, four, three));
   memory = λ is. kept;
@@ -129,6 +131,7 @@ memory_ends (page clients blocks bad) host old new status four kept files input 
   statuses = inr (inr four);
   traced = λ low. absurd (omega (arith, four, low));
   drawn = λ low. absurd (omega (arith, four, low));
+  of = λ low. absurd (omega (arith, four, low));
   read = λ low. absurd (omega (arith, four, low));
   fault = λ three. absurd (omega (arith, four, three));
   memory = λ is. kept;
@@ -138,6 +141,7 @@ memory_ends (capture clients blocks file bad) host old new status four kept file
   statuses = inr (inr four);
   told = λ low. absurd (omega (arith, four, low));
   captured = λ low. absurd (omega (arith, four, low));
+  of = λ low. absurd (omega (arith, four, low));
   created = λ low. absurd (omega (arith, four, low));
   fault = λ three. absurd (omega (arith, four, three));
   memory = λ is. kept;

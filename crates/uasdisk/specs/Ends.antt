@@ -12,14 +12,15 @@ use Rattle.disk_image.specs.Stops.{InfoPrints, AnswersOf}
 use Rattle.disk_image.specs.Alone.{blocks_at, dump_lines, dumped, filled, filled_image, filled_medium}
 use Rattle.block_unit.specs.BlockMaps.{imaged}
 use Rattle.uas_trace.specs.Traced.{Traces}
+use Rattle.uas_trace.specs.Texts.{TracesScript}
 use Rattle.work_run.specs.WorkEnds.{Told}
 use Rattle.work_run.specs.SavedEnds.{NotSaved, Saved, Unsaved}
 use Rattle.uas_decode.specs.Runs.{Begins, Decodes}
 use Rattle.audit_run.specs.Ends.{IsRefused, Tells as AuditTells}
-use Rattle.draw_run.specs.Draws.{AppendsDrawn}
+use Rattle.draw_run.specs.Draws.{AppendsDrawn, DrawsScript}
 use Rattle.draw_run.specs.declared.Form.{Form}
 use Rattle.draw_run.specs.declared.Form.TheVariants.{Picture, Page}
-use Rattle.capture_run.specs.Ends.{IsCapture}
+use Rattle.capture_run.specs.Ends.{CapturesScript, IsCapture}
 
 -- What is known of a host: whether it tells what its files hold; of the file of a name, whether it can be opened, can
 -- be created and can fail; whether standard input is there, and whether it and standard output can fail.
@@ -62,11 +63,14 @@ pub record ReplayEnds (clients blocks : ℕ) (bad : Option ℕ) (host : Host) (o
   pub memory : status ≡ 4 → Keeps old.output new.output
   pub files : new.holds ≡ old.holds
 
--- `trace CLIENTS BLOCKS [--bad LBA]`: as `replay`, but that standard output gets its text while the script runs.
+-- `trace CLIENTS BLOCKS [--bad LBA]`: as `replay`, but that standard output gets its text while the script runs: each step, what it wrote, and
+-- what the run told by it.
 pub record TraceEnds (clients blocks : ℕ) (bad : Option ℕ) (host : Host) (old new : World) (status : ℕ) : Type 0 where
   pub statuses : (status ≤ 1) ⊎ ((status ≡ 3) ⊎ (status ≡ 4))
   pub traced : status ≤ 1 → IfSome old.input (λ bytes.
       Traces (zeroed_units clients blocks bad) (script clients bytes) status)
+  pub text : status ≤ 1 → IfSome old.input (λ bytes.
+      TracesScript (zeroed_units clients blocks bad) (script clients bytes) old.output new.output)
   pub read : status ≤ 1 → IsTrue host.has_input × IsAtEnd new.input
   pub fault : status ≡ 3 → ScriptStops clients host old new
   pub files : new.holds ≡ old.holds
@@ -176,24 +180,28 @@ pub record AuditEnds (file : Text) (head : Option ℕ) (host : Host) (old new : 
   pub input : new.input ≡ old.input
 
 -- `draw CLIENTS BLOCKS [--page] [--bad LBA]`: the script on standard input was run as `trace` runs it, and standard output has got a
--- picture, or a page.
+-- picture of that trace, or a page.
 pub record DrawEnds (form : Form) (clients blocks : ℕ) (bad : Option ℕ) (host : Host) (old new : World) (status : ℕ) : Type 0 where
   pub statuses : (status ≤ 1) ⊎ ((status ≡ 3) ⊎ (status ≡ 4))
   pub traced : status ≤ 1 → IfSome old.input (λ bytes.
       Traces (zeroed_units clients blocks bad) (script clients bytes) status)
   pub drawn : status ≤ 1 → AppendsDrawn form clients old.output new.output
+  pub of : status ≤ 1 → IfSome old.input (λ bytes.
+      DrawsScript form clients (zeroed_units clients blocks bad) (script clients bytes) old.output new.output)
   pub read : status ≤ 1 → IsTrue host.has_input × IsAtEnd new.input
   pub fault : status ≡ 3 → ScriptStops clients host old new
   pub memory : status ≡ 4 → Keeps old.output new.output
   pub files : new.holds ≡ old.holds
 
 -- `capture CLIENTS BLOCKS FILE [--bad LBA]`: the script on standard input is told on standard output as `replay` tells it, and the file of
--- this name holds a capture.
+-- this name holds a capture of its trace.
 pub record CaptureEnds (clients blocks : ℕ) (file : Text) (bad : Option ℕ) (host : Host) (old new : World) (status : ℕ) : Type 0 where
   pub statuses : (status ≤ 1) ⊎ ((status ≡ 3) ⊎ (status ≡ 4))
   pub told : status ≤ 1 → IfSome old.input (λ bytes.
       Tells (zeroed_units clients blocks bad) (script clients bytes) old.output new.output status)
   pub captured : status ≤ 1 → IsTrue host.tells → IsCapture (new.holds file)
+  pub of : status ≤ 1 → IfSome old.input (λ bytes. IsTrue host.tells →
+      CapturesScript (zeroed_units clients blocks bad) (script clients bytes) (new.holds file))
   pub created : status ≤ 1 → IsTrue (host.can_create file)
   pub fault : status ≡ 3 → ((IfSome old.input (λ bytes. IsErr (script clients bytes)) ⊎ (IsTrue host.input_can_fail
       ⊎ IsTrue (host.file_can_fail file))) × Keeps old.output new.output) ⊎ IsTrue host.output_can_fail

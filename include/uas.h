@@ -1,3 +1,4 @@
+/* SPDX-License-Identifier: Apache-2.0 */
 /* uas.h: USB Attached SCSI over xHCI streams for C, from a verified library (link libuas.a; of codecs, device and controller alone
  * libuas_device.a is enough).
  *

@@ -1,3 +1,4 @@
+/* SPDX-License-Identifier: Apache-2.0 */
 /* uas_tasks.h: a USB Attached SCSI device whose blocks somebody else keeps, for C, from a verified library (link libuas_tasks.a).
  *
  *                receive                 next               answered              give

@@ -1,3 +1,4 @@
+/* SPDX-License-Identifier: Apache-2.0 */
 /* uas_xhci.h: an xHCI controller with one SuperSpeed UAS disk behind it, over memory that the caller owns, for C, from a verified library
  * (link libuas_xhci.a).
  *
@@ -103,7 +104,7 @@ uint8_t uas_xhci_call(uas_xhci *xhci, struct uas_xhci_door *door, uint8_t *bytes
  * first in the lowest bits; another reads 0. */
 uint64_t uas_xhci_read(uas_xhci *xhci, uint64_t offset, uint8_t width);
 
-/* A write of 4 or 8 bytes at a multiple of its width; another does nothing. It takes no step: what a doorbell starts, or a port reports, is
+/* A write of 4 or 8 bytes at a multiple of 4; another does nothing. It takes no step: what a doorbell starts, or a port reports, is
  * for uas_xhci_work. */
 void uas_xhci_write(uas_xhci *xhci, uint64_t offset, uint8_t width, uint64_t value);
 

@@ -1,6 +1,6 @@
 //! Faults of a run: what is told of each, and its exit status.
 ghost use Rattle.std.specs.Prelude.{◌≡◌};
-ghost use Rattle.audit_run.specs.Faults.{status_of};
+ghost use Rattle.audit_run.specs.Faults.{line_of, status_of};
 
 use crate::{AuditFault, FAULT, NO_MEMORY};
 use kept_log::KeptFault;
@@ -31,7 +31,9 @@ impl AuditFault {
     }
 
     /// Its line: of what is wrong with a log, the fault's name without its number.
-    fn line(self) -> &'static str {
+    fn line(self) -> &'static str
+        ensures { result.now ≡ line_of self }
+    {
         match self {
             AuditFault::File => "log: file",
             AuditFault::TooLarge => "log: too large",

@@ -114,10 +114,20 @@ impl Files for MachineFiles<'_, '_, '_> {
     }
 }
 
-/// Why a file that couldn't be created can't be.
+/// Why a file that couldn't be created can't be. A file that isn't there stays so.
 fn why_not_written(rt: &HostRuntime, name: &str) -> ErrorKind {
-    match OpenOptions::new().write(true).create(true).open(rt, name) {
-        Ok(_) => ErrorKind::Other,
+    let is_there = fs::symlink_metadata(rt, name).is_ok();
+    match OpenOptions::new()
+        .write(true)
+        .create_new(!is_there)
+        .open(rt, name)
+    {
+        Ok(_) => {
+            if !is_there {
+                let _ = fs::remove_file(rt, name);
+            }
+            ErrorKind::Other
+        }
         Err(error) => error.kind(),
     }
 }

@@ -1,0 +1,13 @@
+pub mod RingElse
+pub mod Fronts
+pub mod DataInElse
+pub mod StatusElse
+pub mod OutElse
+pub mod Held
+pub mod Overtaken
+pub mod Noted
+pub mod Ordered
+pub mod OutOrdered
+pub mod RingTells
+pub mod Tells
+pub mod Forgotten

@@ -1,0 +1,171 @@
+-- What is told at a ring's end: the event's bytes stand at the place that was the next.
+use Rattle.std.proofs.Common.{◌≡◌, ℕ, ◌+◌, ◌%◌, ◌^◌, Bool, true, false, length, Some, refl, ap, ◌∙◌, arith, ◌&&◌, ◌||◌}
+use Rattle.std.specs.Prelude.{not}
+use Rattle.guest_memory.specs.Bytes.{Memory, bytes_from}
+use Rattle.guest_memory.specs.Ranges.{from_each, written_ahead}
+use Rattle.guest_rings.specs.declared.cursor.Cursor.{Cursor}
+use Rattle.guest_rings.specs.declared.context.Home.{Home}
+use Rattle.guest_rings.specs.declared.context.Front.{Front}
+use Rattle.guest_rings.specs.declared.trb.Flags.{Flags}
+use Rattle.guest_rings.specs.declared.event.Event.{Event}
+use Rattle.guest_rings.specs.declared.event.Event.TheVariants.{Transfer}
+use Rattle.guest_rings.specs.Ends.{behind, followed}
+use Rattle.guest_rings.specs.Events.{enqueue_pointer, enqueued, event_bytes}
+use Rattle.guest_rings.specs.Wanted.{home_range}
+use Rattle.guest_pipes.specs.declared.progress.Ending.{Ending}
+use Rattle.guest_pipes.specs.declared.progress.Ending.TheVariants.{Runs, Told, Owed}
+use Rattle.guest_pipes.specs.declared.progress.Progress.{Progress}
+use Rattle.guest_pipes.specs.Progress.{code_of, owes, past, restarted, runs, short_ending}
+use Rattle.guest_pipes.specs.Step.{World, about, consumed, data_restarted, data_told, ended_as, erred, failed, filled, linked, passed, posted, posted_if, shortened, skipped, stood, with_progress}
+use Rattle.td_laws.specs.Places.{AreApart, event_range}
+use Rattle.td_laws.specs.Told.{Counts, HasTold, Tells, edtla_behind}
+use Rattle.td_laws.proofs.RingElse.{event_size, stood_else, stood_events}
+
+posted_events : (w : World) (event : Event) (quiet : Bool) → (posted w event quiet).events ≡ enqueued w.events quiet
+unfolding posted
+posted_events w event quiet = refl
+
+-- an event, and then the ring's end
+stands_there : (w : World) (event : Event) (quiet : Bool) (v : World) (home : Home) (cursor : Cursor) → v.memory ≡ (posted w event quiet).memory
+    → AreApart (event_range w.events) (home_range home)
+    → bytes_from (stood v home cursor).memory (enqueue_pointer w.events) 16 ≡ Some (event_bytes event w.events.cycle)
+unfolding posted
+stands_there w event quiet v home cursor memory apart =
+    let at = enqueue_pointer w.events in
+    let bytes = event_bytes event w.events.cycle in
+    let size : length bytes ≡ 16 = event_size event w.events.cycle in
+    from_each (stood v home cursor).memory at 16 bytes size (λ k below.
+    stood_else v home cursor (at + k) (apart k below) ∙ ap (λ (m : Memory). m (at + k)) memory ∙ written_ahead w.memory at bytes k (omega (arith, size)))
+
+tells : (told : Bool) (w : World) (event : Event) (quiet : Bool) (v : World) (home : Home) (cursor : Cursor) → v.memory ≡ (posted_if told w event quiet).memory
+    → v.events ≡ (posted_if told w event quiet).events → AreApart (event_range w.events) (home_range home)
+    → Tells told w.events (stood v home cursor) event quiet
+tells true w event quiet v home cursor memory events apart = record {
+  once = stood_events v home cursor ∙ events ∙ posted_events w event quiet;
+  stands = stands_there w event quiet v home cursor memory apart;
+}
+tells false w event quiet v home cursor memory events apart = stood_events v home cursor ∙ events
+
+pub posted_consumer : (told : Bool) (w : World) (event : Event) (quiet : Bool) → (posted_if told w event quiet).consumer ≡ w.consumer
+unfolding posted
+posted_consumer true w event quiet = refl
+posted_consumer false w event quiet = refl
+
+stood_consumer : (w : World) (home : Home) (cursor : Cursor) → (stood w home cursor).consumer ≡ w.consumer
+unfolding stood
+stood_consumer w home cursor = refl
+
+pub past_counts : (progress : Progress) (chain : Bool) (edtla : ℕ) → progress.edtla % 2 ^ 24 ≡ edtla % 2 ^ 24
+    → Counts (past progress chain) 0 (edtla_behind chain edtla)
+past_counts progress true edtla since = record { in_trb = refl; since = since }
+past_counts progress false edtla since = record { in_trb = refl; since = refl }
+
+-- what is counted behind a TRB
+consumed-counts : (v : World) (front : Front) (chain : Bool) (edtla : ℕ) → v.consumer.progress.edtla % 2 ^ 24 ≡ edtla % 2 ^ 24
+    → Counts (consumed v front chain).consumer.progress 0 (edtla_behind chain edtla)
+unfolding consumed stood
+consumed-counts v front chain edtla since = past_counts v.consumer.progress chain edtla since
+
+-- an event changes nothing of what is counted
+told_since : (told : Bool) (w : World) (event : Event) (quiet : Bool) (edtla : ℕ) → w.consumer.progress.edtla % 2 ^ 24 ≡ edtla % 2 ^ 24
+    → (posted_if told w event quiet).consumer.progress.edtla % 2 ^ 24 ≡ edtla % 2 ^ 24
+unfolding posted
+told_since true w event quiet edtla since = since
+told_since false w event quiet edtla since = since
+
+pub filled-tells : (w : World) (front : Front) (flags : Flags) → AreApart (event_range w.events) (home_range front.home)
+    → Tells flags.ioc w.events (filled w front flags) (about w.consumer front.cursor.place 0 1) flags.bei
+unfolding filled consumed
+filled-tells w front flags apart =
+    let event = about w.consumer front.cursor.place 0 1 in
+    let v = posted_if flags.ioc w event flags.bei in
+    tells flags.ioc w event flags.bei (with_progress v (past v.consumer.progress flags.chain)) front.home (behind front.cursor) refl refl apart
+
+pub filled-counts : (w : World) (front : Front) (flags : Flags) (edtla : ℕ) → w.consumer.progress.edtla % 2 ^ 24 ≡ edtla % 2 ^ 24
+    → Counts (filled w front flags).consumer.progress 0 (edtla_behind flags.chain edtla)
+unfolding filled
+filled-counts w front flags edtla since =
+    let event = about w.consumer front.cursor.place 0 1 in
+    consumed-counts (posted_if flags.ioc w event flags.bei) front flags.chain edtla (told_since flags.ioc w event flags.bei edtla since)
+
+pub shortened-tells : (w : World) (front : Front) (left : ℕ) (flags : Flags) → AreApart (event_range w.events) (home_range front.home)
+    → Tells (flags.isp || flags.ioc) w.events (shortened w front left flags) (about w.consumer front.cursor.place left 13) flags.bei
+unfolding shortened consumed
+shortened-tells w front left flags apart =
+    let told = flags.isp || flags.ioc in
+    let event = about w.consumer front.cursor.place left 13 in
+    let v = ended_as (posted_if told w event flags.bei) (short_ending told) in
+    tells told w event flags.bei (with_progress v (past v.consumer.progress flags.chain)) front.home (behind front.cursor) refl refl apart
+
+pub shortened-counts : (w : World) (front : Front) (left : ℕ) (flags : Flags) (edtla : ℕ) → w.consumer.progress.edtla % 2 ^ 24 ≡ edtla % 2 ^ 24
+    → Counts (shortened w front left flags).consumer.progress 0 (edtla_behind flags.chain edtla)
+unfolding shortened
+shortened-counts w front left flags edtla since =
+    let told = flags.isp || flags.ioc in
+    let event = about w.consumer front.cursor.place left 13 in
+    consumed-counts (ended_as (posted_if told w event flags.bei) (short_ending told)) front flags.chain edtla (told_since told w event flags.bei edtla since)
+
+pub failed-tells : (w : World) (front : Front) (length : ℕ) (flags : Flags) → AreApart (event_range w.events) (home_range front.home)
+    → HasTold w.events (failed w front length flags) (about w.consumer front.cursor.place length 2) flags.bei
+unfolding failed consumed
+failed-tells w front length flags apart =
+    let event = about w.consumer front.cursor.place length 2 in
+    let v = ended_as (posted w event flags.bei) (Told 2) in
+    tells true w event flags.bei (with_progress v (past v.consumer.progress flags.chain)) front.home (behind front.cursor) refl refl apart
+
+pub skipped-tells : (w : World) (front : Front) (length : ℕ) (flags : Flags) → AreApart (event_range w.events) (home_range front.home)
+    → Tells (owes w.consumer.progress.ending && (not flags.chain && flags.ioc)) w.events (skipped w front length flags) (about w.consumer front.cursor.place length 13) flags.bei
+unfolding skipped consumed
+skipped-tells w front length flags apart =
+    let told = owes w.consumer.progress.ending && (not flags.chain && flags.ioc) in
+    let event = about w.consumer front.cursor.place length 13 in
+    let v = posted_if told w event flags.bei in
+    tells told w event flags.bei (with_progress v (past v.consumer.progress flags.chain)) front.home (behind front.cursor) refl refl apart
+
+pub linked-tells : (w : World) (front : Front) (pointer : ℕ) (toggle : Bool) (flags : Flags) → AreApart (event_range w.events) (home_range front.home)
+    → Tells flags.ioc w.events (linked w front pointer toggle flags) (about w.consumer front.cursor.place 0 1) flags.bei
+unfolding linked
+linked-tells w front pointer toggle flags apart =
+    let event = about w.consumer front.cursor.place 0 1 in
+    tells flags.ioc w event flags.bei (posted_if flags.ioc w event flags.bei) front.home (followed front.cursor pointer toggle) refl refl apart
+
+consumed-events : (w : World) (front : Front) (chain : Bool) → (consumed w front chain).events ≡ w.events
+unfolding consumed stood
+consumed-events w front chain = refl
+
+pub passed-tells : (ending : Ending) (w : World) (front : Front) (flags : Flags) → AreApart (event_range w.events) (home_range front.home)
+    → Tells (runs ending && flags.ioc) w.events (passed ending w front flags) (about w.consumer front.cursor.place 0 1) flags.bei
+passed-tells Runs w front flags apart = filled-tells w front flags apart
+passed-tells (Told code) w front flags apart = consumed-events w front flags.chain
+passed-tells Owed w front flags apart = consumed-events w front flags.chain
+
+pub data_told-tells : (w : World) (front : Front) (parameter : ℕ) (flags : Flags) → AreApart (event_range w.events) (home_range front.home)
+    → Tells flags.ioc w.events (data_told w front parameter flags) (Transfer parameter w.consumer.progress.edtla (code_of w.consumer.progress.ending) w.consumer.endpoint true) flags.bei
+unfolding data_told consumed
+data_told-tells w front parameter flags apart =
+    let event : Event = Transfer parameter w.consumer.progress.edtla (code_of w.consumer.progress.ending) w.consumer.endpoint true in
+    let v = data_restarted (posted_if flags.ioc w event flags.bei) flags.ioc in
+    tells flags.ioc w event flags.bei (with_progress v (past v.consumer.progress flags.chain)) front.home (behind front.cursor) refl refl apart
+
+past_none : (progress : Progress) (posts chain : Bool) → (past (restarted progress posts) chain).edtla ≡ 0
+past_none progress posts true = refl
+past_none progress posts false = refl
+
+-- EDTLA starts again
+pub data_told-restarts : (w : World) (front : Front) (parameter : ℕ) (flags : Flags) → (data_told w front parameter flags).consumer.progress.edtla ≡ 0
+unfolding data_told consumed stood
+data_told-restarts w front parameter flags =
+    let event : Event = Transfer parameter w.consumer.progress.edtla (code_of w.consumer.progress.ending) w.consumer.endpoint true in
+    past_none (posted_if flags.ioc w event flags.bei).consumer.progress flags.ioc flags.chain
+
+pub erred-tells : (w : World) (front : Front) → AreApart (event_range w.events) (home_range front.home)
+    → HasTold w.events (erred w front) (about w.consumer front.cursor.place 0 5) false
+unfolding posted
+erred-tells w front apart =
+    let event = about w.consumer front.cursor.place 0 5 in
+    let bytes = event_bytes event w.events.cycle in
+    let size : length bytes ≡ 16 = event_size event w.events.cycle in
+    record {
+      once = refl;
+      stands = from_each (erred w front).memory (enqueue_pointer w.events) 16 bytes size (λ k below. written_ahead w.memory (enqueue_pointer w.events) bytes k (omega (arith, size)));
+    }

@@ -1,0 +1,239 @@
+-- What a step of data-in tells.
+use Rattle.std.proofs.Common.{◌≡◌, ℕ, ◌+◌, ◌-◌, ◌%◌, ◌^◌, ◌<◌, ◌≤◌, ◌==◌, Bool, true, false, List, length as list_length, take, Option, Some, None, refl, sym, ap, subst, ◌∙◌, arith, add-zero}
+use Rattle.std.specs.Prelude.{min, nat_le, ◌&&◌, if◌then◌else◌, option_map}
+use Rattle.std.proofs.Math.Nat.{mod-mod}
+use Rattle.std.proofs.lemmas.Bool.{eqb-false, eqb-true, leb-false, leb-true}
+use Rattle.std.proofs.lemmas.List.{length-take-le}
+use Rattle.std.proofs.lemmas.Option.{none-some, same_Some}
+use Rattle.guest_memory.specs.Bytes.{is_there, ◌>>=◌}
+use Rattle.guest_rings.specs.declared.context.Home.{Home}
+use Rattle.guest_rings.specs.declared.context.Front.{Front}
+use Rattle.guest_rings.specs.declared.context.Found.{Found}
+use Rattle.guest_rings.specs.declared.context.Found.TheVariants.{WrongKind, NotYet, Item}
+use Rattle.guest_rings.specs.declared.trb.PipeTrb.{PipeTrb}
+use Rattle.guest_rings.specs.declared.trb.PipeTrb.TheVariants.{Normal, Link, NoOp, EventData, Foreign}
+use Rattle.guest_rings.specs.declared.wanting.Range.{Range}
+use Rattle.guest_rings.specs.Ends.{looked}
+use Rattle.guest_rings.specs.Wanted.{home_range}
+use Rattle.guest_pipes.specs.declared.acted.Acted.{Acted}
+use Rattle.guest_pipes.specs.declared.acted.Acted.TheVariants.{Worked}
+use Rattle.guest_pipes.specs.declared.progress.Ending.{Ending}
+use Rattle.guest_pipes.specs.declared.progress.Ending.TheVariants.{Runs, Told, Owed}
+use Rattle.guest_pipes.specs.Gate.{after, gate, through}
+use Rattle.guest_pipes.specs.Progress.{runs}
+use Rattle.guest_pipes.specs.Step.{World, filled, poured}
+use Rattle.guest_tags.specs.declared.device.Phase.{Phase}
+use Rattle.guest_tags.specs.declared.device.Phase.TheVariants.{Absent, Gives, Takes, Ended}
+use Rattle.guest_tags.specs.declared.buffer.Buffer.{Buffer}
+use Rattle.guest_tags.specs.Devices.{IsEnded, Kind}
+use Rattle.guest_tags.specs.Tags.{TagWorld}
+use Rattle.guest_tags.specs.DataIn.{acted, acted_at, closed, closed_if, ends_td, filled_ring, gave_by, given_to, has_chunk, is_status, lost, moved_count, moved_if, moved_in, normal, ran, refilled, stepped_in, with_ring}
+use Rattle.guest_tags.specs.Wanted.{buffer_of, moving}
+use Rattle.td_laws.specs.Places.{AreApart, coming, event_range, front_of, given_by, let_through, nowhere, part_of, where_there}
+use Rattle.td_laws.specs.Told.{AnEventEach, Ends, Fails, Fills, Goes, IsOver, IsTold, IsToldOf, ResidualsAddUp}
+use Rattle.td_laws.proofs.Fronts.{looked_home}
+use Rattle.td_laws.proofs.Noted.{empty_chunk, nothing_there}
+use Rattle.td_laws.proofs.RingTells.{data_told-restarts, data_told-tells, erred-tells, failed-tells, filled-counts, filled-tells, linked-tells, passed-tells, shortened-counts, shortened-tells, skipped-tells}
+
+module _ {D : Type 0} (kind : Kind D) where
+  -- what a step that left this told, of a buffer of which part was filled
+  abbrev AddsUp : TagWorld D → TagWorld D → ℕ → Front → Buffer → ℕ → Type 0
+  AddsUp w new number front buffer count = IsTold w.ring.consumer w.ring.events new.ring front.cursor.place buffer
+      (w.ring.consumer.progress.moved + count) (w.ring.consumer.progress.edtla + count) (IsOver kind new number)
+
+  abbrev part_here : TagWorld D → ℕ → Buffer → Range
+  part_here w count buffer = record { at = buffer.pointer + w.ring.consumer.progress.moved; count = min count (buffer.length - w.ring.consumer.progress.moved) }
+
+  same_since : (edtla count : ℕ) → count ≡ 0 → edtla % 2 ^ 24 ≡ (edtla + count) % 2 ^ 24
+  same_since edtla count none = ap (λ (n : ℕ). n % 2 ^ 24) (sym (add-zero edtla) ∙ ap (λ (n : ℕ). edtla + n) (sym none))
+
+  -- the TRB waits, with nothing moved
+  waits : (w new : TagWorld D) (number : ℕ) (front : Front) (buffer : Buffer) (count : ℕ) → new.ring ≡ w.ring → count ≡ 0
+      → w.ring.consumer.progress.moved < buffer.length → AddsUp w new number front buffer count
+  waits w new number front buffer count same none room =
+      let moved : w.ring.consumer.progress.moved ≡ w.ring.consumer.progress.moved + count = omega (arith, none) in
+      subst (λ (ring : World). IsTold w.ring.consumer w.ring.events ring front.cursor.place buffer (w.ring.consumer.progress.moved + count) (w.ring.consumer.progress.edtla + count) (IsOver kind new number))
+      (sym same)
+      (Goes (omega (arith, none)) refl (record { in_trb = moved; since = same_since w.ring.consumer.progress.edtla count none }))
+
+  -- it is full, and nothing moved
+  was_full : (w new : TagWorld D) (number : ℕ) (front : Front) (buffer : Buffer) (count : ℕ) → new.ring ≡ filled w.ring front buffer.flags → count ≡ 0
+      → w.ring.consumer.progress.moved ≡ buffer.length → AreApart (event_range w.ring.events) (home_range front.home) → AddsUp w new number front buffer count
+  was_full w new number front buffer count same none full apart =
+      subst (λ (ring : World). IsTold w.ring.consumer w.ring.events ring front.cursor.place buffer (w.ring.consumer.progress.moved + count) (w.ring.consumer.progress.edtla + count) (IsOver kind new number))
+      (sym same)
+      (Fills (omega (arith, none)) (filled-tells w.ring front buffer.flags apart)
+      (filled-counts w.ring front buffer.flags (w.ring.consumer.progress.edtla + count) (same_since w.ring.consumer.progress.edtla count none)))
+
+  -- so many bytes moved, and the TRB is full with them or not
+  went : (full : Bool) (w : TagWorld D) (number : ℕ) (front : Front) (buffer : Buffer) → (w.ring.consumer.progress.moved + moved_count kind w buffer == buffer.length) ≡ full
+      → w.ring.consumer.progress.moved < buffer.length → AreApart (event_range w.ring.events) (home_range front.home)
+      → AddsUp w (filled_ring kind full (given_to kind w (buffer.pointer + w.ring.consumer.progress.moved) (moved_count kind w buffer)) front buffer) number front buffer (moved_count kind w buffer)
+  unfolding given_to poured
+  went full w number front buffer is room apart =
+      let count = moved_count kind w buffer in
+      let bytes = take count w.tag.chunk in
+      let v = poured w.ring (buffer.pointer + w.ring.consumer.progress.moved) bytes in
+      let size : list_length (take (moved_count kind w buffer) w.tag.chunk) ≡ moved_count kind w buffer = length-take-le (moved_count kind w buffer) w.tag.chunk (omega arith) in
+      let since : v.consumer.progress.edtla % 2 ^ 24 ≡ (w.ring.consumer.progress.edtla + count) % 2 ^ 24 =
+      mod-mod (w.ring.consumer.progress.edtla + list_length bytes) (2 ^ 24) ∙ ap (λ (n : ℕ). (w.ring.consumer.progress.edtla + n) % 2 ^ 24) size in
+      let in_trb : w.ring.consumer.progress.moved + list_length bytes ≡ w.ring.consumer.progress.moved + count = ap (λ (n : ℕ). w.ring.consumer.progress.moved + n) size in
+      by_full full is since in_trb
+    where
+      by_full : (f : Bool) → (w.ring.consumer.progress.moved + moved_count kind w buffer == buffer.length) ≡ f
+          → (poured w.ring (buffer.pointer + w.ring.consumer.progress.moved) (take (moved_count kind w buffer) w.tag.chunk)).consumer.progress.edtla % 2 ^ 24 ≡ (w.ring.consumer.progress.edtla + moved_count kind w buffer) % 2 ^ 24
+          → w.ring.consumer.progress.moved + list_length (take (moved_count kind w buffer) w.tag.chunk) ≡ w.ring.consumer.progress.moved + moved_count kind w buffer
+          → AddsUp w (filled_ring kind f (given_to kind w (buffer.pointer + w.ring.consumer.progress.moved) (moved_count kind w buffer)) front buffer) number front buffer (moved_count kind w buffer)
+      by_full true is since in_trb =
+          let v = poured w.ring (buffer.pointer + w.ring.consumer.progress.moved) (take (moved_count kind w buffer) w.tag.chunk) in
+          Fills (eqb-true (w.ring.consumer.progress.moved + moved_count kind w buffer) buffer.length is) (filled-tells v front buffer.flags apart)
+          (filled-counts v front buffer.flags (w.ring.consumer.progress.edtla + moved_count kind w buffer) since)
+      by_full false is since in_trb =
+          let other = eqb-false (w.ring.consumer.progress.moved + moved_count kind w buffer) buffer.length is in
+          let below : w.ring.consumer.progress.moved + moved_count kind w buffer < buffer.length = omega (arith, other) in
+          Goes below refl (record { in_trb = in_trb; since = since })
+
+  moved_in-told : (w : TagWorld D) (number : ℕ) (front : Front) (buffer : Buffer) → w.ring.consumer.progress.moved < buffer.length
+      → AreApart (event_range w.ring.events) (home_range front.home)
+      → AddsUp w (moved_in kind w front buffer) number front buffer (where_there w.ring.memory (part_here w (list_length w.tag.chunk) buffer)).count
+  unfolding moved_in lost
+  moved_in-told w number front buffer room apart = by_there (is_there w.ring.memory (buffer.pointer + w.ring.consumer.progress.moved) (moved_count kind w buffer))
+    where
+      by_there : (there : Bool) → AddsUp w
+          (if there then filled_ring kind (w.ring.consumer.progress.moved + moved_count kind w buffer == buffer.length) (given_to kind w (buffer.pointer + w.ring.consumer.progress.moved) (moved_count kind w buffer)) front buffer
+          else lost kind w front buffer) number front buffer
+          (if there then part_here w (list_length w.tag.chunk) buffer else nowhere).count
+      by_there true = went (w.ring.consumer.progress.moved + moved_count kind w buffer == buffer.length) w number front buffer refl room apart
+      by_there false = Fails (failed-tells w.ring front buffer.length buffer.flags apart)
+
+  moved_if-told : (some : Bool) (w : TagWorld D) (number : ℕ) (front : Front) (buffer : Buffer) → has_chunk w.tag ≡ some
+      → w.ring.consumer.progress.moved < buffer.length → AreApart (event_range w.ring.events) (home_range front.home)
+      → AddsUp w (moved_if kind some w front buffer) number front buffer (where_there w.ring.memory (part_here w (list_length w.tag.chunk) buffer)).count
+  moved_if-told true w number front buffer some room apart = moved_in-told w number front buffer room apart
+  moved_if-told false w number front buffer empty room apart =
+      let none : list_length w.tag.chunk ≡ 0 = ap (λ (xs : List ℕ). list_length xs) (empty_chunk w.tag.chunk empty) in
+      waits w w number front buffer _ refl (nothing_there w.ring.memory (part_here w (list_length w.tag.chunk) buffer) (omega (arith, none))) room
+
+  nothing_here : (w : TagWorld D) (buffer : Buffer) → (where_there w.ring.memory (part_here w 0 buffer)).count ≡ 0
+  nothing_here w buffer = nothing_there w.ring.memory (part_here w 0 buffer) (omega arith)
+
+  closed_if-told : (closes : Bool) (w : TagWorld D) (number : ℕ) (front : Front) (buffer : Buffer) (count : ℕ) → count ≡ 0 → IsOver kind w number
+      → w.ring.consumer.progress.moved < buffer.length → AreApart (event_range w.ring.events) (home_range front.home)
+      → AddsUp w (closed_if kind closes w front buffer).0 number front buffer count
+  unfolding closed
+  closed_if-told true w number front buffer count none over room apart =
+      let left = buffer.length - w.ring.consumer.progress.moved in
+      Ends left (omega (arith, none)) (omega arith) (over.0, over.1) (shortened-tells w.ring front left buffer.flags apart)
+      (shortened-counts w.ring front left buffer.flags (w.ring.consumer.progress.edtla + count) (same_since w.ring.consumer.progress.edtla count none))
+  closed_if-told false w number front buffer count none over room apart = waits w w number front buffer count refl none room
+
+  gave_by-told : (phase : Phase) (w : TagWorld D) (number : ℕ) (front : Front) (buffer : Buffer) → kind.phase w.device number ≡ phase → has_chunk w.tag ≡ false
+      → w.ring.consumer.progress.moved < buffer.length → AreApart (event_range w.ring.events) (home_range front.home)
+      → AddsUp w (gave_by kind phase w number front buffer).0 number front buffer
+      (where_there w.ring.memory (part_here w (list_length (given_by phase (kind.given w.device number))) buffer)).count
+  unfolding refilled
+  gave_by-told Absent w number front buffer is empty room apart = waits w w number front buffer _ refl (nothing_here w buffer) room
+  gave_by-told (Gives count) w number front buffer is empty room apart =
+      let v = refilled kind w number in
+      moved_if-told (has_chunk v.tag) v number front buffer refl room apart
+  gave_by-told (Takes count) w number front buffer is empty room apart = waits w w number front buffer _ refl (nothing_here w buffer) room
+  gave_by-told (Ended end) w number front buffer is empty room apart =
+      let over : IsOver kind w number = (empty_chunk w.tag.chunk empty, subst (λ (phase : Phase). IsEnded phase) (sym is) tt) in
+      closed_if-told (is_status end && ends_td w.tag w.ring.consumer.progress.fed) w number front buffer _ (nothing_here w buffer) over room apart
+
+  ran-told : (w : TagWorld D) (number : ℕ) (front : Front) (buffer : Buffer) → w.ring.consumer.progress.moved ≤ buffer.length
+      → AreApart (event_range w.ring.events) (home_range front.home)
+      → AddsUp w (ran kind w number front buffer).0 number front buffer (part_of w.ring.memory w.ring.consumer (list_length (coming kind w number)) (Some buffer)).count
+  unfolding ran
+  ran-told w number front buffer within apart = by_tests (nat_le buffer.length w.ring.consumer.progress.moved) (has_chunk w.tag) refl refl
+    where
+      by_tests : (full some : Bool) → nat_le buffer.length w.ring.consumer.progress.moved ≡ full → has_chunk w.tag ≡ some → AddsUp w
+          (if full then (with_ring kind w (filled w.ring front buffer.flags), Worked)
+          else if some then (moved_in kind w front buffer, Worked)
+          else gave_by kind (kind.phase w.device number) w number front buffer).0 number front buffer
+          (where_there w.ring.memory (part_here w (list_length (if some then w.tag.chunk else given_by (kind.phase w.device number) (kind.given w.device number))) buffer)).count
+      by_tests true some is has =
+          let past : buffer.length ≤ w.ring.consumer.progress.moved = leb-true buffer.length w.ring.consumer.progress.moved is in
+          was_full w (with_ring kind w (filled w.ring front buffer.flags)) number front buffer _ refl (nothing_there w.ring.memory (part_here w (list_length (if some then w.tag.chunk else given_by (kind.phase w.device number) (kind.given w.device number))) buffer) (omega (arith, past))) (omega (arith, past, within)) apart
+      by_tests false true is has = moved_in-told w number front buffer (leb-false buffer.length w.ring.consumer.progress.moved is) apart
+      by_tests false false is has =
+          gave_by-told (kind.phase w.device number) w number front buffer refl has (leb-false buffer.length w.ring.consumer.progress.moved is) apart
+
+  normal-told : (ending : Ending) (w : TagWorld D) (number : ℕ) (front : Front) (buffer moved : Buffer) → (if runs ending then Some buffer else None) ≡ Some moved
+      → w.ring.consumer.progress.moved ≤ moved.length → AreApart (event_range w.ring.events) (home_range front.home)
+      → AddsUp w (normal kind ending w number front buffer).0 number front moved
+      (part_of w.ring.memory w.ring.consumer (list_length (coming kind w number)) (if runs ending then Some buffer else None)).count
+  normal-told Runs w number front buffer moved is within apart =
+      let same : buffer ≡ moved = same_Some buffer moved is in
+      subst (λ (b : Buffer). w.ring.consumer.progress.moved ≤ b.length → AddsUp w (ran kind w number front buffer).0 number front b (part_of w.ring.memory w.ring.consumer (list_length (coming kind w number)) (Some buffer)).count)
+      same (λ within. ran-told w number front buffer within apart) within
+  normal-told (Told code) w number front buffer moved is within apart = absurd (none-some moved is)
+  normal-told Owed w number front buffer moved is within apart = absurd (none-some moved is)
+
+  no_buffer : {A : Type 0} (moves : Bool) (buffer : Buffer) → (if moves then None else None) ≡ Some buffer → A
+  no_buffer true buffer is = absurd (none-some buffer is)
+  no_buffer false buffer is = absurd (none-some buffer is)
+
+  acted-told : (found : Found) (w : TagWorld D) (number : ℕ) (front : Front) (buffer : Buffer)
+      → (if runs w.ring.consumer.progress.ending then buffer_of found else None) ≡ Some buffer
+      → w.ring.consumer.progress.moved ≤ buffer.length → AreApart (event_range w.ring.events) (home_range front.home)
+      → AddsUp w (acted kind w number front found).0 number front buffer
+      (part_of w.ring.memory w.ring.consumer (list_length (coming kind w number)) (if runs w.ring.consumer.progress.ending then buffer_of found else None)).count
+  acted-told WrongKind w number front buffer is within apart = no_buffer (runs w.ring.consumer.progress.ending) buffer is
+  acted-told NotYet w number front buffer is within apart = no_buffer (runs w.ring.consumer.progress.ending) buffer is
+  acted-told (Item (Normal pointer length flags)) w number front buffer is within apart =
+      normal-told w.ring.consumer.progress.ending w number front (record { pointer = pointer; length = length; flags = flags }) buffer is within apart
+  acted-told (Item (Link pointer toggle flags)) w number front buffer is within apart = no_buffer (runs w.ring.consumer.progress.ending) buffer is
+  acted-told (Item (NoOp flags)) w number front buffer is within apart = no_buffer (runs w.ring.consumer.progress.ending) buffer is
+  acted-told (Item (EventData parameter flags)) w number front buffer is within apart = no_buffer (runs w.ring.consumer.progress.ending) buffer is
+  acted-told (Item Foreign) w number front buffer is within apart = no_buffer (runs w.ring.consumer.progress.ending) buffer is
+
+  -- a step that is let through is taken on what was found
+  stepped_on : (w : TagWorld D) (number : ℕ) (home : Home) (front : Front) (P : TagWorld D → Option Front → Type 0) → front_of w.ring home ≡ Some front
+      → (front.home ≡ home → P (acted_at kind w number front).0 (Some front))
+      → P (after w (stepped_in kind w number home)).0 (front_of w.ring home)
+  stepped_on w number home front P found holds =
+      by_gate (gate w.ring.memory w.ring.events w.ring.consumer) (looked w.ring.memory home) (looked_home w.ring.memory home) found
+    where
+      by_gate : (opens : Option (Option Acted)) (finds : Option Front) → ((f : Front) → finds ≡ Some f → f.home ≡ home) → let_through opens finds ≡ Some front
+          → P (after w (through w opens (option_map (acted_at kind w number) finds))).0 (let_through opens finds)
+      by_gate None finds homes is = absurd (none-some front is)
+      by_gate (Some None) None homes is = absurd (none-some front is)
+      by_gate (Some None) (Some f) homes is =
+          let same : f ≡ front = same_Some f front is in
+          subst (λ (g : Front). P (acted_at kind w number g).0 (Some g)) (sym same) (holds (subst (λ (g : Front). g.home ≡ home) same (homes f refl)))
+      by_gate (Some (Some acted)) finds homes is = absurd (none-some front is)
+
+  pub residuals_add_up : ResidualsAddUp kind
+  residuals_add_up w number home front buffer found is within apart =
+      stepped_on w number home front
+      (λ (new : TagWorld D) (f : Option Front). AddsUp w new number front buffer (part_of w.ring.memory w.ring.consumer (list_length (coming kind w number)) (f >>= moving w.ring.consumer)).count)
+      found (λ same. acted-told front.found w number front buffer is within
+      (subst (λ (h : Home). AreApart (event_range w.ring.events) (home_range h)) (sym same) apart))
+
+  skips : (ending : Ending) (w : TagWorld D) (number : ℕ) (front : Front) (buffer : Buffer) → (if runs ending then Some buffer else None) ≡ None
+      → normal kind ending w number front buffer ≡ normal kind (Told 2) w number front buffer
+  skips Runs w number front buffer is = absurd (none-some buffer (sym is))
+  skips (Told code) w number front buffer is = refl
+  skips Owed w number front buffer is = refl
+
+  acted-tells : (trb : PipeTrb) (w : TagWorld D) (number : ℕ) (front : Front) → (if runs w.ring.consumer.progress.ending then buffer_of (Item trb) else None) ≡ None
+      → AreApart (event_range w.ring.events) (home_range front.home)
+      → IsToldOf trb w.ring.consumer w.ring.events (acted kind w number front (Item trb)).0.ring front.cursor.place
+  acted-tells (Normal pointer length flags) w number front is apart =
+      let buffer : Buffer = record { pointer = pointer; length = length; flags = flags } in
+      subst (λ (done : TagWorld D × Acted). IsToldOf (Normal pointer length flags) w.ring.consumer w.ring.events done.0.ring front.cursor.place)
+      (sym (skips w.ring.consumer.progress.ending w number front buffer is)) (skipped-tells w.ring front length flags apart)
+  acted-tells (Link pointer toggle flags) w number front is apart = linked-tells w.ring front pointer toggle flags apart
+  acted-tells (NoOp flags) w number front is apart = passed-tells w.ring.consumer.progress.ending w.ring front flags apart
+  acted-tells (EventData parameter flags) w number front is apart =
+      (data_told-tells w.ring front parameter flags apart, data_told-restarts w.ring front parameter flags)
+  acted-tells Foreign w number front is apart = erred-tells w.ring front apart
+
+  pub an_event_each : AnEventEach kind
+  an_event_each w number home front trb found is moves apart =
+      stepped_on w number home front (λ (new : TagWorld D) (f : Option Front). IsToldOf trb w.ring.consumer w.ring.events new.ring front.cursor.place) found
+      (λ same.
+      let apart_here = subst (λ (h : Home). AreApart (event_range w.ring.events) (home_range h)) (sym same) apart in
+      subst (λ (f : Found). IsToldOf trb w.ring.consumer w.ring.events (acted kind w number front f).0.ring front.cursor.place) (sym is)
+      (acted-tells trb w number front (sym (ap (λ (f : Found). if runs w.ring.consumer.progress.ending then buffer_of f else None) is) ∙ moves) apart_here))

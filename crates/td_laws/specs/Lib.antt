@@ -1,0 +1,10 @@
+pub mod Places
+pub mod NothingElse
+pub mod Turns
+pub mod Unfreed
+pub mod NotOvertaken
+pub mod Noting
+pub mod InOrder
+pub mod Beside
+pub mod OutInOrder
+pub mod Told

@@ -14,7 +14,8 @@ use Rattle.guest_tags.specs.Tags.{TagWorld}
 use Rattle.td_laws.specs.Noting.{Noted, noting}
 use Rattle.td_laws.specs.NothingElse.{LeavesElse}
 use Rattle.td_laws.specs.Places.{AreApart, event_range}
-use Rattle.td_laws.specs.InOrder.{GivenInOrder, Others, StayFilled, Steps, TagTurn, all_stepped, held_by, held_in, part_filled, parts_filled, stepped}
+use Rattle.td_laws.specs.InOrder.{AreLeft, AreSpared, GivenInOrder, StayFilled, held_by, held_in}
+use Rattle.td_laws.specs.Runs.{Others, Steps, TagTurn, all_stepped, part_filled, parts_filled, stepped}
 use Rattle.td_laws.proofs.DataInElse.{data_in_leaves}
 use Rattle.td_laws.proofs.Noted.{step-orders}
 
@@ -44,15 +45,15 @@ module _ {D : Type 0} (kind : Kind D) (number : ℕ) (home : Home) where
   Tags = TagWorld (Noted D)
 
   abbrev final : Tags → List (TagTurn Tags) → Tags
-  final w turns = all_stepped kind number home w turns
+  final w turns = all_stepped (noting kind) number home w turns
 
   -- what was filled stays
   stays : (turns : List (TagTurn Tags)) (parts : List Range) (w : Tags) → StayFilled kind number home parts w turns
       → HoldTheSame (final w turns).ring.memory w.ring.memory parts
   stays [] parts w filled = itself w.ring.memory parts
   stays (Steps ∷ turns) parts w filled =
-      let v = stepped kind number home w in
-      let part = part_filled kind number home w in
+      let v = stepped (noting kind) number home w in
+      let part = part_filled (noting kind) number home w in
       through_both (final v turns).ring.memory v.ring.memory w.ring.memory parts (stays turns (part ∷ parts) v filled.1).1
       (left_same w.ring.memory w.ring.events v.ring home part (data_in_leaves (noting kind) w number home) parts filled.0.refilled filled.0.events.1 filled.0.ends.1)
   stays (Others other ∷ turns) parts w filled =
@@ -63,17 +64,17 @@ module _ {D : Type 0} (kind : Kind D) (number : ℕ) (home : Home) where
       → (final w turns).tag.drops ≡ false → w.tag.drops ≡ false
   kept_before [] parts w filled kept = kept
   kept_before (Steps ∷ turns) parts w filled kept =
-      let v = stepped kind number home w in
-      (step-orders kind w number home).drops (kept_before turns (part_filled kind number home w ∷ parts) v filled.1 kept)
+      let v = stepped (noting kind) number home w in
+      (step-orders kind w number home).drops (kept_before turns (part_filled (noting kind) number home w ∷ parts) v filled.1 kept)
   kept_before (Others other ∷ turns) parts w filled kept = sym filled.0.drops ∙ kept_before turns parts other filled.1 kept
 
   in_order : (turns : List (TagTurn Tags)) (parts : List Range) (w : Tags) (before : List ℕ) → StayFilled kind number home parts w turns
       → (final w turns).tag.drops ≡ false → before ++ w.tag.chunk ≡ w.device.given
-      → (before ++ held_by (final w turns).ring.memory (parts_filled kind number home w turns)) ++ (final w turns).tag.chunk ≡ (final w turns).device.given
+      → (before ++ held_by (final w turns).ring.memory (parts_filled (noting kind) number home w turns)) ++ (final w turns).tag.chunk ≡ (final w turns).device.given
   in_order [] parts w before filled kept is = ap (λ (b : List ℕ). b ++ w.tag.chunk) (append-nil before) ∙ is
   in_order (Steps ∷ turns) parts w before filled kept is =
-      let v = stepped kind number home w in
-      let part = part_filled kind number home w in
+      let v = stepped (noting kind) number home w in
+      let part = part_filled (noting kind) number home w in
       let end = final v turns in
       let kept_there = kept_before turns (part ∷ parts) v filled.1 kept in
       let one = (step-orders kind w number home).order kept_there filled.0.events.0 filled.0.ends.0 before is in
@@ -81,7 +82,7 @@ module _ {D : Type 0} (kind : Kind D) (number : ℕ) (home : Home) where
       let here = unwrap_or (held_in end.ring.memory part) [] in
       let now : (before ++ here) ++ v.tag.chunk ≡ v.device.given =
       ap (λ (h : Option (List ℕ)). (before ++ unwrap_or h []) ++ v.tag.chunk) same ∙ one in
-      ap (λ (b : List ℕ). b ++ end.tag.chunk) (sym (append_assoc before here (held_by end.ring.memory (parts_filled kind number home v turns))))
+      ap (λ (b : List ℕ). b ++ end.tag.chunk) (sym (append_assoc before here (held_by end.ring.memory (parts_filled (noting kind) number home v turns))))
       ∙ in_order turns (part ∷ parts) v (before ++ here) filled.1 kept now
   in_order (Others other ∷ turns) parts w before filled kept is =
       in_order turns parts other before filled.1 kept (ap (λ (c : List ℕ). before ++ c) filled.0.chunk ∙ is ∙ sym filled.0.given)

@@ -27,7 +27,7 @@ use Rattle.guest_out.specs.Immediate.{bytes_out, is_immediate}
 use Rattle.guest_out.specs.Worlds.{OutWorld}
 use Rattle.td_laws.specs.Noting.{Noted, noting}
 use Rattle.td_laws.specs.Places.{let_through}
-use Rattle.td_laws.specs.InOrder.{Others, Steps, TagTurn}
+use Rattle.td_laws.specs.Runs.{Others, Steps, TagTurn}
 use Rattle.td_laws.specs.OutInOrder.{LeaveHanded, TakenInOrder, all_out_stepped, all_taken, handed, out_stepped, taken_by, taken_of}
 
 no_bytes : (memory : Memory) (buffer : Buffer) (moved count : ℕ) → count ≡ 0 → bytes_out memory buffer moved count ≡ Some []

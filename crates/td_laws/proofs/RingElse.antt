@@ -38,7 +38,7 @@ unfolding stream_bytes pointer_bytes
 home_sized (Stream at) cursor = refl
 home_sized (Endpoint at) cursor = refl
 
-sized : (at n : ℕ) (bytes : List ℕ) (a : ℕ) → length bytes ≡ n → is_in at n a ≡ false → is_in at (length bytes) a ≡ false
+pub sized : (at n : ℕ) (bytes : List ℕ) (a : ℕ) → length bytes ≡ n → is_in at n a ≡ false → is_in at (length bytes) a ≡ false
 sized at n bytes a size outside = ap (λ (k : ℕ). is_in at k a) size ∙ outside
 
 posted_else : (w : World) (event : Event) (quiet : Bool) (a : ℕ) → IsOutside a (event_range w.events) → (posted w event quiet).memory a ≡ w.memory a

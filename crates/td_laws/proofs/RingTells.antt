@@ -46,15 +46,6 @@ tells true w event quiet v home cursor memory events apart = record {
 }
 tells false w event quiet v home cursor memory events apart = stood_events v home cursor ∙ events
 
-pub posted_consumer : (told : Bool) (w : World) (event : Event) (quiet : Bool) → (posted_if told w event quiet).consumer ≡ w.consumer
-unfolding posted
-posted_consumer true w event quiet = refl
-posted_consumer false w event quiet = refl
-
-stood_consumer : (w : World) (home : Home) (cursor : Cursor) → (stood w home cursor).consumer ≡ w.consumer
-unfolding stood
-stood_consumer w home cursor = refl
-
 pub past_counts : (progress : Progress) (chain : Bool) (edtla : ℕ) → progress.edtla % 2 ^ 24 ≡ edtla % 2 ^ 24
     → Counts (past progress chain) 0 (edtla_behind chain edtla)
 past_counts progress true edtla since = record { in_trb = refl; since = since }
@@ -157,6 +148,51 @@ unfolding data_told consumed stood
 data_told-restarts w front parameter flags =
     let event : Event = Transfer parameter w.consumer.progress.edtla (code_of w.consumer.progress.ending) w.consumer.endpoint true in
     past_none (posted_if flags.ioc w event flags.bei).consumer.progress flags.ioc flags.chain
+
+-- it goes on, or begins anew, behind another TRB
+past_edtla : (progress : Progress) (chain : Bool) → (past progress chain).edtla ≡ edtla_behind chain progress.edtla
+past_edtla progress true = refl
+past_edtla progress false = refl
+
+told_progress : (told : Bool) (w : World) (event : Event) (quiet : Bool) → (posted_if told w event quiet).consumer.progress ≡ w.consumer.progress
+unfolding posted
+told_progress true w event quiet = refl
+told_progress false w event quiet = refl
+
+consumed-edtla : (v : World) (front : Front) (chain : Bool) → (consumed v front chain).consumer.progress.edtla ≡ edtla_behind chain v.consumer.progress.edtla
+unfolding consumed stood
+consumed-edtla v front chain = past_edtla v.consumer.progress chain
+
+pub skipped-edtla : (w : World) (front : Front) (length : ℕ) (flags : Flags)
+    → (skipped w front length flags).consumer.progress.edtla ≡ edtla_behind flags.chain w.consumer.progress.edtla
+unfolding skipped
+skipped-edtla w front length flags =
+    let told = owes w.consumer.progress.ending && (not flags.chain && flags.ioc) in
+    let event = about w.consumer front.cursor.place length 13 in
+    consumed-edtla (posted_if told w event flags.bei) front flags.chain
+    ∙ ap (λ (progress : Progress). edtla_behind flags.chain progress.edtla) (told_progress told w event flags.bei)
+
+filled-edtla : (w : World) (front : Front) (flags : Flags) → (filled w front flags).consumer.progress.edtla ≡ edtla_behind flags.chain w.consumer.progress.edtla
+unfolding filled
+filled-edtla w front flags =
+    let event = about w.consumer front.cursor.place 0 1 in
+    consumed-edtla (posted_if flags.ioc w event flags.bei) front flags.chain
+    ∙ ap (λ (progress : Progress). edtla_behind flags.chain progress.edtla) (told_progress flags.ioc w event flags.bei)
+
+pub passed-edtla : (ending : Ending) (w : World) (front : Front) (flags : Flags)
+    → (passed ending w front flags).consumer.progress.edtla ≡ edtla_behind flags.chain w.consumer.progress.edtla
+passed-edtla Runs w front flags = filled-edtla w front flags
+passed-edtla (Told code) w front flags = consumed-edtla w front flags.chain
+passed-edtla Owed w front flags = consumed-edtla w front flags.chain
+
+pub linked-progress : (w : World) (front : Front) (pointer : ℕ) (toggle : Bool) (flags : Flags)
+    → (linked w front pointer toggle flags).consumer.progress ≡ w.consumer.progress
+unfolding linked stood
+linked-progress w front pointer toggle flags = told_progress flags.ioc w (about w.consumer front.cursor.place 0 1) flags.bei
+
+pub erred-edtla : (w : World) (front : Front) → (erred w front).consumer.progress.edtla ≡ w.consumer.progress.edtla
+unfolding posted
+erred-edtla w front = refl
 
 pub erred-tells : (w : World) (front : Front) → AreApart (event_range w.events) (home_range front.home)
     → HasTold w.events (erred w front) (about w.consumer front.cursor.place 0 5) false

@@ -5,6 +5,8 @@ use Rattle.std.proofs.Math.Nat.{mod-mod}
 use Rattle.std.proofs.lemmas.Bool.{eqb-false, eqb-true, leb-false, leb-true}
 use Rattle.std.proofs.lemmas.List.{length-take-le}
 use Rattle.std.proofs.lemmas.Option.{none-some, same_Some}
+use Rattle.guest_memory.specs.Ranges.{written_beside}
+use Rattle.guest_pipes.specs.declared.progress.Progress.{Progress}
 use Rattle.guest_memory.specs.Bytes.{is_there, ◌>>=◌}
 use Rattle.guest_rings.specs.declared.context.Home.{Home}
 use Rattle.guest_rings.specs.declared.context.Front.{Front}
@@ -30,16 +32,19 @@ use Rattle.guest_tags.specs.Tags.{TagWorld}
 use Rattle.guest_tags.specs.DataIn.{acted, acted_at, closed, closed_if, ends_td, filled_ring, gave_by, given_to, has_chunk, is_status, lost, moved_count, moved_if, moved_in, normal, ran, refilled, stepped_in, with_ring}
 use Rattle.guest_tags.specs.Wanted.{buffer_of, moving}
 use Rattle.td_laws.specs.Places.{AreApart, coming, event_range, front_of, given_by, let_through, nowhere, part_of, where_there}
-use Rattle.td_laws.specs.Told.{AnEventEach, Ends, Fails, Fills, Goes, IsOver, IsTold, IsToldOf, ResidualsAddUp}
+use Rattle.td_laws.specs.Told.{AnEventEach, Counts, Ends, Fails, Fills, Goes, HasTold, IsDropped, IsOver, IsTold, IsToldOf, ResidualsAddUp, Stays, Tells, edtla_past}
 use Rattle.td_laws.proofs.Fronts.{looked_home}
 use Rattle.td_laws.proofs.Noted.{empty_chunk, nothing_there}
-use Rattle.td_laws.proofs.RingTells.{data_told-restarts, data_told-tells, erred-tells, failed-tells, filled-counts, filled-tells, linked-tells, passed-tells, shortened-counts, shortened-tells, skipped-tells}
+use Rattle.td_laws.proofs.RingElse.{sized}
+use Rattle.td_laws.proofs.RingTells.{data_told-restarts, data_told-tells, erred-edtla, erred-tells, failed-tells, filled-counts, filled-tells, linked-progress, linked-tells, passed-edtla, passed-tells, shortened-counts, shortened-tells, skipped-edtla, skipped-tells}
+
+poured_since : (edtla n count : ℕ) → n ≡ count → ((edtla + n) % 2 ^ 24) % 2 ^ 24 ≡ (edtla + count) % 2 ^ 24
+poured_since edtla n count size = mod-mod (edtla + n) (2 ^ 24) ∙ ap (λ (k : ℕ). (edtla + k) % 2 ^ 24) size
 
 module _ {D : Type 0} (kind : Kind D) where
-  -- what a step that left this told, of a buffer of which part was filled
-  abbrev AddsUp : TagWorld D → TagWorld D → ℕ → Front → Buffer → ℕ → Type 0
-  AddsUp w new number front buffer count = IsTold w.ring.consumer w.ring.events new.ring front.cursor.place buffer
-      (w.ring.consumer.progress.moved + count) (w.ring.consumer.progress.edtla + count) (IsOver kind new number)
+  -- what a step that left this told, of a buffer of which it filled a part
+  abbrev AddsUp : TagWorld D → TagWorld D → ℕ → Front → Buffer → Range → Type 0
+  AddsUp w new number front buffer part = IsTold w.ring new.ring front.cursor.place buffer part (IsOver kind new number) (IsDropped kind new)
 
   abbrev part_here : TagWorld D → ℕ → Buffer → Range
   part_here w count buffer = record { at = buffer.pointer + w.ring.consumer.progress.moved; count = min count (buffer.length - w.ring.consumer.progress.moved) }
@@ -48,67 +53,67 @@ module _ {D : Type 0} (kind : Kind D) where
   same_since edtla count none = ap (λ (n : ℕ). n % 2 ^ 24) (sym (add-zero edtla) ∙ ap (λ (n : ℕ). edtla + n) (sym none))
 
   -- the TRB waits, with nothing moved
-  waits : (w new : TagWorld D) (number : ℕ) (front : Front) (buffer : Buffer) (count : ℕ) → new.ring ≡ w.ring → count ≡ 0
-      → w.ring.consumer.progress.moved < buffer.length → AddsUp w new number front buffer count
-  waits w new number front buffer count same none room =
-      let moved : w.ring.consumer.progress.moved ≡ w.ring.consumer.progress.moved + count = omega (arith, none) in
-      subst (λ (ring : World). IsTold w.ring.consumer w.ring.events ring front.cursor.place buffer (w.ring.consumer.progress.moved + count) (w.ring.consumer.progress.edtla + count) (IsOver kind new number))
-      (sym same)
-      (Goes (omega (arith, none)) refl (record { in_trb = moved; since = same_since w.ring.consumer.progress.edtla count none }))
+  waits : (w new : TagWorld D) (number : ℕ) (front : Front) (buffer : Buffer) (part : Range) → new.ring ≡ w.ring → part.count ≡ 0
+      → w.ring.consumer.progress.moved < buffer.length → AddsUp w new number front buffer part
+  waits w new number front buffer part same none room =
+      let moved : w.ring.consumer.progress.moved ≡ w.ring.consumer.progress.moved + part.count = omega (arith, none) in
+      subst (λ (ring : World). IsTold w.ring ring front.cursor.place buffer part (IsOver kind new number) (IsDropped kind new)) (sym same)
+      (Goes (omega (arith, none)) (record { others = λ a outside. refl; events = refl; ending = refl })
+      (record { in_trb = moved; since = same_since w.ring.consumer.progress.edtla part.count none }))
 
   -- it is full, and nothing moved
-  was_full : (w new : TagWorld D) (number : ℕ) (front : Front) (buffer : Buffer) (count : ℕ) → new.ring ≡ filled w.ring front buffer.flags → count ≡ 0
-      → w.ring.consumer.progress.moved ≡ buffer.length → AreApart (event_range w.ring.events) (home_range front.home) → AddsUp w new number front buffer count
-  was_full w new number front buffer count same none full apart =
-      subst (λ (ring : World). IsTold w.ring.consumer w.ring.events ring front.cursor.place buffer (w.ring.consumer.progress.moved + count) (w.ring.consumer.progress.edtla + count) (IsOver kind new number))
-      (sym same)
+  was_full : (w new : TagWorld D) (number : ℕ) (front : Front) (buffer : Buffer) (part : Range) → new.ring ≡ filled w.ring front buffer.flags → part.count ≡ 0
+      → w.ring.consumer.progress.moved ≡ buffer.length → AreApart (event_range w.ring.events) (home_range front.home) → AddsUp w new number front buffer part
+  was_full w new number front buffer part same none full apart =
+      subst (λ (ring : World). IsTold w.ring ring front.cursor.place buffer part (IsOver kind new number) (IsDropped kind new)) (sym same)
       (Fills (omega (arith, none)) (filled-tells w.ring front buffer.flags apart)
-      (filled-counts w.ring front buffer.flags (w.ring.consumer.progress.edtla + count) (same_since w.ring.consumer.progress.edtla count none)))
+      (filled-counts w.ring front buffer.flags (w.ring.consumer.progress.edtla + part.count) (same_since w.ring.consumer.progress.edtla part.count none)))
 
   -- so many bytes moved, and the TRB is full with them or not
   went : (full : Bool) (w : TagWorld D) (number : ℕ) (front : Front) (buffer : Buffer) → (w.ring.consumer.progress.moved + moved_count kind w buffer == buffer.length) ≡ full
       → w.ring.consumer.progress.moved < buffer.length → AreApart (event_range w.ring.events) (home_range front.home)
-      → AddsUp w (filled_ring kind full (given_to kind w (buffer.pointer + w.ring.consumer.progress.moved) (moved_count kind w buffer)) front buffer) number front buffer (moved_count kind w buffer)
+      → AddsUp w (filled_ring kind full (given_to kind w (buffer.pointer + w.ring.consumer.progress.moved) (moved_count kind w buffer)) front buffer) number front buffer
+      (part_here w (list_length w.tag.chunk) buffer)
   unfolding given_to poured
-  went full w number front buffer is room apart =
-      let count = moved_count kind w buffer in
-      let bytes = take count w.tag.chunk in
-      let v = poured w.ring (buffer.pointer + w.ring.consumer.progress.moved) bytes in
-      let size : list_length (take (moved_count kind w buffer) w.tag.chunk) ≡ moved_count kind w buffer = length-take-le (moved_count kind w buffer) w.tag.chunk (omega arith) in
-      let since : v.consumer.progress.edtla % 2 ^ 24 ≡ (w.ring.consumer.progress.edtla + count) % 2 ^ 24 =
-      mod-mod (w.ring.consumer.progress.edtla + list_length bytes) (2 ^ 24) ∙ ap (λ (n : ℕ). (w.ring.consumer.progress.edtla + n) % 2 ^ 24) size in
-      let in_trb : w.ring.consumer.progress.moved + list_length bytes ≡ w.ring.consumer.progress.moved + count = ap (λ (n : ℕ). w.ring.consumer.progress.moved + n) size in
-      by_full full is since in_trb
+  went full w number front buffer is room apart = by_full full is (length-take-le (moved_count kind w buffer) w.tag.chunk (omega arith))
     where
       by_full : (f : Bool) → (w.ring.consumer.progress.moved + moved_count kind w buffer == buffer.length) ≡ f
-          → (poured w.ring (buffer.pointer + w.ring.consumer.progress.moved) (take (moved_count kind w buffer) w.tag.chunk)).consumer.progress.edtla % 2 ^ 24 ≡ (w.ring.consumer.progress.edtla + moved_count kind w buffer) % 2 ^ 24
-          → w.ring.consumer.progress.moved + list_length (take (moved_count kind w buffer) w.tag.chunk) ≡ w.ring.consumer.progress.moved + moved_count kind w buffer
-          → AddsUp w (filled_ring kind f (given_to kind w (buffer.pointer + w.ring.consumer.progress.moved) (moved_count kind w buffer)) front buffer) number front buffer (moved_count kind w buffer)
-      by_full true is since in_trb =
+          → list_length (take (moved_count kind w buffer) w.tag.chunk) ≡ moved_count kind w buffer
+          → AddsUp w (filled_ring kind f (given_to kind w (buffer.pointer + w.ring.consumer.progress.moved) (moved_count kind w buffer)) front buffer) number front buffer
+          (part_here w (list_length w.tag.chunk) buffer)
+      by_full true is size =
           let v = poured w.ring (buffer.pointer + w.ring.consumer.progress.moved) (take (moved_count kind w buffer) w.tag.chunk) in
           Fills (eqb-true (w.ring.consumer.progress.moved + moved_count kind w buffer) buffer.length is) (filled-tells v front buffer.flags apart)
-          (filled-counts v front buffer.flags (w.ring.consumer.progress.edtla + moved_count kind w buffer) since)
-      by_full false is since in_trb =
+          (filled-counts v front buffer.flags (w.ring.consumer.progress.edtla + moved_count kind w buffer)
+          (poured_since w.ring.consumer.progress.edtla _ (moved_count kind w buffer) size))
+      by_full false is size =
           let other = eqb-false (w.ring.consumer.progress.moved + moved_count kind w buffer) buffer.length is in
           let below : w.ring.consumer.progress.moved + moved_count kind w buffer < buffer.length = omega (arith, other) in
-          Goes below refl (record { in_trb = in_trb; since = since })
+          let to = buffer.pointer + w.ring.consumer.progress.moved in
+          let bytes = take (moved_count kind w buffer) w.tag.chunk in
+          Goes below
+          (record { others = λ a outside. written_beside w.ring.memory to bytes a (sized to (moved_count kind w buffer) bytes a size outside); events = refl; ending = refl })
+          (record {
+            in_trb = ap (λ (n : ℕ). w.ring.consumer.progress.moved + n) size;
+            since = poured_since w.ring.consumer.progress.edtla (list_length bytes) (moved_count kind w buffer) size;
+          })
 
   moved_in-told : (w : TagWorld D) (number : ℕ) (front : Front) (buffer : Buffer) → w.ring.consumer.progress.moved < buffer.length
       → AreApart (event_range w.ring.events) (home_range front.home)
-      → AddsUp w (moved_in kind w front buffer) number front buffer (where_there w.ring.memory (part_here w (list_length w.tag.chunk) buffer)).count
+      → AddsUp w (moved_in kind w front buffer) number front buffer (where_there w.ring.memory (part_here w (list_length w.tag.chunk) buffer))
   unfolding moved_in lost
   moved_in-told w number front buffer room apart = by_there (is_there w.ring.memory (buffer.pointer + w.ring.consumer.progress.moved) (moved_count kind w buffer))
     where
       by_there : (there : Bool) → AddsUp w
           (if there then filled_ring kind (w.ring.consumer.progress.moved + moved_count kind w buffer == buffer.length) (given_to kind w (buffer.pointer + w.ring.consumer.progress.moved) (moved_count kind w buffer)) front buffer
           else lost kind w front buffer) number front buffer
-          (if there then part_here w (list_length w.tag.chunk) buffer else nowhere).count
+          (if there then part_here w (list_length w.tag.chunk) buffer else nowhere)
       by_there true = went (w.ring.consumer.progress.moved + moved_count kind w buffer == buffer.length) w number front buffer refl room apart
-      by_there false = Fails (failed-tells w.ring front buffer.length buffer.flags apart)
+      by_there false = Fails (failed-tells w.ring front buffer.length buffer.flags apart) (refl, refl)
 
   moved_if-told : (some : Bool) (w : TagWorld D) (number : ℕ) (front : Front) (buffer : Buffer) → has_chunk w.tag ≡ some
       → w.ring.consumer.progress.moved < buffer.length → AreApart (event_range w.ring.events) (home_range front.home)
-      → AddsUp w (moved_if kind some w front buffer) number front buffer (where_there w.ring.memory (part_here w (list_length w.tag.chunk) buffer)).count
+      → AddsUp w (moved_if kind some w front buffer) number front buffer (where_there w.ring.memory (part_here w (list_length w.tag.chunk) buffer))
   moved_if-told true w number front buffer some room apart = moved_in-told w number front buffer room apart
   moved_if-told false w number front buffer empty room apart =
       let none : list_length w.tag.chunk ≡ 0 = ap (λ (xs : List ℕ). list_length xs) (empty_chunk w.tag.chunk empty) in
@@ -117,20 +122,20 @@ module _ {D : Type 0} (kind : Kind D) where
   nothing_here : (w : TagWorld D) (buffer : Buffer) → (where_there w.ring.memory (part_here w 0 buffer)).count ≡ 0
   nothing_here w buffer = nothing_there w.ring.memory (part_here w 0 buffer) (omega arith)
 
-  closed_if-told : (closes : Bool) (w : TagWorld D) (number : ℕ) (front : Front) (buffer : Buffer) (count : ℕ) → count ≡ 0 → IsOver kind w number
+  closed_if-told : (closes : Bool) (w : TagWorld D) (number : ℕ) (front : Front) (buffer : Buffer) (part : Range) → part.count ≡ 0 → IsOver kind w number
       → w.ring.consumer.progress.moved < buffer.length → AreApart (event_range w.ring.events) (home_range front.home)
-      → AddsUp w (closed_if kind closes w front buffer).0 number front buffer count
+      → AddsUp w (closed_if kind closes w front buffer).0 number front buffer part
   unfolding closed
-  closed_if-told true w number front buffer count none over room apart =
+  closed_if-told true w number front buffer part none over room apart =
       let left = buffer.length - w.ring.consumer.progress.moved in
       Ends left (omega (arith, none)) (omega arith) (over.0, over.1) (shortened-tells w.ring front left buffer.flags apart)
-      (shortened-counts w.ring front left buffer.flags (w.ring.consumer.progress.edtla + count) (same_since w.ring.consumer.progress.edtla count none))
-  closed_if-told false w number front buffer count none over room apart = waits w w number front buffer count refl none room
+      (shortened-counts w.ring front left buffer.flags (w.ring.consumer.progress.edtla + part.count) (same_since w.ring.consumer.progress.edtla part.count none))
+  closed_if-told false w number front buffer part none over room apart = waits w w number front buffer part refl none room
 
   gave_by-told : (phase : Phase) (w : TagWorld D) (number : ℕ) (front : Front) (buffer : Buffer) → kind.phase w.device number ≡ phase → has_chunk w.tag ≡ false
       → w.ring.consumer.progress.moved < buffer.length → AreApart (event_range w.ring.events) (home_range front.home)
       → AddsUp w (gave_by kind phase w number front buffer).0 number front buffer
-      (where_there w.ring.memory (part_here w (list_length (given_by phase (kind.given w.device number))) buffer)).count
+      (where_there w.ring.memory (part_here w (list_length (given_by phase (kind.given w.device number))) buffer))
   unfolding refilled
   gave_by-told Absent w number front buffer is empty room apart = waits w w number front buffer _ refl (nothing_here w buffer) room
   gave_by-told (Gives count) w number front buffer is empty room apart =
@@ -143,7 +148,7 @@ module _ {D : Type 0} (kind : Kind D) where
 
   ran-told : (w : TagWorld D) (number : ℕ) (front : Front) (buffer : Buffer) → w.ring.consumer.progress.moved ≤ buffer.length
       → AreApart (event_range w.ring.events) (home_range front.home)
-      → AddsUp w (ran kind w number front buffer).0 number front buffer (part_of w.ring.memory w.ring.consumer (list_length (coming kind w number)) (Some buffer)).count
+      → AddsUp w (ran kind w number front buffer).0 number front buffer (part_of w.ring.memory w.ring.consumer (list_length (coming kind w number)) (Some buffer))
   unfolding ran
   ran-told w number front buffer within apart = by_tests (nat_le buffer.length w.ring.consumer.progress.moved) (has_chunk w.tag) refl refl
     where
@@ -151,7 +156,7 @@ module _ {D : Type 0} (kind : Kind D) where
           (if full then (with_ring kind w (filled w.ring front buffer.flags), Worked)
           else if some then (moved_in kind w front buffer, Worked)
           else gave_by kind (kind.phase w.device number) w number front buffer).0 number front buffer
-          (where_there w.ring.memory (part_here w (list_length (if some then w.tag.chunk else given_by (kind.phase w.device number) (kind.given w.device number))) buffer)).count
+          (where_there w.ring.memory (part_here w (list_length (if some then w.tag.chunk else given_by (kind.phase w.device number) (kind.given w.device number))) buffer))
       by_tests true some is has =
           let past : buffer.length ≤ w.ring.consumer.progress.moved = leb-true buffer.length w.ring.consumer.progress.moved is in
           was_full w (with_ring kind w (filled w.ring front buffer.flags)) number front buffer _ refl (nothing_there w.ring.memory (part_here w (list_length (if some then w.tag.chunk else given_by (kind.phase w.device number) (kind.given w.device number))) buffer) (omega (arith, past))) (omega (arith, past, within)) apart
@@ -162,10 +167,10 @@ module _ {D : Type 0} (kind : Kind D) where
   normal-told : (ending : Ending) (w : TagWorld D) (number : ℕ) (front : Front) (buffer moved : Buffer) → (if runs ending then Some buffer else None) ≡ Some moved
       → w.ring.consumer.progress.moved ≤ moved.length → AreApart (event_range w.ring.events) (home_range front.home)
       → AddsUp w (normal kind ending w number front buffer).0 number front moved
-      (part_of w.ring.memory w.ring.consumer (list_length (coming kind w number)) (if runs ending then Some buffer else None)).count
+      (part_of w.ring.memory w.ring.consumer (list_length (coming kind w number)) (if runs ending then Some buffer else None))
   normal-told Runs w number front buffer moved is within apart =
       let same : buffer ≡ moved = same_Some buffer moved is in
-      subst (λ (b : Buffer). w.ring.consumer.progress.moved ≤ b.length → AddsUp w (ran kind w number front buffer).0 number front b (part_of w.ring.memory w.ring.consumer (list_length (coming kind w number)) (Some buffer)).count)
+      subst (λ (b : Buffer). w.ring.consumer.progress.moved ≤ b.length → AddsUp w (ran kind w number front buffer).0 number front b (part_of w.ring.memory w.ring.consumer (list_length (coming kind w number)) (Some buffer)))
       same (λ within. ran-told w number front buffer within apart) within
   normal-told (Told code) w number front buffer moved is within apart = absurd (none-some moved is)
   normal-told Owed w number front buffer moved is within apart = absurd (none-some moved is)
@@ -178,7 +183,7 @@ module _ {D : Type 0} (kind : Kind D) where
       → (if runs w.ring.consumer.progress.ending then buffer_of found else None) ≡ Some buffer
       → w.ring.consumer.progress.moved ≤ buffer.length → AreApart (event_range w.ring.events) (home_range front.home)
       → AddsUp w (acted kind w number front found).0 number front buffer
-      (part_of w.ring.memory w.ring.consumer (list_length (coming kind w number)) (if runs w.ring.consumer.progress.ending then buffer_of found else None)).count
+      (part_of w.ring.memory w.ring.consumer (list_length (coming kind w number)) (if runs w.ring.consumer.progress.ending then buffer_of found else None))
   acted-told WrongKind w number front buffer is within apart = no_buffer (runs w.ring.consumer.progress.ending) buffer is
   acted-told NotYet w number front buffer is within apart = no_buffer (runs w.ring.consumer.progress.ending) buffer is
   acted-told (Item (Normal pointer length flags)) w number front buffer is within apart =
@@ -207,9 +212,13 @@ module _ {D : Type 0} (kind : Kind D) where
   pub residuals_add_up : ResidualsAddUp kind
   residuals_add_up w number home front buffer found is within apart =
       stepped_on w number home front
-      (λ (new : TagWorld D) (f : Option Front). AddsUp w new number front buffer (part_of w.ring.memory w.ring.consumer (list_length (coming kind w number)) (f >>= moving w.ring.consumer)).count)
+      (λ (new : TagWorld D) (f : Option Front). AddsUp w new number front buffer (part_of w.ring.memory w.ring.consumer (list_length (coming kind w number)) (f >>= moving w.ring.consumer)))
       found (λ same. acted-told front.found w number front buffer is within
       (subst (λ (h : Home). AreApart (event_range w.ring.events) (home_range h)) (sym same) apart))
+
+  -- what is told of a TRB that moves nothing, and what EDTLA is behind it
+  abbrev TellsOf : PipeTrb → TagWorld D → Front → World → Type 0
+  TellsOf trb w front new = IsToldOf trb w.ring.consumer w.ring.events new front.cursor.place × (new.consumer.progress.edtla ≡ edtla_past trb w.ring.consumer.progress.edtla)
 
   skips : (ending : Ending) (w : TagWorld D) (number : ℕ) (front : Front) (buffer : Buffer) → (if runs ending then Some buffer else None) ≡ None
       → normal kind ending w number front buffer ≡ normal kind (Told 2) w number front buffer
@@ -218,22 +227,23 @@ module _ {D : Type 0} (kind : Kind D) where
   skips Owed w number front buffer is = refl
 
   acted-tells : (trb : PipeTrb) (w : TagWorld D) (number : ℕ) (front : Front) → (if runs w.ring.consumer.progress.ending then buffer_of (Item trb) else None) ≡ None
-      → AreApart (event_range w.ring.events) (home_range front.home)
-      → IsToldOf trb w.ring.consumer w.ring.events (acted kind w number front (Item trb)).0.ring front.cursor.place
+      → AreApart (event_range w.ring.events) (home_range front.home) → TellsOf trb w front (acted kind w number front (Item trb)).0.ring
   acted-tells (Normal pointer length flags) w number front is apart =
       let buffer : Buffer = record { pointer = pointer; length = length; flags = flags } in
-      subst (λ (done : TagWorld D × Acted). IsToldOf (Normal pointer length flags) w.ring.consumer w.ring.events done.0.ring front.cursor.place)
-      (sym (skips w.ring.consumer.progress.ending w number front buffer is)) (skipped-tells w.ring front length flags apart)
-  acted-tells (Link pointer toggle flags) w number front is apart = linked-tells w.ring front pointer toggle flags apart
-  acted-tells (NoOp flags) w number front is apart = passed-tells w.ring.consumer.progress.ending w.ring front flags apart
+      subst (λ (done : TagWorld D × Acted). TellsOf (Normal pointer length flags) w front done.0.ring)
+      (sym (skips w.ring.consumer.progress.ending w number front buffer is)) (skipped-tells w.ring front length flags apart, skipped-edtla w.ring front length flags)
+  acted-tells (Link pointer toggle flags) w number front is apart =
+      (linked-tells w.ring front pointer toggle flags apart, ap (λ (progress : Progress). progress.edtla) (linked-progress w.ring front pointer toggle flags))
+  acted-tells (NoOp flags) w number front is apart =
+      (passed-tells w.ring.consumer.progress.ending w.ring front flags apart, passed-edtla w.ring.consumer.progress.ending w.ring front flags)
   acted-tells (EventData parameter flags) w number front is apart =
       (data_told-tells w.ring front parameter flags apart, data_told-restarts w.ring front parameter flags)
-  acted-tells Foreign w number front is apart = erred-tells w.ring front apart
+  acted-tells Foreign w number front is apart = (erred-tells w.ring front apart, erred-edtla w.ring front)
 
   pub an_event_each : AnEventEach kind
   an_event_each w number home front trb found is moves apart =
-      stepped_on w number home front (λ (new : TagWorld D) (f : Option Front). IsToldOf trb w.ring.consumer w.ring.events new.ring front.cursor.place) found
+      stepped_on w number home front (λ (new : TagWorld D) (f : Option Front). TellsOf trb w front new.ring) found
       (λ same.
-      let apart_here = subst (λ (h : Home). AreApart (event_range w.ring.events) (home_range h)) (sym same) apart in
-      subst (λ (f : Found). IsToldOf trb w.ring.consumer w.ring.events (acted kind w number front f).0.ring front.cursor.place) (sym is)
-      (acted-tells trb w number front (sym (ap (λ (f : Found). if runs w.ring.consumer.progress.ending then buffer_of f else None) is) ∙ moves) apart_here))
+        let apart_here = subst (λ (h : Home). AreApart (event_range w.ring.events) (home_range h)) (sym same) apart in
+        subst (λ (f : Found). TellsOf trb w front (acted kind w number front f).0.ring) (sym is)
+        (acted-tells trb w number front (sym (ap (λ (f : Found). if runs w.ring.consumer.progress.ending then buffer_of f else None) is) ∙ moves) apart_here))

@@ -4,6 +4,7 @@ pub mod Turns
 pub mod Unfreed
 pub mod NotOvertaken
 pub mod Noting
+pub mod Runs
 pub mod InOrder
 pub mod Beside
 pub mod OutInOrder

@@ -9,9 +9,9 @@ use Rattle.guest_tags.specs.Devices.{Kind}
 use Rattle.guest_out.specs.DataOut.{out_count, stepped_out}
 use Rattle.guest_out.specs.Immediate.{bytes_out}
 use Rattle.guest_out.specs.Worlds.{OutWorld}
-use Rattle.td_laws.specs.InOrder.{Others, Steps, TagTurn}
 use Rattle.td_laws.specs.Noting.{Noted, noting}
 use Rattle.td_laws.specs.Places.{buffer_in_front}
+use Rattle.td_laws.specs.Runs.{Others, Steps, TagTurn}
 
 -- what the device has taken, with what is gathered for its next chunk
 abbrev pub handed : {D : Type 0} → OutWorld (Noted D) → List ℕ

@@ -11,3 +11,5 @@ pub mod OutOrdered
 pub mod RingTells
 pub mod Tells
 pub mod Forgotten
+pub mod Fronted
+pub mod Buffered

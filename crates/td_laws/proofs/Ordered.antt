@@ -14,7 +14,7 @@ use Rattle.guest_tags.specs.Tags.{TagWorld}
 use Rattle.td_laws.specs.Noting.{Noted, noting}
 use Rattle.td_laws.specs.NothingElse.{LeavesElse}
 use Rattle.td_laws.specs.Places.{AreApart, event_range}
-use Rattle.td_laws.specs.InOrder.{AreLeft, AreSpared, GivenInOrder, StayFilled, held_by, held_in}
+use Rattle.td_laws.specs.InOrder.{GivenInOrder, StayFilled, held_by, held_in}
 use Rattle.td_laws.specs.Runs.{Others, Steps, TagTurn, all_stepped, part_filled, parts_filled, stepped}
 use Rattle.td_laws.proofs.DataInElse.{data_in_leaves}
 use Rattle.td_laws.proofs.Noted.{step-orders}

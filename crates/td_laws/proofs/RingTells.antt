@@ -16,7 +16,7 @@ use Rattle.guest_pipes.specs.declared.progress.Ending.{Ending}
 use Rattle.guest_pipes.specs.declared.progress.Ending.TheVariants.{Runs, Told, Owed}
 use Rattle.guest_pipes.specs.declared.progress.Progress.{Progress}
 use Rattle.guest_pipes.specs.Progress.{code_of, owes, past, restarted, runs, short_ending}
-use Rattle.guest_pipes.specs.Step.{World, about, consumed, data_restarted, data_told, ended_as, erred, failed, filled, linked, passed, posted, posted_if, shortened, skipped, stood, with_progress}
+use Rattle.guest_pipes.specs.Step.{World, about, consumed, data_restarted, data_told, ended_as, erred, failed, filled, linked, passed, posted, posted_if, shortened, skipped, stood, with_progress, refused}
 use Rattle.td_laws.specs.Places.{AreApart, event_range}
 use Rattle.td_laws.specs.Told.{Counts, HasTold, Tells, edtla_behind}
 use Rattle.td_laws.proofs.RingElse.{event_size, stood_else, stood_events}
@@ -189,6 +189,41 @@ pub linked-progress : (w : World) (front : Front) (pointer : ℕ) (toggle : Bool
     → (linked w front pointer toggle flags).consumer.progress ≡ w.consumer.progress
 unfolding linked stood
 linked-progress w front pointer toggle flags = told_progress flags.ioc w (about w.consumer front.cursor.place 0 1) flags.bei
+
+-- nothing has moved behind a TRB
+past_moved : (progress : Progress) (chain : Bool) → (past progress chain).moved ≡ 0
+past_moved progress true = refl
+past_moved progress false = refl
+
+consumed-gone : (v : World) (front : Front) (chain : Bool) → (consumed v front chain).consumer.progress.moved ≡ 0
+unfolding consumed stood
+consumed-gone v front chain = past_moved v.consumer.progress chain
+
+pub skipped-gone : (w : World) (front : Front) (length : ℕ) (flags : Flags) → (skipped w front length flags).consumer.progress.moved ≡ 0
+unfolding skipped
+skipped-gone w front length flags =
+    let told = owes w.consumer.progress.ending && (not flags.chain && flags.ioc) in
+    consumed-gone (posted_if told w (about w.consumer front.cursor.place length 13) flags.bei) front flags.chain
+
+pub passed-gone : (ending : Ending) (w : World) (front : Front) (flags : Flags) → (passed ending w front flags).consumer.progress.moved ≡ 0
+unfolding filled
+passed-gone Runs w front flags = consumed-gone (posted_if flags.ioc w (about w.consumer front.cursor.place 0 1) flags.bei) front flags.chain
+passed-gone (Told code) w front flags = consumed-gone w front flags.chain
+passed-gone Owed w front flags = consumed-gone w front flags.chain
+
+pub data_told-gone : (w : World) (front : Front) (parameter : ℕ) (flags : Flags) → (data_told w front parameter flags).consumer.progress.moved ≡ 0
+unfolding data_told
+data_told-gone w front parameter flags =
+    let event : Event = Transfer parameter w.consumer.progress.edtla (code_of w.consumer.progress.ending) w.consumer.endpoint true in
+    consumed-gone (data_restarted (posted_if flags.ioc w event flags.bei) flags.ioc) front flags.chain
+
+pub erred-progress : (w : World) (front : Front) → (erred w front).consumer.progress ≡ w.consumer.progress
+unfolding posted
+erred-progress w front = refl
+
+pub refused-progress : (w : World) (code : ℕ) → (refused w code).consumer.progress ≡ w.consumer.progress
+unfolding posted
+refused-progress w code = refl
 
 pub erred-edtla : (w : World) (front : Front) → (erred w front).consumer.progress.edtla ≡ w.consumer.progress.edtla
 unfolding posted

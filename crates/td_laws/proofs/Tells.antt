@@ -32,7 +32,7 @@ use Rattle.guest_tags.specs.Tags.{TagWorld}
 use Rattle.guest_tags.specs.DataIn.{acted, acted_at, closed, closed_if, ends_td, filled_ring, gave_by, given_to, has_chunk, is_status, lost, moved_count, moved_if, moved_in, normal, ran, refilled, stepped_in, with_ring}
 use Rattle.guest_tags.specs.Wanted.{buffer_of, moving}
 use Rattle.td_laws.specs.Places.{AreApart, coming, event_range, front_of, given_by, let_through, nowhere, part_of, where_there}
-use Rattle.td_laws.specs.Told.{AnEventEach, Counts, Ends, Fails, Fills, Goes, HasTold, IsDropped, IsOver, IsTold, IsToldOf, ResidualsAddUp, Stays, Tells, edtla_past}
+use Rattle.td_laws.specs.Told.{AnEventEach, Ends, Fails, Fills, Goes, IsDropped, IsOver, IsTold, IsToldOf, ResidualsAddUp, edtla_past}
 use Rattle.td_laws.proofs.Fronts.{looked_home}
 use Rattle.td_laws.proofs.Noted.{empty_chunk, nothing_there}
 use Rattle.td_laws.proofs.RingElse.{sized}
@@ -194,7 +194,7 @@ module _ {D : Type 0} (kind : Kind D) where
   acted-told (Item Foreign) w number front buffer is within apart = no_buffer (runs w.ring.consumer.progress.ending) buffer is
 
   -- a step that is let through is taken on what was found
-  stepped_on : (w : TagWorld D) (number : ℕ) (home : Home) (front : Front) (P : TagWorld D → Option Front → Type 0) → front_of w.ring home ≡ Some front
+  pub stepped_on : (w : TagWorld D) (number : ℕ) (home : Home) (front : Front) (P : TagWorld D → Option Front → Type 0) → front_of w.ring home ≡ Some front
       → (front.home ≡ home → P (acted_at kind w number front).0 (Some front))
       → P (after w (stepped_in kind w number home)).0 (front_of w.ring home)
   stepped_on w number home front P found holds =
@@ -220,7 +220,7 @@ module _ {D : Type 0} (kind : Kind D) where
   abbrev TellsOf : PipeTrb → TagWorld D → Front → World → Type 0
   TellsOf trb w front new = IsToldOf trb w.ring.consumer w.ring.events new front.cursor.place × (new.consumer.progress.edtla ≡ edtla_past trb w.ring.consumer.progress.edtla)
 
-  skips : (ending : Ending) (w : TagWorld D) (number : ℕ) (front : Front) (buffer : Buffer) → (if runs ending then Some buffer else None) ≡ None
+  pub skips : (ending : Ending) (w : TagWorld D) (number : ℕ) (front : Front) (buffer : Buffer) → (if runs ending then Some buffer else None) ≡ None
       → normal kind ending w number front buffer ≡ normal kind (Told 2) w number front buffer
   skips Runs w number front buffer is = absurd (none-some buffer (sym is))
   skips (Told code) w number front buffer is = refl
@@ -244,6 +244,6 @@ module _ {D : Type 0} (kind : Kind D) where
   an_event_each w number home front trb found is moves apart =
       stepped_on w number home front (λ (new : TagWorld D) (f : Option Front). TellsOf trb w front new.ring) found
       (λ same.
-        let apart_here = subst (λ (h : Home). AreApart (event_range w.ring.events) (home_range h)) (sym same) apart in
-        subst (λ (f : Found). TellsOf trb w front (acted kind w number front f).0.ring) (sym is)
-        (acted-tells trb w number front (sym (ap (λ (f : Found). if runs w.ring.consumer.progress.ending then buffer_of f else None) is) ∙ moves) apart_here))
+      let apart_here = subst (λ (h : Home). AreApart (event_range w.ring.events) (home_range h)) (sym same) apart in
+      subst (λ (f : Found). TellsOf trb w front (acted kind w number front f).0.ring) (sym is)
+      (acted-tells trb w number front (sym (ap (λ (f : Found). if runs w.ring.consumer.progress.ending then buffer_of f else None) is) ∙ moves) apart_here))

@@ -9,3 +9,4 @@ pub mod InOrder
 pub mod Beside
 pub mod OutInOrder
 pub mod Told
+pub mod Buffers

@@ -23,6 +23,7 @@ ghost use Rattle.guest_tags.specs.Devices.{Kind};
 ghost use Rattle.td_laws.specs.NothingElse.{CommandLeavesElse, DataInLeavesElse, DataOutLeavesElse, StatusLeavesElse};
 ghost use Rattle.td_laws.specs.NotOvertaken.{NextIsFreed, PostsKeepUnfreed, TurnsLeaveElse, UnfreedStand};
 ghost use Rattle.td_laws.specs.Beside.{NotesAreBeside, OutNotesAreBeside};
+ghost use Rattle.td_laws.specs.Buffers.{PartsAreBuffers};
 ghost use Rattle.td_laws.specs.InOrder.{GivenInOrder};
 ghost use Rattle.td_laws.specs.OutInOrder.{TakenInOrder};
 ghost use Rattle.td_laws.specs.Told.{AnEventEach, ResidualsAddUp};
@@ -57,6 +58,7 @@ pub fn an_event_each<D>()
 /// Law: the bytes that a device gave stand in the buffers in order, and it takes those of the buffers in order.
 pub fn bytes_in_order<D>()
     ensures given { (kind : Kind D) (number : ℕ) (home : Home) → GivenInOrder kind number home }
+    ensures buffers { (kind : Kind D) (number : ℕ) (home : Home) → PartsAreBuffers kind number home }
     ensures taken { (kind : Kind D) (number : ℕ) (home : Home) → TakenInOrder kind number home }
 {}
 

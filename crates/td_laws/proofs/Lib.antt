@@ -13,3 +13,5 @@ pub mod Tells
 pub mod Forgotten
 pub mod Fronted
 pub mod Buffered
+pub mod OutTells
+pub mod CommandTells

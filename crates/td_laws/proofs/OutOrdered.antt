@@ -30,7 +30,7 @@ use Rattle.td_laws.specs.Places.{let_through}
 use Rattle.td_laws.specs.Runs.{Others, Steps, TagTurn}
 use Rattle.td_laws.specs.OutInOrder.{LeaveHanded, TakenInOrder, all_out_stepped, all_taken, handed, out_stepped, taken_by, taken_of}
 
-no_bytes : (memory : Memory) (buffer : Buffer) (moved count : ℕ) → count ≡ 0 → bytes_out memory buffer moved count ≡ Some []
+pub no_bytes : (memory : Memory) (buffer : Buffer) (moved count : ℕ) → count ≡ 0 → bytes_out memory buffer moved count ≡ Some []
 unfolding bytes_out bytes_from
 no_bytes memory buffer moved count none = rw none (by_kind (is_immediate buffer))
   where
@@ -68,7 +68,7 @@ module _ {D : Type 0} (kind : Kind D) (number : ℕ) (home : Home) where
   dropped false w front buffer = nothing w [] refl
 
   by_phase : (phase : Phase) (w : Outs) (front : Front) (buffer : Buffer)
-      → Hands w (out_by (noting kind) phase w number front buffer).0 (taken_by kind number home phase w buffer)
+      → Hands w (out_by (noting kind) phase w number front buffer).0 (taken_by (noting kind) number home phase w buffer)
   unfolding out_moved
   by_phase Absent w front buffer = nothing w [] refl
   by_phase (Gives count) w front buffer = nothing w [] refl
@@ -76,7 +76,7 @@ module _ {D : Type 0} (kind : Kind D) (number : ℕ) (home : Home) where
       drawn (bytes_out w.ring.memory buffer w.ring.consumer.progress.moved (out_count (noting kind) w count buffer)) w count front buffer
   by_phase (Ended end) w front buffer = dropped (drops_rest end w.ring.consumer.progress.begun) w front buffer
 
-  full_takes : (phase : Phase) (w : Outs) (buffer : Buffer) → buffer.length ≤ w.ring.consumer.progress.moved → taken_by kind number home phase w buffer ≡ []
+  full_takes : (phase : Phase) (w : Outs) (buffer : Buffer) → buffer.length ≤ w.ring.consumer.progress.moved → taken_by (noting kind) number home phase w buffer ≡ []
   full_takes Absent w buffer past = refl
   full_takes (Gives count) w buffer past = refl
   full_takes (Takes count) w buffer past =
@@ -85,28 +85,28 @@ module _ {D : Type 0} (kind : Kind D) (number : ℕ) (home : Home) where
   full_takes (Ended end) w buffer past = refl
 
   ran : (w : Outs) (front : Front) (buffer : Buffer)
-      → Hands w (out_ran (noting kind) w number front buffer).0 (taken_by kind number home (kind.phase w.device.device number) w buffer)
+      → Hands w (out_ran (noting kind) w number front buffer).0 (taken_by (noting kind) number home (kind.phase w.device.device number) w buffer)
   unfolding out_ran
   ran w front buffer = by_room (nat_le buffer.length w.ring.consumer.progress.moved) refl
     where
       by_room : (full : Bool) → nat_le buffer.length w.ring.consumer.progress.moved ≡ full → Hands w
           (if full then (out_with (noting kind) w (filled w.ring front buffer.flags), Worked) else out_by (noting kind) (kind.phase w.device.device number) w number front buffer).0
-          (taken_by kind number home (kind.phase w.device.device number) w buffer)
+          (taken_by (noting kind) number home (kind.phase w.device.device number) w buffer)
       by_room true is = nothing w _ (full_takes (kind.phase w.device.device number) w buffer (leb-true buffer.length w.ring.consumer.progress.moved is))
       by_room false is = by_phase (kind.phase w.device.device number) w front buffer
 
   normal : (ending : Ending) (w : Outs) (front : Front) (buffer : Buffer)
-      → Hands w (out_normal (noting kind) ending w number front buffer).0 (taken_of kind number home (if runs ending then Some buffer else None) w)
+      → Hands w (out_normal (noting kind) ending w number front buffer).0 (taken_of (noting kind) number home (if runs ending then Some buffer else None) w)
   normal Runs w front buffer = ran w front buffer
   normal (Told code) w front buffer = nothing w [] refl
   normal Owed w front buffer = nothing w [] refl
 
-  other : (w : Outs) (moves : Bool) → Hands w w (taken_of kind number home (if moves then None else None) w)
+  other : (w : Outs) (moves : Bool) → Hands w w (taken_of (noting kind) number home (if moves then None else None) w)
   other w true = nothing w [] refl
   other w false = nothing w [] refl
 
   acted : (found : Found) (w : Outs) (front : Front)
-      → Hands w (out_acted (noting kind) w number front found).0 (taken_of kind number home (if runs w.ring.consumer.progress.ending then buffer_of found else None) w)
+      → Hands w (out_acted (noting kind) w number front found).0 (taken_of (noting kind) number home (if runs w.ring.consumer.progress.ending then buffer_of found else None) w)
   acted WrongKind w front = other w (runs w.ring.consumer.progress.ending)
   acted NotYet w front = other w (runs w.ring.consumer.progress.ending)
   acted (Item (Normal pointer length flags)) w front =
@@ -116,24 +116,24 @@ module _ {D : Type 0} (kind : Kind D) (number : ℕ) (home : Home) where
   acted (Item (EventData parameter flags)) w front = other w (runs w.ring.consumer.progress.ending)
   acted (Item Foreign) w front = other w (runs w.ring.consumer.progress.ending)
 
-  one : (w : Outs) → Hands w (out_stepped kind number home w) (taken_of kind number home (let_through (gate w.ring.memory w.ring.events w.ring.consumer) (looked w.ring.memory home) >>= moving w.ring.consumer) w)
+  one : (w : Outs) → Hands w (out_stepped (noting kind) number home w) (taken_of (noting kind) number home (let_through (gate w.ring.memory w.ring.events w.ring.consumer) (looked w.ring.memory home) >>= moving w.ring.consumer) w)
   one w = by_gate (gate w.ring.memory w.ring.events w.ring.consumer) (looked w.ring.memory home)
     where
       by_gate : (opens : Option (Option Acted)) (found : Option Front)
-          → Hands w (after w (through w opens (option_map (out_at (noting kind) w number) found))).0 (taken_of kind number home (let_through opens found >>= moving w.ring.consumer) w)
+          → Hands w (after w (through w opens (option_map (out_at (noting kind) w number) found))).0 (taken_of (noting kind) number home (let_through opens found >>= moving w.ring.consumer) w)
       by_gate None found = nothing w [] refl
       by_gate (Some None) None = nothing w [] refl
       by_gate (Some None) (Some front) = acted front.found w front
       by_gate (Some (Some acted)) found = nothing w [] refl
 
   in_order : (turns : List (TagTurn Outs)) (w : Outs) → LeaveHanded kind number home w turns
-      → Hands w (all_out_stepped kind number home w turns) (all_taken kind number home w turns)
+      → Hands w (all_out_stepped (noting kind) number home w turns) (all_taken (noting kind) number home w turns)
   in_order [] w left = nothing w [] refl
   in_order (Steps ∷ turns) w left =
-      let v = out_stepped kind number home w in
-      let first = taken_of kind number home (let_through (gate w.ring.memory w.ring.events w.ring.consumer) (looked w.ring.memory home) >>= moving w.ring.consumer) w in
-      in_order turns v left ∙ ap (λ (b : List ℕ). b ++ all_taken kind number home v turns) (one w) ∙ append_assoc (handed w) first (all_taken kind number home v turns)
-  in_order (Others other ∷ turns) w left = in_order turns other left.1 ∙ ap (λ (b : List ℕ). b ++ all_taken kind number home other turns) left.0
+      let v = out_stepped (noting kind) number home w in
+      let first = taken_of (noting kind) number home (let_through (gate w.ring.memory w.ring.events w.ring.consumer) (looked w.ring.memory home) >>= moving w.ring.consumer) w in
+      in_order turns v left ∙ ap (λ (b : List ℕ). b ++ all_taken (noting kind) number home v turns) (one w) ∙ append_assoc (handed w) first (all_taken (noting kind) number home v turns)
+  in_order (Others other ∷ turns) w left = in_order turns other left.1 ∙ ap (λ (b : List ℕ). b ++ all_taken (noting kind) number home other turns) left.0
 
   pub taken_in_order : TakenInOrder kind number home
   taken_in_order w turns left = in_order turns w left

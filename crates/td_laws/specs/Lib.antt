@@ -9,4 +9,5 @@ pub mod InOrder
 pub mod Beside
 pub mod OutInOrder
 pub mod Told
+pub mod OutTold
 pub mod Buffers

@@ -13,45 +13,48 @@ use Rattle.td_laws.specs.Noting.{Noted, noting}
 use Rattle.td_laws.specs.Places.{buffer_in_front}
 use Rattle.td_laws.specs.Runs.{Others, Steps, TagTurn}
 
--- what the device has taken, with what is gathered for its next chunk
-abbrev pub handed : {D : Type 0} → OutWorld (Noted D) → List ℕ
-handed w = w.device.taken ++ w.taken
-
 module _ {D : Type 0} (kind : Kind D) (number : ℕ) (home : Home) where
-  -- the bytes that a step moves
-  abbrev pub taken_by : Phase → OutWorld (Noted D) → Buffer → List ℕ
+  abbrev pub out_stepped : OutWorld D → OutWorld D
+  out_stepped w = (after w (stepped_out kind w number home)).0
+
+  -- the bytes of a buffer that a step moves
+  abbrev pub taken_by : Phase → OutWorld D → Buffer → List ℕ
   taken_by Absent w buffer = []
   taken_by (Gives count) w buffer = []
-  taken_by (Takes count) w buffer =
-      unwrap_or (bytes_out w.ring.memory buffer w.ring.consumer.progress.moved (out_count (noting kind) w count buffer)) []
+  taken_by (Takes count) w buffer = unwrap_or (bytes_out w.ring.memory buffer w.ring.consumer.progress.moved (out_count kind w count buffer)) []
   taken_by (Ended end) w buffer = []
 
-  abbrev pub taken_of : Option Buffer → OutWorld (Noted D) → List ℕ
+  abbrev pub taken_of : Option Buffer → OutWorld D → List ℕ
   taken_of None w = []
-  taken_of (Some buffer) w = taken_by (kind.phase w.device.device number) w buffer
+  taken_of (Some buffer) w = taken_by (kind.phase w.device number) w buffer
 
-  abbrev pub out_stepped : OutWorld (Noted D) → OutWorld (Noted D)
-  out_stepped w = (after w (stepped_out (noting kind) w number home)).0
+  abbrev pub bytes_taken : OutWorld D → List ℕ
+  bytes_taken w = taken_of (buffer_in_front w.ring home) w
 
-  abbrev pub all_out_stepped : OutWorld (Noted D) → List (TagTurn (OutWorld (Noted D))) → OutWorld (Noted D)
+  abbrev pub all_out_stepped : OutWorld D → List (TagTurn (OutWorld D)) → OutWorld D
   all_out_stepped w [] = w
   all_out_stepped w (Steps ∷ turns) = all_out_stepped (out_stepped w) turns
   all_out_stepped w (Others other ∷ turns) = all_out_stepped other turns
 
   -- the bytes that these steps move, in order
-  abbrev pub all_taken : OutWorld (Noted D) → List (TagTurn (OutWorld (Noted D))) → List ℕ
+  abbrev pub all_taken : OutWorld D → List (TagTurn (OutWorld D)) → List ℕ
   all_taken w [] = []
-  all_taken w (Steps ∷ turns) = taken_of (buffer_in_front w.ring home) w ++ all_taken (out_stepped w) turns
+  all_taken w (Steps ∷ turns) = bytes_taken w ++ all_taken (out_stepped w) turns
   all_taken w (Others other ∷ turns) = all_taken other turns
 
+-- what the device has taken, with what is gathered for its next chunk
+abbrev pub handed : {D : Type 0} → OutWorld (Noted D) → List ℕ
+handed w = w.device.taken ++ w.taken
+
+module _ {D : Type 0} (kind : Kind D) (number : ℕ) (home : Home) where
   -- others leave that
   abbrev pub LeaveHanded : OutWorld (Noted D) → List (TagTurn (OutWorld (Noted D))) → Type 0
   LeaveHanded w [] = Unit {0}
-  LeaveHanded w (Steps ∷ turns) = LeaveHanded (out_stepped w) turns
+  LeaveHanded w (Steps ∷ turns) = LeaveHanded (out_stepped (noting kind) number home w) turns
   LeaveHanded w (Others other ∷ turns) = (handed other ≡ handed w) × LeaveHanded other turns
 
   -- THE LAW: the device is handed the bytes of the buffers in order, whole
   abbrev pub TakenInOrder : Type 0
   TakenInOrder =
       (w : OutWorld (Noted D)) (turns : List (TagTurn (OutWorld (Noted D)))) → LeaveHanded w turns
-      → handed (all_out_stepped w turns) ≡ handed w ++ all_taken w turns
+      → handed (all_out_stepped (noting kind) number home w turns) ≡ handed w ++ all_taken (noting kind) number home w turns

@@ -26,6 +26,7 @@ ghost use Rattle.td_laws.specs.Beside.{NotesAreBeside, OutNotesAreBeside};
 ghost use Rattle.td_laws.specs.Buffers.{PartsAreBuffers};
 ghost use Rattle.td_laws.specs.InOrder.{GivenInOrder};
 ghost use Rattle.td_laws.specs.OutInOrder.{TakenInOrder};
+ghost use Rattle.td_laws.specs.OutTold.{CommandEventEach, CommandResidualsAddUp, OutEventEach, OutResidualsAddUp};
 ghost use Rattle.td_laws.specs.Told.{AnEventEach, ResidualsAddUp};
 
 /// Law: a step writes the part of a buffer that is moved, the next event's place, and where the ring's end is kept. It posts one event at
@@ -47,12 +48,16 @@ pub fn not_overtaken<D>()
 
 /// Law: what a driver is told of a TRB adds up with what was moved in it, and EDTLA with what was moved since it began.
 pub fn residuals_add_up<D>()
-    ensures { (kind : Kind D) → ResidualsAddUp kind }
+    ensures of_data_in { (kind : Kind D) → ResidualsAddUp kind }
+    ensures of_data_out { (kind : Kind D) → OutResidualsAddUp kind }
+    ensures of_command { (kind : Kind D) → CommandResidualsAddUp kind }
 {}
 
 /// Law: a TRB has an event where its bits ask for one, and no other.
 pub fn an_event_each<D>()
-    ensures { (kind : Kind D) → AnEventEach kind }
+    ensures of_data_in { (kind : Kind D) → AnEventEach kind }
+    ensures of_data_out { (kind : Kind D) → OutEventEach kind }
+    ensures of_command { (kind : Kind D) → CommandEventEach kind }
 {}
 
 /// Law: the bytes that a device gave stand in the buffers in order, and it takes those of the buffers in order.

@@ -113,21 +113,10 @@ module _ {D : Type 0} (kind : Kind D) (number : ℕ) (home : Home) where
       by_gate (Some None) finds is = is
       by_gate (Some (Some acted)) finds is = absurd (none-some front is)
 
-  -- and one that isn't does nothing
-  held_back : (w : TagWorld D) → front_of w.ring home ≡ None → stepped kind number home w ≡ w
-  held_back w none = by_gate (gate w.ring.memory w.ring.events w.ring.consumer) (looked w.ring.memory home) none
-    where
-      by_gate : (opens : Option (Option Acted)) (finds : Option Front) → let_through opens finds ≡ None
-          → (after w (through w opens (option_map (acted_at kind w number) finds))).0 ≡ w
-      by_gate None finds is = refl
-      by_gate (Some None) None is = refl
-      by_gate (Some None) (Some front) is = absurd (none-some front (sym is))
-      by_gate (Some (Some acted)) finds is = refl
-
   -- no step
   idle : (w : TagWorld D) → IsSound w → front_of w.ring home ≡ None → Moves w
   idle w sound none =
-      let same = held_back w none in
+      let same = tells.held_back kind number home w none in
       let part_none : part_filled kind number home w ≡ nowhere =
       ap (λ (f : Option Front). part_of w.ring.memory w.ring.consumer (list_length (coming kind w number)) (f >>= moving w.ring.consumer)) none in
       let left_none : addresses (left_behind kind number home w) ≡ [] =

@@ -6,7 +6,7 @@ use Rattle.std.proofs.lemmas.Bool.{cases_lt, eq-eqb, leb-true, ne_eqb}
 use Rattle.guest_memory.specs.Ranges.{out_before, out_behind}
 use Rattle.guest_rings.specs.Events.{EventEnd, enqueued, free_by}
 use Rattle.td_laws.specs.Unfreed.{IsFreedTo, IsUnfreed, Between, ToTheEnd, FromTheStart}
-use Rattle.td_laws.specs.NotOvertaken.{NextIsFreed, PostsKeepUnfreed}
+use Rattle.td_laws.specs.NotOvertaken.{NewRingIsFreed, NextIsFreed, PostsKeepUnfreed}
 
 pub next_is_freed : NextIsFreed
 next_is_freed ring dequeue place (Between from below) k inside =
@@ -27,6 +27,13 @@ unfolding free_by
 free_behind ring dequeue first inside =
     let e : dequeue + ring.places - ring.place - 1 ≡ ring.places + (dequeue - ring.place - 1) = omega arith in
     ap (λ (n : ℕ). n % ring.places) e ∙ add-mod_left ring.places (dequeue - ring.place - 1) ∙ mod-eq_of_lt (omega arith)
+
+pub new_ring_is_freed : NewRingIsFreed
+new_ring_is_freed base places some =
+    let ring : EventEnd = record { base = base; places = places; place = 0; cycle = true; free = places - 1; asks = false } in
+    let is : free_by ring 0 ≡ 0 + places - 0 - 1 = free_ahead ring 0 (omega arith) (omega (arith, some)) in
+    let same : places - 1 ≡ 0 + places - 0 - 1 = omega arith in
+    record { enqueue_inside = omega (arith, some); dequeue_inside = omega (arith, some); counted = same ∙ sym is }
 
 -- the producer one place on, or at the segment's start
 record IsNext (old new : EventEnd) : Type 0 where

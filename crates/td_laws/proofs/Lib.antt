@@ -15,3 +15,4 @@ pub mod Fronted
 pub mod Buffered
 pub mod OutTells
 pub mod CommandTells
+pub mod StatusTells

@@ -12,11 +12,12 @@ use Rattle.guest_rings.specs.declared.event.Event.TheVariants.{Transfer}
 use Rattle.guest_rings.specs.Ends.{behind, followed}
 use Rattle.guest_rings.specs.Events.{enqueue_pointer, enqueued, event_bytes}
 use Rattle.guest_rings.specs.Wanted.{home_range}
+use Rattle.guest_pipes.specs.declared.consumer.EndpointState.TheVariants.{Halted}
 use Rattle.guest_pipes.specs.declared.progress.Ending.{Ending}
 use Rattle.guest_pipes.specs.declared.progress.Ending.TheVariants.{Runs, Told, Owed}
 use Rattle.guest_pipes.specs.declared.progress.Progress.{Progress}
 use Rattle.guest_pipes.specs.Progress.{code_of, owes, past, restarted, runs, short_ending}
-use Rattle.guest_pipes.specs.Step.{World, about, consumed, data_restarted, data_told, ended_as, erred, failed, filled, linked, passed, posted, posted_if, shortened, skipped, stood, with_progress, refused}
+use Rattle.guest_pipes.specs.Step.{World, about, babbled, consumed, data_restarted, data_told, ended_as, erred, failed, filled, linked, passed, posted, posted_if, shortened, skipped, stood, with_progress, refused}
 use Rattle.td_laws.specs.Places.{AreApart, event_range}
 use Rattle.td_laws.specs.Told.{Counts, HasTold, Tells, edtla_behind}
 use Rattle.td_laws.proofs.RingElse.{event_size, stood_else, stood_events}
@@ -103,6 +104,20 @@ failed-tells w front length flags apart =
     let event = about w.consumer front.cursor.place length 2 in
     let v = ended_as (posted w event flags.bei) (Told 2) in
     tells true w event flags.bei (with_progress v (past v.consumer.progress flags.chain)) front.home (behind front.cursor) refl refl apart
+
+pub babbled-tells : (w : World) (front : Front) (flags : Flags) → AreApart (event_range w.events) (home_range front.home)
+    → HasTold w.events (babbled w front flags) (about w.consumer front.cursor.place 0 3) flags.bei
+unfolding babbled consumed
+babbled-tells w front flags apart =
+    let event = about w.consumer front.cursor.place 0 3 in
+    let v = posted w event flags.bei in
+    let told : HasTold w.events (stood (with_progress v (past v.consumer.progress flags.chain)) front.home (behind front.cursor)) event flags.bei =
+    tells true w event flags.bei (with_progress v (past v.consumer.progress flags.chain)) front.home (behind front.cursor) refl refl apart in
+    record { once = told.once; stands = told.stands }
+
+pub babbled-halts : (w : World) (front : Front) (flags : Flags) → (babbled w front flags).consumer.state ≡ Halted
+unfolding babbled
+babbled-halts w front flags = refl
 
 pub skipped-tells : (w : World) (front : Front) (length : ℕ) (flags : Flags) → AreApart (event_range w.events) (home_range front.home)
     → Tells (owes w.consumer.progress.ending && (not flags.chain && flags.ioc)) w.events (skipped w front length flags) (about w.consumer front.cursor.place length 13) flags.bei

@@ -99,7 +99,7 @@ module _ {D : Type 0} (kind : Kind D) where
       by_tests false false = in_part (unchanged w.ring front.home)
 
   -- the next unit is taken beside the ring
-  ready_ring : (w : TagWorld D) (number : ℕ) (due : Bool) → (unit_ready kind w number due).ring ≡ w.ring
+  pub ready_ring : (w : TagWorld D) (number : ℕ) (due : Bool) → (unit_ready kind w number due).ring ≡ w.ring
   unfolding overlap_taken answer_taken
   ready_ring w number due = by_tests (has_unit w.tag) (not (w.tag.overlaps == 0)) due
     where

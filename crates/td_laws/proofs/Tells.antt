@@ -23,7 +23,7 @@ use Rattle.guest_pipes.specs.declared.progress.Ending.{Ending}
 use Rattle.guest_pipes.specs.declared.progress.Ending.TheVariants.{Runs, Told, Owed}
 use Rattle.guest_pipes.specs.Gate.{after, gate, through}
 use Rattle.guest_pipes.specs.Progress.{runs}
-use Rattle.guest_pipes.specs.Step.{World, filled, poured}
+use Rattle.guest_pipes.specs.Step.{World, filled, poured, used_up}
 use Rattle.guest_tags.specs.declared.device.Phase.{Phase}
 use Rattle.guest_tags.specs.declared.device.Phase.TheVariants.{Absent, Gives, Takes, Ended}
 use Rattle.guest_tags.specs.declared.buffer.Buffer.{Buffer}
@@ -32,7 +32,8 @@ use Rattle.guest_tags.specs.Tags.{TagWorld}
 use Rattle.guest_tags.specs.DataIn.{acted, acted_at, closed, closed_if, ends_td, filled_ring, gave_by, given_to, has_chunk, is_status, lost, moved_count, moved_if, moved_in, normal, ran, refilled, stepped_in, with_ring}
 use Rattle.guest_tags.specs.Wanted.{buffer_of, moving}
 use Rattle.td_laws.specs.Places.{AreApart, coming, event_range, front_of, given_by, let_through, nowhere, part_of, where_there}
-use Rattle.td_laws.specs.Told.{AnEventEach, Ends, Fails, Fills, Goes, IsDropped, IsOver, IsTold, IsToldOf, ResidualsAddUp, edtla_past}
+use Rattle.td_laws.specs.Runs.{stepped}
+use Rattle.td_laws.specs.Told.{AnEventEach, Ends, Fails, Fills, Goes, IsDropped, IsOver, IsTold, IsToldOf, NoneWithoutATrb, ResidualsAddUp, edtla_past}
 use Rattle.td_laws.proofs.Fronts.{looked_home}
 use Rattle.td_laws.proofs.Noted.{empty_chunk, nothing_there}
 use Rattle.td_laws.proofs.RingElse.{sized}
@@ -209,6 +210,17 @@ module _ {D : Type 0} (kind : Kind D) where
           subst (λ (g : Front). P (acted_at kind w number g).0 (Some g)) (sym same) (holds (subst (λ (g : Front). g.home ≡ home) same (homes f refl)))
       by_gate (Some (Some acted)) finds homes is = absurd (none-some front is)
 
+  -- and one that is held back does nothing
+  pub held_back : (number : ℕ) (home : Home) (w : TagWorld D) → front_of w.ring home ≡ None → stepped kind number home w ≡ w
+  held_back number home w none = by_gate (gate w.ring.memory w.ring.events w.ring.consumer) (looked w.ring.memory home) none
+    where
+      by_gate : (opens : Option (Option Acted)) (finds : Option Front) → let_through opens finds ≡ None
+          → (after w (through w opens (option_map (acted_at kind w number) finds))).0 ≡ w
+      by_gate None finds is = refl
+      by_gate (Some None) None is = refl
+      by_gate (Some None) (Some front) is = absurd (none-some front (sym is))
+      by_gate (Some (Some acted)) finds is = refl
+
   pub residuals_add_up : ResidualsAddUp kind
   residuals_add_up w number home front buffer found is within apart =
       stepped_on w number home front
@@ -247,3 +259,11 @@ module _ {D : Type 0} (kind : Kind D) where
       let apart_here = subst (λ (h : Home). AreApart (event_range w.ring.events) (home_range h)) (sym same) apart in
       subst (λ (f : Found). TellsOf trb w front (acted kind w number front f).0.ring) (sym is)
       (acted-tells trb w number front (sym (ap (λ (f : Found). if runs w.ring.consumer.progress.ending then buffer_of f else None) is) ∙ moves) apart_here))
+
+  pub none_without_a_trb : NoneWithoutATrb kind
+  none_without_a_trb w number home = (
+    held_back number home w,
+    λ front found is.
+    stepped_on w number home front (λ (new : TagWorld D) (f : Option Front). new.ring ≡ used_up w.ring) found
+    (λ same. ap (λ (f : Found). (acted kind w number front f).0.ring) is),
+  )

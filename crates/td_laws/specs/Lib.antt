@@ -10,4 +10,5 @@ pub mod Beside
 pub mod OutInOrder
 pub mod Told
 pub mod OutTold
+pub mod StatusTold
 pub mod Buffers

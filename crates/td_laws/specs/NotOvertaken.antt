@@ -1,5 +1,5 @@
 -- NO EVENT IS OVERTAKEN: none that the driver hasn't freed is written over.
-use Rattle.std.specs.Prelude.{◌≡◌, ℕ, ◌<◌, Bool, true, List, [], ◌∷◌}
+use Rattle.std.specs.Prelude.{◌≡◌, ℕ, ◌-◌, ◌≤◌, false, ◌<◌, Bool, true, List, [], ◌∷◌}
 use Rattle.std.specs.List.{AllByRecursion}
 use Rattle.guest_memory.specs.Bytes.{bytes_from}
 use Rattle.guest_rings.specs.Events.{EventEnd, enqueued, has_room}
@@ -8,6 +8,11 @@ use Rattle.guest_transfers.specs.State.{TransfersWorld}
 use Rattle.td_laws.specs.Places.{AreApart, IsOutside, event_range}
 use Rattle.td_laws.specs.Turns.{Turn, Frees, all_turned, turned, written_by}
 use Rattle.td_laws.specs.Unfreed.{IsFreedTo, IsUnfreed, place_range}
+
+-- of a new ring all places but one are free
+abbrev pub NewRingIsFreed : Type 0
+NewRingIsFreed = (base places : ℕ) → 1 ≤ places
+    → IsFreedTo (record { base = base; places = places; place = 0; cycle = true; free = places - 1; asks = false }) 0
 
 -- the next event's place is none of those whose events the driver hasn't freed
 abbrev pub NextIsFreed : Type 0

@@ -3,7 +3,7 @@ use Rattle.std.specs.Prelude.{◌≡◌, ℕ, ◌+◌, ◌%◌, ◌^◌, ◌<◌
 use Rattle.guest_memory.specs.Bytes.{bytes_from}
 use Rattle.guest_rings.specs.declared.context.Home.{Home}
 use Rattle.guest_rings.specs.declared.context.Front.{Front}
-use Rattle.guest_rings.specs.declared.context.Found.TheVariants.{Item}
+use Rattle.guest_rings.specs.declared.context.Found.TheVariants.{Item, NotYet}
 use Rattle.guest_rings.specs.declared.event.Event.{Event}
 use Rattle.guest_rings.specs.declared.event.Event.TheVariants.{Transfer}
 use Rattle.guest_rings.specs.declared.wanting.Range.{Range}
@@ -14,7 +14,7 @@ use Rattle.guest_rings.specs.Wanted.{home_range}
 use Rattle.guest_pipes.specs.declared.consumer.Consumer.{Consumer}
 use Rattle.guest_pipes.specs.declared.progress.Progress.{Progress}
 use Rattle.guest_pipes.specs.Progress.{code_of, owes, runs}
-use Rattle.guest_pipes.specs.Step.{World, about}
+use Rattle.guest_pipes.specs.Step.{World, about, used_up}
 use Rattle.guest_tags.specs.declared.buffer.Buffer.{Buffer}
 use Rattle.guest_tags.specs.Devices.{IsEnded, Kind}
 use Rattle.guest_tags.specs.Tags.{TagWorld}
@@ -114,3 +114,10 @@ module _ {D : Type 0} (kind : Kind D) where
       → front.found ≡ Item trb → moving w.ring.consumer front ≡ None → AreApart (event_range w.ring.events) (home_range home)
       → IsToldOf trb w.ring.consumer w.ring.events (stepped kind number home w).ring front.cursor.place
       × ((stepped kind number home w).ring.consumer.progress.edtla ≡ edtla_past trb w.ring.consumer.progress.edtla)
+
+  -- and none without a TRB: a step that is held back does nothing, and where no TRB is there yet, it uses up the doorbell
+  abbrev pub NoneWithoutATrb : Type 0
+  NoneWithoutATrb =
+      (w : TagWorld D) (number : ℕ) (home : Home)
+      → (front_of w.ring home ≡ None → stepped kind number home w ≡ w)
+      × ((front : Front) → front_of w.ring home ≡ Some front → front.found ≡ NotYet → (stepped kind number home w).ring ≡ used_up w.ring)

@@ -21,13 +21,14 @@ ghost use Rattle.std.specs.Prelude.{ℕ};
 ghost use Rattle.guest_rings.specs.declared.context.Home.{Home};
 ghost use Rattle.guest_tags.specs.Devices.{Kind};
 ghost use Rattle.td_laws.specs.NothingElse.{CommandLeavesElse, DataInLeavesElse, DataOutLeavesElse, StatusLeavesElse};
-ghost use Rattle.td_laws.specs.NotOvertaken.{NextIsFreed, PostsKeepUnfreed, TurnsLeaveElse, UnfreedStand};
+ghost use Rattle.td_laws.specs.NotOvertaken.{NewRingIsFreed, NextIsFreed, PostsKeepUnfreed, TurnsLeaveElse, UnfreedStand};
 ghost use Rattle.td_laws.specs.Beside.{NotesAreBeside, OutNotesAreBeside};
 ghost use Rattle.td_laws.specs.Buffers.{PartsAreBuffers};
 ghost use Rattle.td_laws.specs.InOrder.{GivenInOrder};
 ghost use Rattle.td_laws.specs.OutInOrder.{TakenInOrder};
 ghost use Rattle.td_laws.specs.OutTold.{CommandEventEach, CommandResidualsAddUp, OutEventEach, OutResidualsAddUp};
-ghost use Rattle.td_laws.specs.Told.{AnEventEach, ResidualsAddUp};
+ghost use Rattle.td_laws.specs.Told.{AnEventEach, NoneWithoutATrb, ResidualsAddUp};
+ghost use Rattle.td_laws.specs.StatusTold.{StatusEventEach, StatusResidualsAddUp};
 
 /// Law: a step writes the part of a buffer that is moved, the next event's place, and where the ring's end is kept. It posts one event at
 /// most.
@@ -41,6 +42,7 @@ pub fn nothing_else<D>()
 
 /// Law: no event that the driver hasn't freed is written over.
 pub fn not_overtaken<D>()
+    ensures opens { NewRingIsFreed }
     ensures next { NextIsFreed }
     ensures posts { PostsKeepUnfreed }
     ensures stand { (kind : Kind D) → UnfreedStand kind }
@@ -49,6 +51,7 @@ pub fn not_overtaken<D>()
 /// Law: what a driver is told of a TRB adds up with what was moved in it, and EDTLA with what was moved since it began.
 pub fn residuals_add_up<D>()
     ensures of_data_in { (kind : Kind D) → ResidualsAddUp kind }
+    ensures of_status { (kind : Kind D) → StatusResidualsAddUp kind }
     ensures of_data_out { (kind : Kind D) → OutResidualsAddUp kind }
     ensures of_command { (kind : Kind D) → CommandResidualsAddUp kind }
 {}
@@ -56,8 +59,10 @@ pub fn residuals_add_up<D>()
 /// Law: a TRB has an event where its bits ask for one, and no other.
 pub fn an_event_each<D>()
     ensures of_data_in { (kind : Kind D) → AnEventEach kind }
+    ensures of_status { (kind : Kind D) → StatusEventEach kind }
     ensures of_data_out { (kind : Kind D) → OutEventEach kind }
     ensures of_command { (kind : Kind D) → CommandEventEach kind }
+    ensures of_none { (kind : Kind D) → NoneWithoutATrb kind }
 {}
 
 /// Law: the bytes that a device gave stand in the buffers in order, and it takes those of the buffers in order.

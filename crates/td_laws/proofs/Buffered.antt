@@ -1,6 +1,6 @@
 -- The parts that are filled are the buffers, address for address.
 use Rattle.std.proofs.Common.{◌≡◌, ℕ, zero, suc, ◌+◌, ◌-◌, ◌<◌, ◌≤◌, ◌==◌, ◌⊎◌, Bool, true, false, List, [], ◌∷◌, ◌++◌, length as list_length, Option, Some, None, refl, sym, ap, subst, ◌∙◌, arith, append_assoc, append-nil, true≢false, inl, inr}
-use Rattle.std.specs.Prelude.{min, if◌then◌else◌, option_map, IfSome}
+use Rattle.std.specs.Prelude.{min, if◌then◌else◌, IfSome}
 use Rattle.std.proofs.lemmas.Bool.{eq-eqb, eqb-true}
 use Rattle.std.proofs.lemmas.Option.{none-some, same_Some}
 use Rattle.guest_memory.specs.Bytes.{Memory, is_there, ◌>>=◌}
@@ -16,12 +16,12 @@ use Rattle.guest_pipes.specs.declared.acted.Acted.{Acted}
 use Rattle.guest_pipes.specs.declared.consumer.Consumer.{Consumer}
 use Rattle.guest_pipes.specs.declared.progress.Ending.{Ending}
 use Rattle.guest_pipes.specs.declared.progress.Progress.{Progress}
-use Rattle.guest_pipes.specs.Gate.{after, gate, through}
+use Rattle.guest_pipes.specs.Gate.{after, gate}
 use Rattle.guest_pipes.specs.Progress.{runs}
 use Rattle.guest_tags.specs.declared.buffer.Buffer.{Buffer}
 use Rattle.guest_tags.specs.Devices.{Kind}
 use Rattle.guest_tags.specs.Tags.{TagWorld}
-use Rattle.guest_tags.specs.DataIn.{acted, acted_at}
+use Rattle.guest_tags.specs.DataIn.{acted}
 use Rattle.guest_tags.specs.Wanted.{buffer_of, moving}
 use Rattle.td_laws.specs.Places.{AreApart, buffer_in_front, coming, front_of, let_through, nowhere, part_of}
 use Rattle.td_laws.specs.Runs.{Others, Steps, TagTurn, all_stepped, part_filled, parts_filled, stepped}

@@ -1,12 +1,8 @@
 -- What a step of the command pipe tells.
-use Rattle.std.proofs.Common.{◌≡◌, ℕ, ◌+◌, ◌-◌, ◌%◌, ◌^◌, ◌<◌, ◌≤◌, ◌==◌, Bool, true, false, List, [], ◌++◌, length as list_length, take, drop, Option, Some, None, refl, sym, ap, subst, ◌∙◌, arith, add-zero, length-drop, length-take}
-use Rattle.std.specs.Prelude.{min, nat_le, not, ◌&&◌, if◌then◌else◌, option_map, unwrap_or}
+use Rattle.std.proofs.Common.{◌≡◌, ℕ, ◌+◌, ◌^◌, Bool, true, false, List, Option, Some, None, refl, sym, ap, subst, ◌∙◌, arith}
+use Rattle.std.specs.Prelude.{not, ◌&&◌, if◌then◌else◌, option_map}
 use Rattle.std.proofs.Math.Nat.{mod-mod}
-use Rattle.std.proofs.lemmas.Bool.{and_parts, false≢true, leb-false, leb-true}
 use Rattle.std.proofs.lemmas.Option.{none-some, same_Some}
-use Rattle.byteorder.specs.Endian.{little_bytes}
-use Rattle.guest_memory.specs.Bytes.{Memory, bytes_from, ◌>>=◌}
-use Rattle.guest_memory.specs.Ranges.{size_of}
 use Rattle.guest_rings.specs.declared.context.Home.{Home}
 use Rattle.guest_rings.specs.declared.context.Front.{Front}
 use Rattle.guest_rings.specs.declared.context.Found.{Found}
@@ -17,30 +13,22 @@ use Rattle.guest_rings.specs.declared.trb.PipeTrb.TheVariants.{Normal, Link, NoO
 use Rattle.guest_rings.specs.Ends.{looked}
 use Rattle.guest_rings.specs.Wanted.{home_range}
 use Rattle.guest_pipes.specs.declared.acted.Acted.{Acted}
-use Rattle.guest_pipes.specs.declared.acted.Acted.TheVariants.{Worked}
 use Rattle.guest_pipes.specs.declared.progress.Ending.{Ending}
 use Rattle.guest_pipes.specs.declared.progress.Ending.TheVariants.{Runs, Told, Owed}
-use Rattle.guest_pipes.specs.declared.progress.Progress.{Progress}
-use Rattle.guest_pipes.specs.Gate.{after, gate, through, took_other}
-use Rattle.guest_pipes.specs.Progress.{counted, runs}
-use Rattle.guest_pipes.specs.Step.{World, filled, filled_if, with_progress}
-use Rattle.guest_tags.specs.declared.device.End.{End}
-use Rattle.guest_tags.specs.declared.device.End.TheVariants.{Good, Check, Response}
-use Rattle.guest_tags.specs.declared.device.Phase.{Phase}
-use Rattle.guest_tags.specs.declared.device.Phase.TheVariants.{Absent, Gives, Takes, Ended}
+use Rattle.guest_pipes.specs.Gate.{gate}
+use Rattle.guest_pipes.specs.Progress.{runs}
+use Rattle.guest_pipes.specs.Step.{World, filled, with_progress}
 use Rattle.guest_tags.specs.declared.buffer.Buffer.{Buffer}
 use Rattle.guest_tags.specs.Devices.{Kind}
-use Rattle.guest_tags.specs.Wanted.{buffer_of, moving}
+use Rattle.guest_tags.specs.Wanted.{buffer_of}
 use Rattle.guest_out.specs.Command.{command_acted, command_after, command_at, command_count, command_drawn, command_gathered, command_last, command_lost, command_normal, command_other, command_ran, command_through, received_if, unit_received}
-use Rattle.guest_out.specs.Immediate.{bytes_out, immediate_bytes, is_immediate, tallied}
+use Rattle.guest_out.specs.Immediate.{bytes_out, tallied}
 use Rattle.guest_out.specs.Worlds.{OutWorld}
 use Rattle.td_laws.specs.Places.{AreApart, event_range, front_of, let_through}
-use Rattle.td_laws.specs.Told.{Counts, IsToldOf, edtla_past}
 use Rattle.td_laws.specs.OutTold.{CommandEventEach, CommandResidualsAddUp, IsToldOut, Misses, Wholly, command_stepped}
 use Rattle.td_laws.proofs.Fronts.{looked_home}
-use Rattle.td_laws.proofs.RingTells.{data_told-restarts, data_told-tells, erred-edtla, erred-tells, failed-tells, filled-counts, filled-tells, linked-progress, linked-tells, passed-edtla, passed-tells, skipped-edtla, skipped-tells}
+use Rattle.td_laws.proofs.RingTells.{TellsOf, failed-tells, filled-counts, filled-tells, no_buffer, other-tells, skipped-edtla, skipped-tells}
 use Rattle.guest_tags.specs.declared.device.Received.{Received}
-use Rattle.td_laws.proofs.OutTells.{TellsOf, apart_there, no_buffer, other-tells}
 
 module _ {D : Type 0} (kind : Kind D) where
   abbrev AddsUp : OutWorld D → OutWorld D → Front → Buffer → Type 0
@@ -51,7 +39,7 @@ module _ {D : Type 0} (kind : Kind D) where
   received_if-ring true v = refl
   received_if-ring false v = refl
 
-  drawn-told : (bytes : Option (List ℕ)) (w : OutWorld D) (front : Front) (buffer : Buffer) → w.ring.consumer.progress.moved ≡ 0 → apart_there kind w front.home
+  drawn-told : (bytes : Option (List ℕ)) (w : OutWorld D) (front : Front) (buffer : Buffer) → w.ring.consumer.progress.moved ≡ 0 → AreApart (event_range w.ring.events) (home_range front.home)
       → AddsUp w (command_drawn kind bytes w front buffer).0 front buffer
   unfolding command_lost command_gathered
   drawn-told None w front buffer none apart = Misses (failed-tells w.ring front buffer.length buffer.flags apart)
@@ -65,7 +53,7 @@ module _ {D : Type 0} (kind : Kind D) where
       (sym (received_if-ring (not buffer.flags.chain) (command_gathered kind w bytes front buffer))) told
 
   normal-told : (ending : Ending) (w : OutWorld D) (front : Front) (buffer moved : Buffer) → (if runs ending then Some buffer else None) ≡ Some moved
-      → w.ring.consumer.progress.moved ≡ 0 → apart_there kind w front.home → AddsUp w (command_normal kind ending w front buffer).0 front moved
+      → w.ring.consumer.progress.moved ≡ 0 → AreApart (event_range w.ring.events) (home_range front.home) → AddsUp w (command_normal kind ending w front buffer).0 front moved
   unfolding command_ran
   normal-told Runs w front buffer moved is none apart =
       let same : buffer ≡ moved = same_Some buffer moved is in
@@ -75,15 +63,15 @@ module _ {D : Type 0} (kind : Kind D) where
   normal-told Owed w front buffer moved is none apart = absurd (none-some moved is)
 
   acted-told : (found : Found) (w : OutWorld D) (front : Front) (buffer : Buffer) → (if runs w.ring.consumer.progress.ending then buffer_of found else None) ≡ Some buffer
-      → w.ring.consumer.progress.moved ≡ 0 → apart_there kind w front.home → AddsUp w (command_acted kind w front found).0 front buffer
-  acted-told WrongKind w front buffer is none apart = no_buffer kind (runs w.ring.consumer.progress.ending) buffer is
-  acted-told NotYet w front buffer is none apart = no_buffer kind (runs w.ring.consumer.progress.ending) buffer is
+      → w.ring.consumer.progress.moved ≡ 0 → AreApart (event_range w.ring.events) (home_range front.home) → AddsUp w (command_acted kind w front found).0 front buffer
+  acted-told WrongKind w front buffer is none apart = no_buffer (runs w.ring.consumer.progress.ending) buffer is
+  acted-told NotYet w front buffer is none apart = no_buffer (runs w.ring.consumer.progress.ending) buffer is
   acted-told (Item (Normal pointer length flags)) w front buffer is none apart =
       normal-told w.ring.consumer.progress.ending w front (record { pointer = pointer; length = length; flags = flags }) buffer is none apart
-  acted-told (Item (Link pointer toggle flags)) w front buffer is none apart = no_buffer kind (runs w.ring.consumer.progress.ending) buffer is
-  acted-told (Item (NoOp flags)) w front buffer is none apart = no_buffer kind (runs w.ring.consumer.progress.ending) buffer is
-  acted-told (Item (EventData parameter flags)) w front buffer is none apart = no_buffer kind (runs w.ring.consumer.progress.ending) buffer is
-  acted-told (Item Foreign) w front buffer is none apart = no_buffer kind (runs w.ring.consumer.progress.ending) buffer is
+  acted-told (Item (Link pointer toggle flags)) w front buffer is none apart = no_buffer (runs w.ring.consumer.progress.ending) buffer is
+  acted-told (Item (NoOp flags)) w front buffer is none apart = no_buffer (runs w.ring.consumer.progress.ending) buffer is
+  acted-told (Item (EventData parameter flags)) w front buffer is none apart = no_buffer (runs w.ring.consumer.progress.ending) buffer is
+  acted-told (Item Foreign) w front buffer is none apart = no_buffer (runs w.ring.consumer.progress.ending) buffer is
 
   -- a step that is let through is taken on what was found
   stepped_on : (w : OutWorld D) (home : Home) (front : Front) (P : OutWorld D → Type 0) → front_of w.ring home ≡ Some front
@@ -103,14 +91,14 @@ module _ {D : Type 0} (kind : Kind D) where
   pub command_residuals_add_up : CommandResidualsAddUp kind
   command_residuals_add_up w home front buffer found is none apart =
       stepped_on w home front (λ (new : OutWorld D). AddsUp w new front buffer) found
-      (λ same. acted-told front.found w front buffer is none (subst (λ (h : Home). apart_there kind w h) (sym same) apart))
+      (λ same. acted-told front.found w front buffer is none (subst (λ (h : Home). AreApart (event_range w.ring.events) (home_range h)) (sym same) apart))
 
   -- the device receives beside the ring
-  last-tells : (trb : PipeTrb) (flags : Flags) (w : OutWorld D) (front : Front) → buffer_of (Item trb) ≡ None → apart_there kind w front.home
-      → TellsOf kind trb w front (command_last kind w front trb flags).0.ring
+  last-tells : (trb : PipeTrb) (flags : Flags) (w : OutWorld D) (front : Front) → buffer_of (Item trb) ≡ None → AreApart (event_range w.ring.events) (home_range front.home)
+      → TellsOf trb w.ring front (command_last kind w front trb flags).0.ring
   last-tells trb flags w front is apart =
-      subst (λ (ring : World). TellsOf kind trb w front ring)
-      (sym (received_if-ring (runs w.ring.consumer.progress.ending && not flags.chain) (command_other kind w front trb))) (other-tells kind trb w front is apart)
+      subst (λ (ring : World). TellsOf trb w.ring front ring)
+      (sym (received_if-ring (runs w.ring.consumer.progress.ending && not flags.chain) (command_other kind w front trb))) (other-tells trb w.ring front is apart)
 
   skips : (ending : Ending) (w : OutWorld D) (front : Front) (buffer : Buffer) → (if runs ending then Some buffer else None) ≡ None
       → command_normal kind ending w front buffer ≡ command_normal kind (Told 2) w front buffer
@@ -119,19 +107,19 @@ module _ {D : Type 0} (kind : Kind D) where
   skips Owed w front buffer is = refl
 
   acted-tells : (trb : PipeTrb) (w : OutWorld D) (front : Front) → (if runs w.ring.consumer.progress.ending then buffer_of (Item trb) else None) ≡ None
-      → apart_there kind w front.home → TellsOf kind trb w front (command_acted kind w front (Item trb)).0.ring
+      → AreApart (event_range w.ring.events) (home_range front.home) → TellsOf trb w.ring front (command_acted kind w front (Item trb)).0.ring
   acted-tells (Normal pointer length flags) w front is apart =
       let buffer : Buffer = record { pointer = pointer; length = length; flags = flags } in
-      subst (λ (done : OutWorld D × Received). TellsOf kind (Normal pointer length flags) w front done.0.ring)
+      subst (λ (done : OutWorld D × Received). TellsOf (Normal pointer length flags) w.ring front done.0.ring)
       (sym (skips w.ring.consumer.progress.ending w front buffer is)) (skipped-tells w.ring front length flags apart, skipped-edtla w.ring front length flags)
-  acted-tells (Link pointer toggle flags) w front is apart = other-tells kind (Link pointer toggle flags) w front refl apart
+  acted-tells (Link pointer toggle flags) w front is apart = other-tells (Link pointer toggle flags) w.ring front refl apart
   acted-tells (NoOp flags) w front is apart = last-tells (NoOp flags) flags w front refl apart
   acted-tells (EventData parameter flags) w front is apart = last-tells (EventData parameter flags) flags w front refl apart
-  acted-tells Foreign w front is apart = other-tells kind Foreign w front refl apart
+  acted-tells Foreign w front is apart = other-tells Foreign w.ring front refl apart
 
   pub command_event_each : CommandEventEach kind
   command_event_each w home front trb found is moves apart =
-      stepped_on w home front (λ (new : OutWorld D). TellsOf kind trb w front new.ring) found
-      (λ same. subst (λ (f : Found). TellsOf kind trb w front (command_acted kind w front f).0.ring) (sym is)
+      stepped_on w home front (λ (new : OutWorld D). TellsOf trb w.ring front new.ring) found
+      (λ same. subst (λ (f : Found). TellsOf trb w.ring front (command_acted kind w front f).0.ring) (sym is)
       (acted-tells trb w front (sym (ap (λ (f : Found). if runs w.ring.consumer.progress.ending then buffer_of f else None) is) ∙ moves)
-      (subst (λ (h : Home). apart_there kind w h) (sym same) apart)))
+      (subst (λ (h : Home). AreApart (event_range w.ring.events) (home_range h)) (sym same) apart)))

@@ -1,23 +1,21 @@
 -- What a step of data-in leaves.
-use Rattle.std.proofs.Common.{◌≡◌, ℕ, ◌+◌, ◌-◌, ◌==◌, Bool, true, false, length as list_length, take, Option, Some, None, refl, subst, arith}
-use Rattle.std.specs.Prelude.{min, nat_le, ◌&&◌, if◌then◌else◌, option_map}
+use Rattle.std.proofs.Common.{◌≡◌, ℕ, ◌+◌, ◌-◌, ◌==◌, Bool, true, false, length as list_length, take, Option, Some, None, subst, arith}
+use Rattle.std.specs.Prelude.{min, nat_le, ◌&&◌, if◌then◌else◌}
 use Rattle.std.proofs.lemmas.List.{length-take-le}
-use Rattle.guest_memory.specs.Bytes.{Memory, is_there, ◌>>=◌}
+use Rattle.guest_memory.specs.Bytes.{is_there, ◌>>=◌}
 use Rattle.guest_rings.specs.declared.context.Home.{Home}
 use Rattle.guest_rings.specs.declared.context.Front.{Front}
 use Rattle.guest_rings.specs.declared.context.Found.{Found}
 use Rattle.guest_rings.specs.declared.context.Found.TheVariants.{WrongKind, NotYet, Item}
 use Rattle.guest_rings.specs.declared.trb.PipeTrb.TheVariants.{Normal, Link, NoOp, EventData, Foreign}
 use Rattle.guest_rings.specs.declared.wanting.Range.{Range}
-use Rattle.guest_rings.specs.Ends.{looked}
-use Rattle.guest_rings.specs.Events.{EventEnd, has_room}
+use Rattle.guest_rings.specs.Events.{has_room}
 use Rattle.guest_pipes.specs.declared.acted.Acted.{Acted}
 use Rattle.guest_pipes.specs.declared.acted.Acted.TheVariants.{Worked}
 use Rattle.guest_pipes.specs.declared.progress.Ending.{Ending}
 use Rattle.guest_pipes.specs.declared.progress.Ending.TheVariants.{Runs, Told, Owed}
-use Rattle.guest_pipes.specs.Gate.{after, gate, through}
 use Rattle.guest_pipes.specs.Progress.{runs}
-use Rattle.guest_pipes.specs.Step.{World, filled, filled_if, poured}
+use Rattle.guest_pipes.specs.Step.{filled, filled_if, poured}
 use Rattle.guest_tags.specs.declared.device.Phase.{Phase}
 use Rattle.guest_tags.specs.declared.device.Phase.TheVariants.{Absent, Gives, Takes, Ended}
 use Rattle.guest_tags.specs.declared.buffer.Buffer.{Buffer}
@@ -25,15 +23,10 @@ use Rattle.guest_tags.specs.Devices.{Kind}
 use Rattle.guest_tags.specs.Tags.{TagWorld}
 use Rattle.guest_tags.specs.DataIn.{acted, acted_at, closed, closed_if, ends_td, filled_ring, gave_by, given_to, has_chunk, is_status, lost, moved_count, moved_if, moved_in, normal, ran, refilled, with_ring}
 use Rattle.guest_tags.specs.Wanted.{buffer_of, moving}
-use Rattle.td_laws.specs.Places.{coming, given_by, let_through, nowhere, part_of, where_there}
+use Rattle.td_laws.specs.Places.{coming, given_by, nowhere, part_of, where_there}
 use Rattle.td_laws.specs.NothingElse.{DataInLeavesElse, LeavesElse}
-use Rattle.td_laws.proofs.Fronts.{gate_room, looked_home}
+use Rattle.td_laws.proofs.Fronts.{by_front}
 use Rattle.td_laws.proofs.RingElse.{failed-keeps, filled-keeps, filled_if-keeps, in_part, poured_in, refused-keeps, shortened-keeps, skipped-keeps, took_other-keeps, unchanged, used_up-keeps}
-
--- where the front is of the place that was looked at
-pub at_home : (memory : Memory) (events : EventEnd) (new : World) (part : Range) (front : Front) (home : Home) → front.home ≡ home
-    → LeavesElse memory events new front.home part → LeavesElse memory events new home part
-at_home memory events new part front home same left = subst (λ (h : Home). LeavesElse memory events new h part) same left
 
 module _ {D : Type 0} (kind : Kind D) where
   -- what a step left, of a part of a buffer
@@ -129,16 +122,9 @@ module _ {D : Type 0} (kind : Kind D) where
 
   pub data_in_leaves : DataInLeavesElse kind
   data_in_leaves w number home =
-      by_gate (gate w.ring.memory w.ring.events w.ring.consumer) (looked w.ring.memory home)
-      (gate_room w.ring.memory w.ring.events w.ring.consumer) (looked_home w.ring.memory home)
-    where
-      by_gate : (opens : Option (Option Acted)) (found : Option Front) → (opens ≡ Some None → has_room w.ring.events ≡ true)
-          → ((front : Front) → found ≡ Some front → front.home ≡ home)
-          → LeavesElse w.ring.memory w.ring.events (after w (through w opens (option_map (acted_at kind w number) found))).0.ring home
-          (part_of w.ring.memory w.ring.consumer (list_length (coming kind w number)) (let_through opens found >>= moving w.ring.consumer))
-      by_gate None found room homes = in_part (unchanged w.ring home)
-      by_gate (Some None) None room homes = in_part (unchanged w.ring home)
-      by_gate (Some None) (Some front) room homes =
-          at_home w.ring.memory w.ring.events (acted_at kind w number front).0.ring _ front home (homes front refl)
-          (acted-leaves front.found w number front (room refl))
-      by_gate (Some (Some acted)) found room homes = in_part (unchanged w.ring home)
+      by_front w w.ring home (acted_at kind w number)
+      (λ (new : TagWorld D) (f : Option Front). LeavesElse w.ring.memory w.ring.events new.ring home
+      (part_of w.ring.memory w.ring.consumer (list_length (coming kind w number)) (f >>= moving w.ring.consumer)))
+      (in_part (unchanged w.ring home))
+      (λ front there room. subst (λ (h : Home). LeavesElse w.ring.memory w.ring.events (acted_at kind w number front).0.ring h
+      (part_of w.ring.memory w.ring.consumer (list_length (coming kind w number)) (moving w.ring.consumer front))) there (acted-leaves front.found w number front room))

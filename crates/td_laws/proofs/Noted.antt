@@ -1,6 +1,6 @@
 -- A step of data-in, of a device that notes what it gives: where the bytes go, and what is left of the chunk.
 use Rattle.std.proofs.Common.{◌≡◌, ℕ, ◌+◌, ◌-◌, ◌≤◌, ◌==◌, Bool, true, false, List, [], ◌∷◌, ◌++◌, length as list_length, take, drop, Option, Some, None, refl, sym, ap, subst, ◌∙◌, arith, append_assoc, append-nil, take-append-drop, true≢false}
-use Rattle.std.specs.Prelude.{min, nat_le, not, ◌&&◌, if◌then◌else◌, option_map, unwrap_or}
+use Rattle.std.specs.Prelude.{min, nat_le, not, ◌&&◌, if◌then◌else◌, unwrap_or}
 use Rattle.std.proofs.lemmas.Bool.{eqb-true, leb-true, not-false}
 use Rattle.std.proofs.lemmas.List.{length-take-le}
 use Rattle.guest_memory.specs.Bytes.{Memory, bytes_from, is_there, ◌>>=◌}
@@ -11,15 +11,13 @@ use Rattle.guest_rings.specs.declared.context.Found.{Found}
 use Rattle.guest_rings.specs.declared.context.Found.TheVariants.{WrongKind, NotYet, Item}
 use Rattle.guest_rings.specs.declared.trb.PipeTrb.TheVariants.{Normal, Link, NoOp, EventData, Foreign}
 use Rattle.guest_rings.specs.declared.wanting.Range.{Range}
-use Rattle.guest_rings.specs.Ends.{looked}
 use Rattle.guest_rings.specs.Events.{has_room}
 use Rattle.guest_rings.specs.Wanted.{home_range}
-use Rattle.guest_pipes.specs.declared.acted.Acted.{Acted}
 use Rattle.guest_pipes.specs.declared.acted.Acted.TheVariants.{Worked}
 use Rattle.guest_pipes.specs.declared.consumer.Consumer.{Consumer}
 use Rattle.guest_pipes.specs.declared.progress.Ending.{Ending}
 use Rattle.guest_pipes.specs.declared.progress.Ending.TheVariants.{Runs, Told, Owed}
-use Rattle.guest_pipes.specs.Gate.{after, gate, through}
+use Rattle.guest_pipes.specs.Gate.{after}
 use Rattle.guest_pipes.specs.Progress.{runs}
 use Rattle.guest_pipes.specs.Step.{World, filled, filled_if, poured}
 use Rattle.guest_tags.specs.declared.device.Phase.{Phase}
@@ -30,9 +28,9 @@ use Rattle.guest_tags.specs.Tags.{TagWorld}
 use Rattle.guest_tags.specs.DataIn.{acted, acted_at, closed, closed_if, ends_td, filled_ring, gave_by, given_to, has_chunk, is_status, lost, moved_count, moved_if, moved_in, normal, ran, refilled, stepped_in, with_ring}
 use Rattle.guest_tags.specs.Wanted.{buffer_of, moving}
 use Rattle.td_laws.specs.Noting.{Noted, noting}
-use Rattle.td_laws.specs.Places.{AreApart, coming, event_range, given_by, let_through, nowhere, part_in, part_of, where_there}
+use Rattle.td_laws.specs.Places.{AreApart, coming, event_range, given_by, nowhere, part_in, part_of, where_there}
 use Rattle.td_laws.specs.InOrder.{held_in}
-use Rattle.td_laws.proofs.Fronts.{gate_room, looked_home}
+use Rattle.td_laws.proofs.Fronts.{by_front}
 use Rattle.td_laws.proofs.RingElse.{filled_if-keeps}
 
 nothing_held : (memory : Memory) (part : Range) → part.count ≡ 0 → held_in memory part ≡ Some []
@@ -199,16 +197,8 @@ module _ {D : Type 0} (kind : Kind D) where
 
   pub step-orders : (w : Tags) (number : ℕ) (home : Home) → Orders w (after w (stepped_in (noting kind) w number home)).0 home (part_in (noting kind) w number home)
   step-orders w number home =
-      by_gate (gate w.ring.memory w.ring.events w.ring.consumer) (looked w.ring.memory home)
-      (gate_room w.ring.memory w.ring.events w.ring.consumer) (looked_home w.ring.memory home)
-    where
-      by_gate : (opens : Option (Option Acted)) (found : Option Front) → (opens ≡ Some None → has_room w.ring.events ≡ true)
-          → ((front : Front) → found ≡ Some front → front.home ≡ home)
-          → Orders w (after w (through w opens (option_map (acted_at (noting kind) w number) found))).0 home
-          (part_of w.ring.memory w.ring.consumer (list_length (coming (noting kind) w number)) (let_through opens found >>= moving w.ring.consumer))
-      by_gate None found room homes = still w w home nowhere refl refl refl refl
-      by_gate (Some None) None room homes = still w w home nowhere refl refl refl refl
-      by_gate (Some None) (Some front) room homes =
-          subst (λ (h : Home). Orders w (acted_at (noting kind) w number front).0 h (part_found w number front.found)) (homes front refl)
-          (acted-orders front.found w number front (room refl))
-      by_gate (Some (Some acted)) found room homes = still w w home nowhere refl refl refl refl
+      by_front w w.ring home (acted_at (noting kind) w number)
+      (λ (new : Tags) (f : Option Front). Orders w new home (part_of w.ring.memory w.ring.consumer (list_length (coming (noting kind) w number)) (f >>= moving w.ring.consumer)))
+      (still w w home nowhere refl refl refl refl)
+      (λ front there room. subst (λ (h : Home). Orders w (acted_at (noting kind) w number front).0 h (part_found w number front.found)) there
+      (acted-orders front.found w number front room))

@@ -1,6 +1,7 @@
 -- What a step of data-out and of the command pipe leaves.
-use Rattle.std.proofs.Common.{◌≡◌, ℕ, ◌-◌, ◌==◌, Bool, true, false, List, length as list_length, Option, Some, None, refl}
+use Rattle.std.proofs.Common.{◌≡◌, ℕ, ◌-◌, ◌==◌, Bool, true, false, List, length as list_length, Option, Some, None, refl, subst}
 use Rattle.std.specs.Prelude.{nat_le, not, ◌&&◌, if◌then◌else◌, option_map}
+use Rattle.guest_rings.specs.declared.context.Home.{Home}
 use Rattle.guest_rings.specs.declared.context.Front.{Front}
 use Rattle.guest_rings.specs.declared.context.Found.{Found}
 use Rattle.guest_rings.specs.declared.context.Found.TheVariants.{WrongKind, NotYet, Item}
@@ -13,7 +14,7 @@ use Rattle.guest_pipes.specs.declared.acted.Acted.{Acted}
 use Rattle.guest_pipes.specs.declared.acted.Acted.TheVariants.{Worked}
 use Rattle.guest_pipes.specs.declared.progress.Ending.{Ending}
 use Rattle.guest_pipes.specs.declared.progress.Ending.TheVariants.{Runs, Told, Owed}
-use Rattle.guest_pipes.specs.Gate.{after, gate, through}
+use Rattle.guest_pipes.specs.Gate.{gate}
 use Rattle.guest_pipes.specs.Progress.{runs}
 use Rattle.guest_pipes.specs.Step.{filled, with_progress}
 use Rattle.guest_tags.specs.declared.device.Phase.{Phase}
@@ -26,8 +27,7 @@ use Rattle.guest_out.specs.Immediate.{bytes_out, tallied}
 use Rattle.guest_out.specs.Worlds.{OutWorld}
 use Rattle.td_laws.specs.Places.{nowhere}
 use Rattle.td_laws.specs.NothingElse.{CommandLeavesElse, DataOutLeavesElse, LeavesElse}
-use Rattle.td_laws.proofs.DataInElse.{at_home}
-use Rattle.td_laws.proofs.Fronts.{gate_room, looked_home}
+use Rattle.td_laws.proofs.Fronts.{by_front, gate_room, looked_home}
 use Rattle.td_laws.proofs.RingElse.{Keeps, failed-keeps, filled-keeps, filled_if-keeps, in_part, refused-keeps, skipped-keeps, took_other-keeps, unchanged, used_up-keeps}
 
 module _ {D : Type 0} (kind : Kind D) where
@@ -104,18 +104,10 @@ module _ {D : Type 0} (kind : Kind D) where
 
   pub data_out_leaves : DataOutLeavesElse kind
   data_out_leaves w number home =
-      by_gate (gate w.ring.memory w.ring.events w.ring.consumer) (looked w.ring.memory home)
-      (gate_room w.ring.memory w.ring.events w.ring.consumer) (looked_home w.ring.memory home)
-    where
-      by_gate : (opens : Option (Option Acted)) (found : Option Front) → (opens ≡ Some None → has_room w.ring.events ≡ true)
-          → ((front : Front) → found ≡ Some front → front.home ≡ home)
-          → LeavesElse w.ring.memory w.ring.events (after w (through w opens (option_map (out_at kind w number) found))).0.ring home nowhere
-      by_gate None found room homes = in_part (unchanged w.ring home)
-      by_gate (Some None) None room homes = in_part (unchanged w.ring home)
-      by_gate (Some None) (Some front) room homes =
-          at_home w.ring.memory w.ring.events (out_at kind w number front).0.ring nowhere front home (homes front refl)
-          (in_part (out_acted-keeps front.found w number front (room refl)))
-      by_gate (Some (Some acted)) found room homes = in_part (unchanged w.ring home)
+      by_front w w.ring home (out_at kind w number) (λ (new : OutWorld D) (f : Option Front). LeavesElse w.ring.memory w.ring.events new.ring home nowhere)
+      (in_part (unchanged w.ring home))
+      (λ front there room. subst (λ (h : Home). LeavesElse w.ring.memory w.ring.events (out_at kind w number front).0.ring h nowhere) there
+      (in_part (out_acted-keeps front.found w number front room)))
 
   -- COMMAND
   received_if-keeps : (last : Bool) (w v : OutWorld D) (front : Front) → KeepsTo w v front → KeepsTo w (received_if kind last v).0 front
@@ -165,6 +157,6 @@ module _ {D : Type 0} (kind : Kind D) where
       by_gate None found room homes = in_part (unchanged w.ring home)
       by_gate (Some None) None room homes = in_part (unchanged w.ring home)
       by_gate (Some None) (Some front) room homes =
-          at_home w.ring.memory w.ring.events (command_at kind w front).0.ring nowhere front home (homes front refl)
+          subst (λ (h : Home). LeavesElse w.ring.memory w.ring.events (command_at kind w front).0.ring h nowhere) (homes front refl)
           (in_part (command_acted-keeps front.found w front (room refl)))
       by_gate (Some (Some acted)) found room homes = in_part (unchanged w.ring home)

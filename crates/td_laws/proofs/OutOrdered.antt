@@ -1,6 +1,6 @@
 -- The bytes that a device takes, over any steps of data-out for its tag.
 use Rattle.std.proofs.Common.{◌≡◌, ℕ, ◌+◌, ◌≤◌, ◌==◌, Bool, true, false, List, [], ◌∷◌, ◌++◌, length as list_length, take, drop, Option, Some, None, refl, sym, ap, ◌∙◌, arith, append_assoc, append-nil}
-use Rattle.std.specs.Prelude.{nat_le, if◌then◌else◌, option_map, unwrap_or}
+use Rattle.std.specs.Prelude.{nat_le, if◌then◌else◌, unwrap_or}
 use Rattle.std.proofs.lemmas.Bool.{leb-true}
 use Rattle.byteorder.specs.Endian.{little_bytes}
 use Rattle.guest_memory.specs.Bytes.{Memory, bytes_from, ◌>>=◌}
@@ -9,12 +9,9 @@ use Rattle.guest_rings.specs.declared.context.Front.{Front}
 use Rattle.guest_rings.specs.declared.context.Found.{Found}
 use Rattle.guest_rings.specs.declared.context.Found.TheVariants.{WrongKind, NotYet, Item}
 use Rattle.guest_rings.specs.declared.trb.PipeTrb.TheVariants.{Normal, Link, NoOp, EventData, Foreign}
-use Rattle.guest_rings.specs.Ends.{looked}
-use Rattle.guest_pipes.specs.declared.acted.Acted.{Acted}
 use Rattle.guest_pipes.specs.declared.acted.Acted.TheVariants.{Worked}
 use Rattle.guest_pipes.specs.declared.progress.Ending.{Ending}
 use Rattle.guest_pipes.specs.declared.progress.Ending.TheVariants.{Runs, Told, Owed}
-use Rattle.guest_pipes.specs.Gate.{after, gate, through}
 use Rattle.guest_pipes.specs.Progress.{runs}
 use Rattle.guest_pipes.specs.Step.{filled}
 use Rattle.guest_tags.specs.declared.device.Phase.{Phase}
@@ -26,9 +23,9 @@ use Rattle.guest_out.specs.DataOut.{drops_rest, out_acted, out_at, out_by, out_c
 use Rattle.guest_out.specs.Immediate.{bytes_out, is_immediate}
 use Rattle.guest_out.specs.Worlds.{OutWorld}
 use Rattle.td_laws.specs.Noting.{Noted, noting}
-use Rattle.td_laws.specs.Places.{let_through}
 use Rattle.td_laws.specs.Runs.{Others, Steps, TagTurn}
-use Rattle.td_laws.specs.OutInOrder.{LeaveHanded, TakenInOrder, all_out_stepped, all_taken, handed, out_stepped, taken_by, taken_of}
+use Rattle.td_laws.proofs.Fronts.{by_front}
+use Rattle.td_laws.specs.OutInOrder.{LeaveHanded, TakenInOrder, all_out_stepped, all_taken, bytes_taken, handed, out_stepped, taken_by, taken_of}
 
 pub no_bytes : (memory : Memory) (buffer : Buffer) (moved count : ℕ) → count ≡ 0 → bytes_out memory buffer moved count ≡ Some []
 unfolding bytes_out bytes_from
@@ -116,22 +113,18 @@ module _ {D : Type 0} (kind : Kind D) (number : ℕ) (home : Home) where
   acted (Item (EventData parameter flags)) w front = other w (runs w.ring.consumer.progress.ending)
   acted (Item Foreign) w front = other w (runs w.ring.consumer.progress.ending)
 
-  one : (w : Outs) → Hands w (out_stepped (noting kind) number home w) (taken_of (noting kind) number home (let_through (gate w.ring.memory w.ring.events w.ring.consumer) (looked w.ring.memory home) >>= moving w.ring.consumer) w)
-  one w = by_gate (gate w.ring.memory w.ring.events w.ring.consumer) (looked w.ring.memory home)
-    where
-      by_gate : (opens : Option (Option Acted)) (found : Option Front)
-          → Hands w (after w (through w opens (option_map (out_at (noting kind) w number) found))).0 (taken_of (noting kind) number home (let_through opens found >>= moving w.ring.consumer) w)
-      by_gate None found = nothing w [] refl
-      by_gate (Some None) None = nothing w [] refl
-      by_gate (Some None) (Some front) = acted front.found w front
-      by_gate (Some (Some acted)) found = nothing w [] refl
+  one : (w : Outs) → Hands w (out_stepped (noting kind) number home w) (bytes_taken (noting kind) number home w)
+  one w =
+      by_front w w.ring home (out_at (noting kind) w number)
+      (λ (new : Outs) (f : Option Front). Hands w new (taken_of (noting kind) number home (f >>= moving w.ring.consumer) w))
+      (nothing w [] refl) (λ front there room. acted front.found w front)
 
   in_order : (turns : List (TagTurn Outs)) (w : Outs) → LeaveHanded kind number home w turns
       → Hands w (all_out_stepped (noting kind) number home w turns) (all_taken (noting kind) number home w turns)
   in_order [] w left = nothing w [] refl
   in_order (Steps ∷ turns) w left =
       let v = out_stepped (noting kind) number home w in
-      let first = taken_of (noting kind) number home (let_through (gate w.ring.memory w.ring.events w.ring.consumer) (looked w.ring.memory home) >>= moving w.ring.consumer) w in
+      let first = bytes_taken (noting kind) number home w in
       in_order turns v left ∙ ap (λ (b : List ℕ). b ++ all_taken (noting kind) number home v turns) (one w) ∙ append_assoc (handed w) first (all_taken (noting kind) number home v turns)
   in_order (Others other ∷ turns) w left = in_order turns other left.1 ∙ ap (λ (b : List ℕ). b ++ all_taken (noting kind) number home other turns) left.0
 

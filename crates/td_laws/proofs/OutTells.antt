@@ -1,8 +1,8 @@
 -- What a step of data-out tells.
-use Rattle.std.proofs.Common.{◌≡◌, ℕ, ◌+◌, ◌-◌, ◌%◌, ◌^◌, ◌<◌, ◌≤◌, ◌==◌, Bool, true, false, List, [], ◌++◌, length as list_length, take, drop, Option, Some, None, refl, sym, ap, subst, ◌∙◌, arith, add-zero, length-drop, length-take}
-use Rattle.std.specs.Prelude.{min, nat_le, not, ◌&&◌, if◌then◌else◌, option_map, unwrap_or}
+use Rattle.std.proofs.Common.{◌≡◌, ℕ, ◌+◌, ◌-◌, ◌%◌, ◌^◌, ◌≤◌, ◌==◌, Bool, true, false, List, [], ◌++◌, length as list_length, drop, Option, Some, None, refl, sym, ap, subst, ◌∙◌, arith, add-zero, length-take}
+use Rattle.std.specs.Prelude.{nat_le, if◌then◌else◌, unwrap_or}
 use Rattle.std.proofs.Math.Nat.{mod-mod}
-use Rattle.std.proofs.lemmas.Bool.{and_parts, false≢true, leb-false, leb-true}
+use Rattle.std.proofs.lemmas.Bool.{and_parts, false≢true, leb-true}
 use Rattle.std.proofs.lemmas.Option.{none-some, same_Some}
 use Rattle.byteorder.specs.Endian.{little_bytes}
 use Rattle.guest_memory.specs.Bytes.{Memory, bytes_from, ◌>>=◌}
@@ -11,17 +11,13 @@ use Rattle.guest_rings.specs.declared.context.Home.{Home}
 use Rattle.guest_rings.specs.declared.context.Front.{Front}
 use Rattle.guest_rings.specs.declared.context.Found.{Found}
 use Rattle.guest_rings.specs.declared.context.Found.TheVariants.{WrongKind, NotYet, Item}
-use Rattle.guest_rings.specs.declared.trb.Flags.{Flags}
 use Rattle.guest_rings.specs.declared.trb.PipeTrb.{PipeTrb}
 use Rattle.guest_rings.specs.declared.trb.PipeTrb.TheVariants.{Normal, Link, NoOp, EventData, Foreign}
-use Rattle.guest_rings.specs.Ends.{looked}
 use Rattle.guest_rings.specs.Wanted.{home_range}
 use Rattle.guest_pipes.specs.declared.acted.Acted.{Acted}
 use Rattle.guest_pipes.specs.declared.acted.Acted.TheVariants.{Worked}
 use Rattle.guest_pipes.specs.declared.progress.Ending.{Ending}
 use Rattle.guest_pipes.specs.declared.progress.Ending.TheVariants.{Runs, Told, Owed}
-use Rattle.guest_pipes.specs.declared.progress.Progress.{Progress}
-use Rattle.guest_pipes.specs.Gate.{after, gate, through, took_other}
 use Rattle.guest_pipes.specs.Progress.{counted, runs}
 use Rattle.guest_pipes.specs.Step.{World, failed, filled, filled_if, with_progress}
 use Rattle.guest_tags.specs.declared.device.End.{End}
@@ -31,15 +27,14 @@ use Rattle.guest_tags.specs.declared.device.Phase.TheVariants.{Absent, Gives, Ta
 use Rattle.guest_tags.specs.declared.buffer.Buffer.{Buffer}
 use Rattle.guest_tags.specs.Devices.{Kind}
 use Rattle.guest_tags.specs.Wanted.{buffer_of, moving}
-use Rattle.guest_out.specs.DataOut.{drops_rest, is_good, out_acted, out_at, out_by, out_count, out_drawn, out_dropped, out_dropped_if, out_filled, out_filled_if, out_gathered, out_handed, out_moved, out_normal, out_ran, out_took, out_went, out_with}
+use Rattle.guest_out.specs.DataOut.{drops_rest, is_good, out_acted, out_at, out_by, out_count, out_drawn, out_dropped, out_dropped_if, out_filled, out_filled_if, out_gathered, out_handed, out_moved, out_normal, out_ran, out_took, out_with}
 use Rattle.guest_out.specs.Immediate.{bytes_out, immediate_bytes, is_immediate, tallied}
 use Rattle.guest_out.specs.Worlds.{OutWorld}
-use Rattle.td_laws.specs.Places.{AreApart, event_range, front_of, let_through}
-use Rattle.td_laws.specs.OutInOrder.{bytes_taken, out_stepped, taken_by, taken_of}
-use Rattle.td_laws.specs.Told.{Counts, IsToldOf, edtla_past}
+use Rattle.td_laws.specs.Places.{AreApart, event_range}
+use Rattle.td_laws.specs.OutInOrder.{taken_by, taken_of}
 use Rattle.td_laws.specs.OutTold.{Drops, IsToldOut, Misses, OutEventEach, OutResidualsAddUp, Partly, Wholly}
-use Rattle.td_laws.proofs.Fronts.{looked_home}
-use Rattle.td_laws.proofs.RingTells.{data_told-restarts, data_told-tells, erred-edtla, erred-tells, failed-tells, filled-counts, filled-tells, linked-progress, linked-tells, passed-edtla, passed-tells, skipped-edtla, skipped-tells}
+use Rattle.td_laws.proofs.Fronts.{on_front}
+use Rattle.td_laws.proofs.RingTells.{TellsOf, failed-tells, filled-counts, filled-tells, no_buffer, other-tells, skipped-edtla, skipped-tells}
 use Rattle.td_laws.proofs.OutOrdered.{no_bytes}
 
 -- no more bytes than were asked for
@@ -194,10 +189,6 @@ module _ {D : Type 0} (kind : Kind D) where
           (full_takes (kind.phase w.device number) w number home buffer past) (omega (arith, past, within)) apart
       by_room false is = out_by-told (kind.phase w.device number) w number home front buffer refl within apart
 
-  pub no_buffer : {A : Type 0} (moves : Bool) (buffer : Buffer) → (if moves then None else None) ≡ Some buffer → A
-  no_buffer true buffer is = absurd (none-some buffer is)
-  no_buffer false buffer is = absurd (none-some buffer is)
-
   out_normal-told : (ending : Ending) (w : OutWorld D) (number : ℕ) (home : Home) (front : Front) (buffer moved : Buffer) → (if runs ending then Some buffer else None) ≡ Some moved
       → w.ring.consumer.progress.moved ≤ moved.length → AreApart (event_range w.ring.events) (home_range front.home)
       → OutAddsUp w (out_normal kind ending w number front buffer).0 number front moved (taken_of kind number home (Some moved) w)
@@ -221,45 +212,12 @@ module _ {D : Type 0} (kind : Kind D) where
   out_acted-told (Item (EventData parameter flags)) w number home front buffer is within apart = no_buffer (runs w.ring.consumer.progress.ending) buffer is
   out_acted-told (Item Foreign) w number home front buffer is within apart = no_buffer (runs w.ring.consumer.progress.ending) buffer is
 
-  -- a step that is let through is taken on what was found
-  out_stepped_on : (w : OutWorld D) (number : ℕ) (home : Home) (front : Front) (P : OutWorld D → Type 0) → front_of w.ring home ≡ Some front
-      → (front.home ≡ home → P (out_at kind w number front).0) → P (out_stepped kind number home w)
-  out_stepped_on w number home front P found holds =
-      by_gate (gate w.ring.memory w.ring.events w.ring.consumer) (looked w.ring.memory home) (looked_home w.ring.memory home) found
-    where
-      by_gate : (opens : Option (Option Acted)) (finds : Option Front) → ((f : Front) → finds ≡ Some f → f.home ≡ home) → let_through opens finds ≡ Some front
-          → P (after w (through w opens (option_map (out_at kind w number) finds))).0
-      by_gate None finds homes is = absurd (none-some front is)
-      by_gate (Some None) None homes is = absurd (none-some front is)
-      by_gate (Some None) (Some f) homes is =
-          let same : f ≡ front = same_Some f front is in
-          subst (λ (g : Front). P (out_at kind w number g).0) (sym same) (holds (subst (λ (g : Front). g.home ≡ home) same (homes f refl)))
-      by_gate (Some (Some acted)) finds homes is = absurd (none-some front is)
-
-  abbrev pub apart_there : OutWorld D → Home → Type 0
-  apart_there w home = AreApart (event_range w.ring.events) (home_range home)
-
   pub out_residuals_add_up : OutResidualsAddUp kind
   out_residuals_add_up w number home front buffer found is within apart =
-      let in_front : (front_of w.ring home >>= moving w.ring.consumer) ≡ Some buffer = ap (λ (f : Option Front). f >>= moving w.ring.consumer) found ∙ is in
-      out_stepped_on w number home front
-      (λ (new : OutWorld D). IsToldOut w.ring new.ring front.cursor.place buffer (list_length (bytes_taken kind number home w)) (IsGood w number)) found
-      (λ same. subst (λ (b : Option Buffer). OutAddsUp w (out_at kind w number front).0 number front buffer (taken_of kind number home b w)) (sym in_front)
-      (out_acted-told front.found w number home front buffer is within (subst (λ (h : Home). apart_there w h) (sym same) apart)))
-
-  -- what is told of a TRB that moves nothing, and what EDTLA is behind it
-  abbrev pub TellsOf : PipeTrb → OutWorld D → Front → World → Type 0
-  TellsOf trb w front new = IsToldOf trb w.ring.consumer w.ring.events new front.cursor.place × (new.consumer.progress.edtla ≡ edtla_past trb w.ring.consumer.progress.edtla)
-
-  pub other-tells : (trb : PipeTrb) (w : OutWorld D) (front : Front) → buffer_of (Item trb) ≡ None → apart_there w front.home → TellsOf trb w front (took_other w.ring front trb)
-  other-tells (Normal pointer length flags) w front is apart = absurd (none-some (record { pointer = pointer; length = length; flags = flags }) (sym is))
-  other-tells (Link pointer toggle flags) w front is apart =
-      (linked-tells w.ring front pointer toggle flags apart, ap (λ (progress : Progress). progress.edtla) (linked-progress w.ring front pointer toggle flags))
-  other-tells (NoOp flags) w front is apart =
-      (passed-tells w.ring.consumer.progress.ending w.ring front flags apart, passed-edtla w.ring.consumer.progress.ending w.ring front flags)
-  other-tells (EventData parameter flags) w front is apart =
-      (data_told-tells w.ring front parameter flags apart, data_told-restarts w.ring front parameter flags)
-  other-tells Foreign w front is apart = (erred-tells w.ring front apart, erred-edtla w.ring front)
+      on_front w w.ring home (out_at kind w number)
+      (λ (new : OutWorld D) (f : Option Front). OutAddsUp w new number front buffer (taken_of kind number home (f >>= moving w.ring.consumer) w)) front found
+      (λ same. subst (λ (b : Option Buffer). OutAddsUp w (out_at kind w number front).0 number front buffer (taken_of kind number home b w)) (sym is)
+      (out_acted-told front.found w number home front buffer is within (subst (λ (h : Home). AreApart (event_range w.ring.events) (home_range h)) (sym same) apart)))
 
   out_skips : (ending : Ending) (w : OutWorld D) (number : ℕ) (front : Front) (buffer : Buffer) → (if runs ending then Some buffer else None) ≡ None
       → out_normal kind ending w number front buffer ≡ out_normal kind (Told 2) w number front buffer
@@ -268,19 +226,19 @@ module _ {D : Type 0} (kind : Kind D) where
   out_skips Owed w number front buffer is = refl
 
   out_acted-tells : (trb : PipeTrb) (w : OutWorld D) (number : ℕ) (front : Front) → (if runs w.ring.consumer.progress.ending then buffer_of (Item trb) else None) ≡ None
-      → apart_there w front.home → TellsOf trb w front (out_acted kind w number front (Item trb)).0.ring
+      → AreApart (event_range w.ring.events) (home_range front.home) → TellsOf trb w.ring front (out_acted kind w number front (Item trb)).0.ring
   out_acted-tells (Normal pointer length flags) w number front is apart =
       let buffer : Buffer = record { pointer = pointer; length = length; flags = flags } in
-      subst (λ (done : OutWorld D × Acted). TellsOf (Normal pointer length flags) w front done.0.ring)
+      subst (λ (done : OutWorld D × Acted). TellsOf (Normal pointer length flags) w.ring front done.0.ring)
       (sym (out_skips w.ring.consumer.progress.ending w number front buffer is)) (skipped-tells w.ring front length flags apart, skipped-edtla w.ring front length flags)
-  out_acted-tells (Link pointer toggle flags) w number front is apart = other-tells (Link pointer toggle flags) w front refl apart
-  out_acted-tells (NoOp flags) w number front is apart = other-tells (NoOp flags) w front refl apart
-  out_acted-tells (EventData parameter flags) w number front is apart = other-tells (EventData parameter flags) w front refl apart
-  out_acted-tells Foreign w number front is apart = other-tells Foreign w front refl apart
+  out_acted-tells (Link pointer toggle flags) w number front is apart = other-tells (Link pointer toggle flags) w.ring front refl apart
+  out_acted-tells (NoOp flags) w number front is apart = other-tells (NoOp flags) w.ring front refl apart
+  out_acted-tells (EventData parameter flags) w number front is apart = other-tells (EventData parameter flags) w.ring front refl apart
+  out_acted-tells Foreign w number front is apart = other-tells Foreign w.ring front refl apart
 
   pub out_event_each : OutEventEach kind
   out_event_each w number home front trb found is moves apart =
-      out_stepped_on w number home front (λ (new : OutWorld D). TellsOf trb w front new.ring) found
-      (λ same. subst (λ (f : Found). TellsOf trb w front (out_acted kind w number front f).0.ring) (sym is)
+      on_front w w.ring home (out_at kind w number) (λ (new : OutWorld D) (f : Option Front). TellsOf trb w.ring front new.ring) front found
+      (λ same. subst (λ (f : Found). TellsOf trb w.ring front (out_acted kind w number front f).0.ring) (sym is)
       (out_acted-tells trb w number front (sym (ap (λ (f : Found). if runs w.ring.consumer.progress.ending then buffer_of f else None) is) ∙ moves)
-      (subst (λ (h : Home). apart_there w h) (sym same) apart)))
+      (subst (λ (h : Home). AreApart (event_range w.ring.events) (home_range h)) (sym same) apart)))

@@ -1,6 +1,6 @@
 -- What is told at a ring's end: the event's bytes stand at the place that was the next.
-use Rattle.std.proofs.Common.{◌≡◌, ℕ, ◌+◌, ◌%◌, ◌^◌, Bool, true, false, length, Some, refl, ap, ◌∙◌, arith, ◌&&◌, ◌||◌}
-use Rattle.std.specs.Prelude.{not}
+use Rattle.std.proofs.Common.{◌≡◌, ℕ, ◌+◌, ◌%◌, ◌^◌, Bool, true, false, length, Some, None, refl, sym, ap, ◌∙◌, arith, ◌&&◌, ◌||◌}
+use Rattle.std.specs.Prelude.{not, if◌then◌else◌}
 use Rattle.guest_memory.specs.Bytes.{Memory, bytes_from}
 use Rattle.guest_memory.specs.Ranges.{from_each, written_ahead}
 use Rattle.guest_rings.specs.declared.cursor.Cursor.{Cursor}
@@ -19,7 +19,14 @@ use Rattle.guest_pipes.specs.declared.progress.Progress.{Progress}
 use Rattle.guest_pipes.specs.Progress.{code_of, owes, past, restarted, runs, short_ending}
 use Rattle.guest_pipes.specs.Step.{World, about, babbled, consumed, data_restarted, data_told, ended_as, erred, failed, filled, linked, passed, posted, posted_if, shortened, skipped, stood, with_progress, refused}
 use Rattle.td_laws.specs.Places.{AreApart, event_range}
-use Rattle.td_laws.specs.Told.{Counts, HasTold, Tells, edtla_behind}
+use Rattle.guest_rings.specs.declared.context.Found.TheVariants.{Item}
+use Rattle.guest_rings.specs.declared.trb.PipeTrb.{PipeTrb}
+use Rattle.guest_rings.specs.declared.trb.PipeTrb.TheVariants.{Normal, Link, NoOp, EventData, Foreign}
+use Rattle.guest_tags.specs.declared.buffer.Buffer.{Buffer}
+use Rattle.guest_tags.specs.Wanted.{buffer_of}
+use Rattle.guest_pipes.specs.Gate.{took_other}
+use Rattle.std.proofs.lemmas.Option.{none-some}
+use Rattle.td_laws.specs.Told.{Counts, HasTold, IsToldOf, Tells, edtla_behind, edtla_past}
 use Rattle.td_laws.proofs.RingElse.{event_size, stood_else, stood_events}
 
 posted_events : (w : World) (event : Event) (quiet : Bool) → (posted w event quiet).events ≡ enqueued w.events quiet
@@ -255,3 +262,20 @@ erred-tells w front apart =
       once = refl;
       stands = from_each (erred w front).memory (enqueue_pointer w.events) 16 bytes size (λ k below. written_ahead w.memory (enqueue_pointer w.events) bytes k (omega (arith, size)));
     }
+
+-- what is told of a TRB that moves nothing, and what EDTLA is behind it
+abbrev pub TellsOf : PipeTrb → World → Front → World → Type 0
+TellsOf trb w front new = IsToldOf trb w.consumer w.events new front.cursor.place × (new.consumer.progress.edtla ≡ edtla_past trb w.consumer.progress.edtla)
+
+pub other-tells : (trb : PipeTrb) (w : World) (front : Front) → buffer_of (Item trb) ≡ None → AreApart (event_range w.events) (home_range front.home)
+    → TellsOf trb w front (took_other w front trb)
+other-tells (Normal pointer length flags) w front is apart = absurd (none-some (record { pointer = pointer; length = length; flags = flags }) (sym is))
+other-tells (Link pointer toggle flags) w front is apart =
+    (linked-tells w front pointer toggle flags apart, ap (λ (progress : Progress). progress.edtla) (linked-progress w front pointer toggle flags))
+other-tells (NoOp flags) w front is apart = (passed-tells w.consumer.progress.ending w front flags apart, passed-edtla w.consumer.progress.ending w front flags)
+other-tells (EventData parameter flags) w front is apart = (data_told-tells w front parameter flags apart, data_told-restarts w front parameter flags)
+other-tells Foreign w front is apart = (erred-tells w front apart, erred-edtla w front)
+
+pub no_buffer : {A : Type 0} (moves : Bool) (buffer : Buffer) → (if moves then None else None) ≡ Some buffer → A
+no_buffer true buffer is = absurd (none-some buffer is)
+no_buffer false buffer is = absurd (none-some buffer is)

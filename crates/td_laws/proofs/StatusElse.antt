@@ -1,8 +1,9 @@
 -- What a step of status leaves.
 use Rattle.std.proofs.Common.{◌≡◌, ℕ, ◌+◌, ◌-◌, ◌==◌, Bool, true, false, length as list_length, take, Option, Some, None, refl, sym, subst, arith}
-use Rattle.std.specs.Prelude.{nat_le, nat_lt, not, ◌&&◌, if◌then◌else◌, option_map}
+use Rattle.std.specs.Prelude.{nat_le, nat_lt, not, ◌&&◌, if◌then◌else◌}
 use Rattle.std.proofs.lemmas.List.{length-take-le}
 use Rattle.guest_memory.specs.Bytes.{is_there, ◌>>=◌}
+use Rattle.guest_rings.specs.declared.context.Home.{Home}
 use Rattle.guest_rings.specs.declared.context.Front.{Front}
 use Rattle.guest_rings.specs.declared.context.Found.{Found}
 use Rattle.guest_rings.specs.declared.context.Found.TheVariants.{WrongKind, NotYet, Item}
@@ -10,13 +11,12 @@ use Rattle.guest_rings.specs.declared.trb.Flags.{Flags}
 use Rattle.guest_rings.specs.declared.trb.PipeTrb.{PipeTrb}
 use Rattle.guest_rings.specs.declared.trb.PipeTrb.TheVariants.{Normal, Link, NoOp, EventData, Foreign}
 use Rattle.guest_rings.specs.declared.wanting.Range.{Range}
-use Rattle.guest_rings.specs.Ends.{looked}
 use Rattle.guest_rings.specs.Events.{has_room}
 use Rattle.guest_pipes.specs.declared.acted.Acted.{Acted}
 use Rattle.guest_pipes.specs.declared.acted.Acted.TheVariants.{Waits, Worked}
 use Rattle.guest_pipes.specs.declared.progress.Ending.{Ending}
 use Rattle.guest_pipes.specs.declared.progress.Ending.TheVariants.{Runs, Told, Owed}
-use Rattle.guest_pipes.specs.Gate.{after, gate, through, took_other}
+use Rattle.guest_pipes.specs.Gate.{took_other}
 use Rattle.guest_pipes.specs.Progress.{runs}
 use Rattle.guest_pipes.specs.Step.{World, filled, poured}
 use Rattle.guest_tags.specs.declared.buffer.Buffer.{Buffer}
@@ -24,10 +24,9 @@ use Rattle.guest_tags.specs.Devices.{Kind}
 use Rattle.guest_tags.specs.Tags.{TagWorld}
 use Rattle.guest_tags.specs.Status.{answer_taken, has_begun, has_unit, is_out, left_of, overlap_taken, sent_to, status_acted, status_at, status_ending, status_normal, status_with, unit_babbled, unit_count, unit_full, unit_lost, unit_moved, unit_on, unit_over, unit_ran, unit_ready, unit_short, unit_some, unit_went}
 use Rattle.guest_tags.specs.Wanted.{buffer_of, coming_status, moving}
-use Rattle.td_laws.specs.Places.{let_through, nowhere, part_of, where_there}
+use Rattle.td_laws.specs.Places.{nowhere, part_of, where_there}
 use Rattle.td_laws.specs.NothingElse.{LeavesElse, StatusLeavesElse}
-use Rattle.td_laws.proofs.DataInElse.{at_home}
-use Rattle.td_laws.proofs.Fronts.{gate_room, looked_home}
+use Rattle.td_laws.proofs.Fronts.{by_front}
 use Rattle.td_laws.proofs.RingElse.{Keeps, babbled-keeps, failed-keeps, filled-keeps, in_part, poured_in, refused-keeps, shortened-keeps, skipped-keeps, took_other-keeps, unchanged, used_up-keeps}
 
 module _ {D : Type 0} (kind : Kind D) where
@@ -151,16 +150,9 @@ module _ {D : Type 0} (kind : Kind D) where
 
   pub status_leaves : StatusLeavesElse kind
   status_leaves w number due home =
-      by_gate (gate w.ring.memory w.ring.events w.ring.consumer) (looked w.ring.memory home)
-      (gate_room w.ring.memory w.ring.events w.ring.consumer) (looked_home w.ring.memory home)
-    where
-      by_gate : (opens : Option (Option Acted)) (found : Option Front) → (opens ≡ Some None → has_room w.ring.events ≡ true)
-          → ((front : Front) → found ≡ Some front → front.home ≡ home)
-          → LeavesElse w.ring.memory w.ring.events (after w (through w opens (option_map (status_at kind w number due) found))).0.ring home
-          (part_of w.ring.memory w.ring.consumer (coming_status kind w number due) (let_through opens found >>= moving w.ring.consumer))
-      by_gate None found room homes = in_part (unchanged w.ring home)
-      by_gate (Some None) None room homes = in_part (unchanged w.ring home)
-      by_gate (Some None) (Some front) room homes =
-          at_home w.ring.memory w.ring.events (status_at kind w number due front).0.ring _ front home (homes front refl)
-          (status_acted-leaves front.found w number due front (room refl))
-      by_gate (Some (Some acted)) found room homes = in_part (unchanged w.ring home)
+      by_front w w.ring home (status_at kind w number due)
+      (λ (new : TagWorld D) (f : Option Front). LeavesElse w.ring.memory w.ring.events new.ring home
+      (part_of w.ring.memory w.ring.consumer (coming_status kind w number due) (f >>= moving w.ring.consumer)))
+      (in_part (unchanged w.ring home))
+      (λ front there room. subst (λ (h : Home). LeavesElse w.ring.memory w.ring.events (status_at kind w number due front).0.ring h
+      (part_of w.ring.memory w.ring.consumer (coming_status kind w number due) (moving w.ring.consumer front))) there (status_acted-leaves front.found w number due front room))

@@ -1,11 +1,11 @@
 -- What a step of status tells.
-use Rattle.std.proofs.Common.{◌≡◌, ℕ, ◌+◌, ◌-◌, ◌%◌, ◌^◌, ◌<◌, ◌≤◌, ◌==◌, ◌⊎◌, Bool, true, false, List, [], length as list_length, take, drop, Option, Some, None, refl, sym, ap, subst, ◌∙◌, arith, add-zero, inl, inr, length-drop}
-use Rattle.std.specs.Prelude.{min, nat_le, nat_lt, not, ◌&&◌, if◌then◌else◌, option_map}
+use Rattle.std.proofs.Common.{◌≡◌, ℕ, ◌+◌, ◌-◌, ◌%◌, ◌^◌, ◌≤◌, ◌==◌, ◌⊎◌, Bool, true, false, length as list_length, take, Option, Some, None, refl, sym, ap, subst, ◌∙◌, arith, add-zero, inl, inr, length-drop}
+use Rattle.std.specs.Prelude.{nat_le, nat_lt, not, ◌&&◌, if◌then◌else◌}
 use Rattle.std.proofs.Math.Nat.{mod-mod}
 use Rattle.std.proofs.lemmas.Bool.{eqb-true, leb-false, leb-true, ltb-false, ltb-true, not-false}
 use Rattle.std.proofs.lemmas.List.{length-take-le}
 use Rattle.std.proofs.lemmas.Option.{none-some, same_Some}
-use Rattle.guest_memory.specs.Bytes.{Memory, is_there, ◌>>=◌}
+use Rattle.guest_memory.specs.Bytes.{is_there, ◌>>=◌}
 use Rattle.guest_rings.specs.declared.context.Home.{Home}
 use Rattle.guest_rings.specs.declared.context.Front.{Front}
 use Rattle.guest_rings.specs.declared.context.Found.{Found}
@@ -14,14 +14,12 @@ use Rattle.guest_rings.specs.declared.trb.Flags.{Flags}
 use Rattle.guest_rings.specs.declared.trb.PipeTrb.{PipeTrb}
 use Rattle.guest_rings.specs.declared.trb.PipeTrb.TheVariants.{Normal, Link, NoOp, EventData, Foreign}
 use Rattle.guest_rings.specs.declared.wanting.Range.{Range}
-use Rattle.guest_rings.specs.Ends.{looked}
 use Rattle.guest_rings.specs.Wanted.{home_range}
 use Rattle.guest_pipes.specs.declared.acted.Acted.{Acted}
 use Rattle.guest_pipes.specs.declared.acted.Acted.TheVariants.{Waits, Worked}
 use Rattle.guest_pipes.specs.declared.progress.Ending.{Ending}
 use Rattle.guest_pipes.specs.declared.progress.Ending.TheVariants.{Runs, Told, Owed}
-use Rattle.guest_pipes.specs.declared.progress.Progress.{Progress}
-use Rattle.guest_pipes.specs.Gate.{after, gate, through, took_other}
+use Rattle.guest_pipes.specs.Gate.{took_other}
 use Rattle.guest_pipes.specs.Progress.{runs}
 use Rattle.guest_pipes.specs.Step.{World, about, filled, poured}
 use Rattle.guest_tags.specs.declared.buffer.Buffer.{Buffer}
@@ -29,12 +27,12 @@ use Rattle.guest_tags.specs.Devices.{Kind}
 use Rattle.guest_tags.specs.Tags.{TagWorld}
 use Rattle.guest_tags.specs.Status.{has_begun, has_unit, is_out, left_of, sent_to, status_acted, status_at, status_ending, status_normal, status_with, unit_babbled, unit_count, unit_full, unit_lost, unit_moved, unit_on, unit_over, unit_ran, unit_ready, unit_short, unit_some, unit_went}
 use Rattle.guest_tags.specs.Wanted.{buffer_of, coming_status, moving}
-use Rattle.td_laws.specs.Places.{AreApart, event_range, front_of, let_through, nowhere, part_of, part_status, where_there}
-use Rattle.td_laws.specs.Told.{Counts, HasTold, IsToldOf, edtla_past}
-use Rattle.td_laws.specs.StatusTold.{Awaits, Babbles, EndsShort, FillsUp, IsLost, IsToldOfUnit, StatusEventEach, StatusResidualsAddUp, status_step}
-use Rattle.td_laws.proofs.Fronts.{looked_home}
+use Rattle.td_laws.specs.Places.{AreApart, event_range, nowhere, part_of, where_there}
+use Rattle.td_laws.specs.Told.{HasTold}
+use Rattle.td_laws.specs.StatusTold.{Awaits, Babbles, EndsShort, FillsUp, IsLost, IsToldOfUnit, StatusEventEach, StatusResidualsAddUp}
+use Rattle.td_laws.proofs.Fronts.{on_front}
 use Rattle.td_laws.proofs.Noted.{nothing_there}
-use Rattle.td_laws.proofs.RingTells.{babbled-halts, babbled-tells, data_told-restarts, data_told-tells, erred-edtla, erred-tells, failed-tells, filled-counts, filled-tells, linked-progress, linked-tells, passed-edtla, passed-tells, shortened-counts, shortened-tells, skipped-edtla, skipped-tells}
+use Rattle.td_laws.proofs.RingTells.{TellsOf, babbled-halts, babbled-tells, failed-tells, filled-counts, filled-tells, no_buffer, other-tells, shortened-counts, shortened-tells, skipped-edtla, skipped-tells}
 use Rattle.td_laws.proofs.StatusElse.{ready_ring}
 
 module _ {D : Type 0} (kind : Kind D) where
@@ -173,10 +171,6 @@ module _ {D : Type 0} (kind : Kind D) where
   status_normal-told (Told code) w number due front buffer moved is within apart = absurd (none-some moved is)
   status_normal-told Owed w number due front buffer moved is within apart = absurd (none-some moved is)
 
-  no_buffer : {A : Type 0} (moves : Bool) (buffer : Buffer) → (if moves then None else None) ≡ Some buffer → A
-  no_buffer true buffer is = absurd (none-some buffer is)
-  no_buffer false buffer is = absurd (none-some buffer is)
-
   status_acted-told : (found : Found) (w : TagWorld D) (number : ℕ) (due : Bool) (front : Front) (buffer : Buffer)
       → (if runs w.ring.consumer.progress.ending then buffer_of found else None) ≡ Some buffer
       → w.ring.consumer.progress.moved ≤ buffer.length → apart_there w.ring front.home
@@ -190,45 +184,16 @@ module _ {D : Type 0} (kind : Kind D) where
   status_acted-told (Item (EventData parameter flags)) w number due front buffer is within apart = no_buffer (runs w.ring.consumer.progress.ending) buffer is
   status_acted-told (Item Foreign) w number due front buffer is within apart = no_buffer (runs w.ring.consumer.progress.ending) buffer is
 
-  -- a step that is let through is taken on what was found
-  stepped_on : (w : TagWorld D) (number : ℕ) (due : Bool) (home : Home) (front : Front) (P : TagWorld D → Type 0) → front_of w.ring home ≡ Some front
-      → (front.home ≡ home → P (status_at kind w number due front).0) → P (status_step kind number due home w)
-  stepped_on w number due home front P found holds =
-      by_gate (gate w.ring.memory w.ring.events w.ring.consumer) (looked w.ring.memory home) (looked_home w.ring.memory home) found
-    where
-      by_gate : (opens : Option (Option Acted)) (finds : Option Front) → ((f : Front) → finds ≡ Some f → f.home ≡ home) → let_through opens finds ≡ Some front
-          → P (after w (through w opens (option_map (status_at kind w number due) finds))).0
-      by_gate None finds homes is = absurd (none-some front is)
-      by_gate (Some None) None homes is = absurd (none-some front is)
-      by_gate (Some None) (Some f) homes is =
-          let same : f ≡ front = same_Some f front is in
-          subst (λ (g : Front). P (status_at kind w number due g).0) (sym same) (holds (subst (λ (g : Front). g.home ≡ home) same (homes f refl)))
-      by_gate (Some (Some acted)) finds homes is = absurd (none-some front is)
-
   pub status_residuals_add_up : StatusResidualsAddUp kind
   status_residuals_add_up w number due home front buffer found is within apart =
-      let in_front : (front_of w.ring home >>= moving w.ring.consumer) ≡ Some buffer = ap (λ (f : Option Front). f >>= moving w.ring.consumer) found ∙ is in
-      subst (λ (b : Option Buffer). Adds w (status_step kind number due home w).ring front buffer (part_of w.ring.memory w.ring.consumer (coming_status kind w number due) b).count) (sym in_front)
-      (stepped_on w number due home front
-      (λ (new : TagWorld D). Adds w new.ring front buffer (part_of w.ring.memory w.ring.consumer (coming_status kind w number due) (Some buffer)).count) found
-      (λ same. status_acted-told front.found w number due front buffer is within (subst (λ (h : Home). apart_there w.ring h) (sym same) apart)))
+      on_front w w.ring home (status_at kind w number due)
+      (λ (new : TagWorld D) (f : Option Front). Adds w new.ring front buffer (part_of w.ring.memory w.ring.consumer (coming_status kind w number due) (f >>= moving w.ring.consumer)).count) front found
+      (λ same. subst (λ (b : Option Buffer). Adds w (status_at kind w number due front).0.ring front buffer (part_of w.ring.memory w.ring.consumer (coming_status kind w number due) b).count) (sym is)
+      (status_acted-told front.found w number due front buffer is within (subst (λ (h : Home). apart_there w.ring h) (sym same) apart)))
 
-  -- what is told of a TRB that moves nothing
-  abbrev TellsOf : PipeTrb → TagWorld D → Front → World → Type 0
-  TellsOf trb w front new = IsToldOf trb w.ring.consumer w.ring.events new front.cursor.place × (new.consumer.progress.edtla ≡ edtla_past trb w.ring.consumer.progress.edtla)
-
+  -- what is told of a TRB that moves nothing, or that the TD is shorter than the unit
   abbrev Either : PipeTrb → TagWorld D → Front → World → Type 0
-  Either trb w front new = TellsOf trb w front new ⊎ ((quiet : Bool) × HasTold w.ring.events new (about w.ring.consumer front.cursor.place 0 3) quiet)
-
-  other-tells : (trb : PipeTrb) (w : TagWorld D) (front : Front) → buffer_of (Item trb) ≡ None → apart_there w.ring front.home → TellsOf trb w front (took_other w.ring front trb)
-  other-tells (Normal pointer length flags) w front is apart = absurd (none-some (record { pointer = pointer; length = length; flags = flags }) (sym is))
-  other-tells (Link pointer toggle flags) w front is apart =
-      (linked-tells w.ring front pointer toggle flags apart, ap (λ (progress : Progress). progress.edtla) (linked-progress w.ring front pointer toggle flags))
-  other-tells (NoOp flags) w front is apart =
-      (passed-tells w.ring.consumer.progress.ending w.ring front flags apart, passed-edtla w.ring.consumer.progress.ending w.ring front flags)
-  other-tells (EventData parameter flags) w front is apart =
-      (data_told-tells w.ring front parameter flags apart, data_told-restarts w.ring front parameter flags)
-  other-tells Foreign w front is apart = (erred-tells w.ring front apart, erred-edtla w.ring front)
+  Either trb w front new = TellsOf trb w.ring front new ⊎ ((quiet : Bool) × HasTold w.ring.events new (about w.ring.consumer front.cursor.place 0 3) quiet)
 
   ending-tells : (trb : PipeTrb) (flags : Flags) (w : TagWorld D) (front : Front) → buffer_of (Item trb) ≡ None → apart_there w.ring front.home
       → Either trb w front (status_ending kind w front trb flags).ring
@@ -236,9 +201,9 @@ module _ {D : Type 0} (kind : Kind D) where
   ending-tells trb flags w front is apart = by_end (has_begun w.tag && not flags.chain) (is_out w.tag)
     where
       by_end : (ends out : Bool) → Either trb w front (if ends then unit_over kind out w front trb flags else status_with kind w (took_other w.ring front trb) w.tag).ring
-      by_end true true = inl (other-tells trb w front is apart)
+      by_end true true = inl (other-tells trb w.ring front is apart)
       by_end true false = inr (flags.bei, babbled-tells w.ring front flags apart)
-      by_end false out = inl (other-tells trb w front is apart)
+      by_end false out = inl (other-tells trb w.ring front is apart)
 
   skips : (ending : Ending) (w : TagWorld D) (number : ℕ) (due : Bool) (front : Front) (buffer : Buffer) → (if runs ending then Some buffer else None) ≡ None
       → status_normal kind ending w number due front buffer ≡ status_normal kind (Told 2) w number due front buffer
@@ -252,14 +217,14 @@ module _ {D : Type 0} (kind : Kind D) where
       let buffer : Buffer = record { pointer = pointer; length = length; flags = flags } in
       subst (λ (done : TagWorld D × Acted). Either (Normal pointer length flags) w front done.0.ring)
       (sym (skips w.ring.consumer.progress.ending w number due front buffer is)) (inl (skipped-tells w.ring front length flags apart, skipped-edtla w.ring front length flags))
-  acted-tells (Link pointer toggle flags) w number due front is apart = inl (other-tells (Link pointer toggle flags) w front refl apart)
+  acted-tells (Link pointer toggle flags) w number due front is apart = inl (other-tells (Link pointer toggle flags) w.ring front refl apart)
   acted-tells (NoOp flags) w number due front is apart = ending-tells (NoOp flags) flags w front refl apart
   acted-tells (EventData parameter flags) w number due front is apart = ending-tells (EventData parameter flags) flags w front refl apart
-  acted-tells Foreign w number due front is apart = inl (other-tells Foreign w front refl apart)
+  acted-tells Foreign w number due front is apart = inl (other-tells Foreign w.ring front refl apart)
 
   pub status_event_each : StatusEventEach kind
   status_event_each w number due home front trb found is moves apart =
-      stepped_on w number due home front (λ (new : TagWorld D). Either trb w front new.ring) found
+      on_front w w.ring home (status_at kind w number due) (λ (new : TagWorld D) (f : Option Front). Either trb w front new.ring) front found
       (λ same. subst (λ (f : Found). Either trb w front (status_acted kind w number due front f).0.ring) (sym is)
       (acted-tells trb w number due front (sym (ap (λ (f : Found). if runs w.ring.consumer.progress.ending then buffer_of f else None) is) ∙ moves)
       (subst (λ (h : Home). apart_there w.ring h) (sym same) apart)))

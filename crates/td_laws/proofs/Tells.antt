@@ -1,12 +1,11 @@
 -- What a step of data-in tells.
 use Rattle.std.proofs.Common.{◌≡◌, ℕ, ◌+◌, ◌-◌, ◌%◌, ◌^◌, ◌<◌, ◌≤◌, ◌==◌, Bool, true, false, List, length as list_length, take, Option, Some, None, refl, sym, ap, subst, ◌∙◌, arith, add-zero}
-use Rattle.std.specs.Prelude.{min, nat_le, ◌&&◌, if◌then◌else◌, option_map}
+use Rattle.std.specs.Prelude.{min, nat_le, ◌&&◌, if◌then◌else◌}
 use Rattle.std.proofs.Math.Nat.{mod-mod}
 use Rattle.std.proofs.lemmas.Bool.{eqb-false, eqb-true, leb-false, leb-true}
 use Rattle.std.proofs.lemmas.List.{length-take-le}
 use Rattle.std.proofs.lemmas.Option.{none-some, same_Some}
 use Rattle.guest_memory.specs.Ranges.{written_beside}
-use Rattle.guest_pipes.specs.declared.progress.Progress.{Progress}
 use Rattle.guest_memory.specs.Bytes.{is_there, ◌>>=◌}
 use Rattle.guest_rings.specs.declared.context.Home.{Home}
 use Rattle.guest_rings.specs.declared.context.Front.{Front}
@@ -15,13 +14,11 @@ use Rattle.guest_rings.specs.declared.context.Found.TheVariants.{WrongKind, NotY
 use Rattle.guest_rings.specs.declared.trb.PipeTrb.{PipeTrb}
 use Rattle.guest_rings.specs.declared.trb.PipeTrb.TheVariants.{Normal, Link, NoOp, EventData, Foreign}
 use Rattle.guest_rings.specs.declared.wanting.Range.{Range}
-use Rattle.guest_rings.specs.Ends.{looked}
 use Rattle.guest_rings.specs.Wanted.{home_range}
 use Rattle.guest_pipes.specs.declared.acted.Acted.{Acted}
 use Rattle.guest_pipes.specs.declared.acted.Acted.TheVariants.{Worked}
 use Rattle.guest_pipes.specs.declared.progress.Ending.{Ending}
 use Rattle.guest_pipes.specs.declared.progress.Ending.TheVariants.{Runs, Told, Owed}
-use Rattle.guest_pipes.specs.Gate.{after, gate, through}
 use Rattle.guest_pipes.specs.Progress.{runs}
 use Rattle.guest_pipes.specs.Step.{World, filled, poured, used_up}
 use Rattle.guest_tags.specs.declared.device.Phase.{Phase}
@@ -29,15 +26,15 @@ use Rattle.guest_tags.specs.declared.device.Phase.TheVariants.{Absent, Gives, Ta
 use Rattle.guest_tags.specs.declared.buffer.Buffer.{Buffer}
 use Rattle.guest_tags.specs.Devices.{IsEnded, Kind}
 use Rattle.guest_tags.specs.Tags.{TagWorld}
-use Rattle.guest_tags.specs.DataIn.{acted, acted_at, closed, closed_if, ends_td, filled_ring, gave_by, given_to, has_chunk, is_status, lost, moved_count, moved_if, moved_in, normal, ran, refilled, stepped_in, with_ring}
+use Rattle.guest_tags.specs.DataIn.{acted, acted_at, closed, closed_if, ends_td, filled_ring, gave_by, given_to, has_chunk, is_status, lost, moved_count, moved_if, moved_in, normal, ran, refilled, with_ring}
 use Rattle.guest_tags.specs.Wanted.{buffer_of, moving}
-use Rattle.td_laws.specs.Places.{AreApart, coming, event_range, front_of, given_by, let_through, nowhere, part_of, where_there}
+use Rattle.td_laws.specs.Places.{AreApart, coming, event_range, front_of, given_by, nowhere, part_of, where_there}
 use Rattle.td_laws.specs.Runs.{stepped}
-use Rattle.td_laws.specs.Told.{AnEventEach, Ends, Fails, Fills, Goes, IsDropped, IsOver, IsTold, IsToldOf, NoneWithoutATrb, ResidualsAddUp, edtla_past}
-use Rattle.td_laws.proofs.Fronts.{looked_home}
+use Rattle.td_laws.specs.Told.{AnEventEach, Ends, Fails, Fills, Goes, IsDropped, IsOver, IsTold, NoneWithoutATrb, ResidualsAddUp}
+use Rattle.td_laws.proofs.Fronts.{by_front, on_front}
 use Rattle.td_laws.proofs.Noted.{empty_chunk, nothing_there}
 use Rattle.td_laws.proofs.RingElse.{sized}
-use Rattle.td_laws.proofs.RingTells.{data_told-restarts, data_told-tells, erred-edtla, erred-tells, failed-tells, filled-counts, filled-tells, linked-progress, linked-tells, passed-edtla, passed-tells, shortened-counts, shortened-tells, skipped-edtla, skipped-tells}
+use Rattle.td_laws.proofs.RingTells.{TellsOf, failed-tells, filled-counts, filled-tells, no_buffer, other-tells, shortened-counts, shortened-tells, skipped-edtla, skipped-tells}
 
 poured_since : (edtla n count : ℕ) → n ≡ count → ((edtla + n) % 2 ^ 24) % 2 ^ 24 ≡ (edtla + count) % 2 ^ 24
 poured_since edtla n count size = mod-mod (edtla + n) (2 ^ 24) ∙ ap (λ (k : ℕ). (edtla + k) % 2 ^ 24) size
@@ -176,10 +173,6 @@ module _ {D : Type 0} (kind : Kind D) where
   normal-told (Told code) w number front buffer moved is within apart = absurd (none-some moved is)
   normal-told Owed w number front buffer moved is within apart = absurd (none-some moved is)
 
-  no_buffer : {A : Type 0} (moves : Bool) (buffer : Buffer) → (if moves then None else None) ≡ Some buffer → A
-  no_buffer true buffer is = absurd (none-some buffer is)
-  no_buffer false buffer is = absurd (none-some buffer is)
-
   acted-told : (found : Found) (w : TagWorld D) (number : ℕ) (front : Front) (buffer : Buffer)
       → (if runs w.ring.consumer.progress.ending then buffer_of found else None) ≡ Some buffer
       → w.ring.consumer.progress.moved ≤ buffer.length → AreApart (event_range w.ring.events) (home_range front.home)
@@ -197,29 +190,14 @@ module _ {D : Type 0} (kind : Kind D) where
   -- a step that is let through is taken on what was found
   pub stepped_on : (w : TagWorld D) (number : ℕ) (home : Home) (front : Front) (P : TagWorld D → Option Front → Type 0) → front_of w.ring home ≡ Some front
       → (front.home ≡ home → P (acted_at kind w number front).0 (Some front))
-      → P (after w (stepped_in kind w number home)).0 (front_of w.ring home)
-  stepped_on w number home front P found holds =
-      by_gate (gate w.ring.memory w.ring.events w.ring.consumer) (looked w.ring.memory home) (looked_home w.ring.memory home) found
-    where
-      by_gate : (opens : Option (Option Acted)) (finds : Option Front) → ((f : Front) → finds ≡ Some f → f.home ≡ home) → let_through opens finds ≡ Some front
-          → P (after w (through w opens (option_map (acted_at kind w number) finds))).0 (let_through opens finds)
-      by_gate None finds homes is = absurd (none-some front is)
-      by_gate (Some None) None homes is = absurd (none-some front is)
-      by_gate (Some None) (Some f) homes is =
-          let same : f ≡ front = same_Some f front is in
-          subst (λ (g : Front). P (acted_at kind w number g).0 (Some g)) (sym same) (holds (subst (λ (g : Front). g.home ≡ home) same (homes f refl)))
-      by_gate (Some (Some acted)) finds homes is = absurd (none-some front is)
+      → P (stepped kind number home w) (front_of w.ring home)
+  stepped_on w number home front P found holds = on_front w w.ring home (acted_at kind w number) P front found holds
 
   -- and one that is held back does nothing
   pub held_back : (number : ℕ) (home : Home) (w : TagWorld D) → front_of w.ring home ≡ None → stepped kind number home w ≡ w
-  held_back number home w none = by_gate (gate w.ring.memory w.ring.events w.ring.consumer) (looked w.ring.memory home) none
-    where
-      by_gate : (opens : Option (Option Acted)) (finds : Option Front) → let_through opens finds ≡ None
-          → (after w (through w opens (option_map (acted_at kind w number) finds))).0 ≡ w
-      by_gate None finds is = refl
-      by_gate (Some None) None is = refl
-      by_gate (Some None) (Some front) is = absurd (none-some front (sym is))
-      by_gate (Some (Some acted)) finds is = refl
+  held_back number home w none =
+      by_front w w.ring home (acted_at kind w number) (λ (new : TagWorld D) (f : Option Front). f ≡ None → new ≡ w) (λ is. refl)
+      (λ front there room is. absurd (none-some front (sym is))) none
 
   pub residuals_add_up : ResidualsAddUp kind
   residuals_add_up w number home front buffer found is within apart =
@@ -228,10 +206,6 @@ module _ {D : Type 0} (kind : Kind D) where
       found (λ same. acted-told front.found w number front buffer is within
       (subst (λ (h : Home). AreApart (event_range w.ring.events) (home_range h)) (sym same) apart))
 
-  -- what is told of a TRB that moves nothing, and what EDTLA is behind it
-  abbrev TellsOf : PipeTrb → TagWorld D → Front → World → Type 0
-  TellsOf trb w front new = IsToldOf trb w.ring.consumer w.ring.events new front.cursor.place × (new.consumer.progress.edtla ≡ edtla_past trb w.ring.consumer.progress.edtla)
-
   pub skips : (ending : Ending) (w : TagWorld D) (number : ℕ) (front : Front) (buffer : Buffer) → (if runs ending then Some buffer else None) ≡ None
       → normal kind ending w number front buffer ≡ normal kind (Told 2) w number front buffer
   skips Runs w number front buffer is = absurd (none-some buffer (sym is))
@@ -239,31 +213,28 @@ module _ {D : Type 0} (kind : Kind D) where
   skips Owed w number front buffer is = refl
 
   acted-tells : (trb : PipeTrb) (w : TagWorld D) (number : ℕ) (front : Front) → (if runs w.ring.consumer.progress.ending then buffer_of (Item trb) else None) ≡ None
-      → AreApart (event_range w.ring.events) (home_range front.home) → TellsOf trb w front (acted kind w number front (Item trb)).0.ring
+      → AreApart (event_range w.ring.events) (home_range front.home) → TellsOf trb w.ring front (acted kind w number front (Item trb)).0.ring
   acted-tells (Normal pointer length flags) w number front is apart =
       let buffer : Buffer = record { pointer = pointer; length = length; flags = flags } in
-      subst (λ (done : TagWorld D × Acted). TellsOf (Normal pointer length flags) w front done.0.ring)
+      subst (λ (done : TagWorld D × Acted). TellsOf (Normal pointer length flags) w.ring front done.0.ring)
       (sym (skips w.ring.consumer.progress.ending w number front buffer is)) (skipped-tells w.ring front length flags apart, skipped-edtla w.ring front length flags)
-  acted-tells (Link pointer toggle flags) w number front is apart =
-      (linked-tells w.ring front pointer toggle flags apart, ap (λ (progress : Progress). progress.edtla) (linked-progress w.ring front pointer toggle flags))
-  acted-tells (NoOp flags) w number front is apart =
-      (passed-tells w.ring.consumer.progress.ending w.ring front flags apart, passed-edtla w.ring.consumer.progress.ending w.ring front flags)
-  acted-tells (EventData parameter flags) w number front is apart =
-      (data_told-tells w.ring front parameter flags apart, data_told-restarts w.ring front parameter flags)
-  acted-tells Foreign w number front is apart = (erred-tells w.ring front apart, erred-edtla w.ring front)
+  acted-tells (Link pointer toggle flags) w number front is apart = other-tells (Link pointer toggle flags) w.ring front refl apart
+  acted-tells (NoOp flags) w number front is apart = other-tells (NoOp flags) w.ring front refl apart
+  acted-tells (EventData parameter flags) w number front is apart = other-tells (EventData parameter flags) w.ring front refl apart
+  acted-tells Foreign w number front is apart = other-tells Foreign w.ring front refl apart
 
   pub an_event_each : AnEventEach kind
   an_event_each w number home front trb found is moves apart =
-      stepped_on w number home front (λ (new : TagWorld D) (f : Option Front). TellsOf trb w front new.ring) found
+      stepped_on w number home front (λ (new : TagWorld D) (f : Option Front). TellsOf trb w.ring front new.ring) found
       (λ same.
       let apart_here = subst (λ (h : Home). AreApart (event_range w.ring.events) (home_range h)) (sym same) apart in
-      subst (λ (f : Found). TellsOf trb w front (acted kind w number front f).0.ring) (sym is)
+      subst (λ (f : Found). TellsOf trb w.ring front (acted kind w number front f).0.ring) (sym is)
       (acted-tells trb w number front (sym (ap (λ (f : Found). if runs w.ring.consumer.progress.ending then buffer_of f else None) is) ∙ moves) apart_here))
 
   pub none_without_a_trb : NoneWithoutATrb kind
   none_without_a_trb w number home = (
     held_back number home w,
     λ front found is.
-    stepped_on w number home front (λ (new : TagWorld D) (f : Option Front). new.ring ≡ used_up w.ring) found
-    (λ same. ap (λ (f : Found). (acted kind w number front f).0.ring) is),
+        stepped_on w number home front (λ (new : TagWorld D) (f : Option Front). new.ring ≡ used_up w.ring) found
+        (λ same. ap (λ (f : Found). (acted kind w number front f).0.ring) is),
   )

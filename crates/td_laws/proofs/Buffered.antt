@@ -174,7 +174,7 @@ module _ {D : Type 0} (kind : Kind D) (number : ℕ) (home : Home) where
   by_told : (w : TagWorld D) (front : Front) (buffer : Buffer) → IsClear kind number home w → front_of w.ring home ≡ Some front
       → moving w.ring.consumer front ≡ Some buffer
       → IsTold w.ring (stepped kind number home w).ring front.cursor.place buffer (part_filled kind number home w)
-      (IsOver kind (stepped kind number home w) number) (IsDropped kind (stepped kind number home w)) → Moves w
+      (IsOver kind (stepped kind number home w) number) (IsDropped kind w (list_length (coming kind w number)) buffer (stepped kind number home w)) → Moves w
   by_told w front buffer clear found is told = by_case told
     where
       here : looked w.ring.memory home ≡ Some front
@@ -235,11 +235,11 @@ module _ {D : Type 0} (kind : Kind D) (number : ℕ) (home : Home) where
           }
 
       by_case : IsTold w.ring (stepped kind number home w).ring front.cursor.place buffer (part_filled kind number home w)
-          (IsOver kind (stepped kind number home w) number) (IsDropped kind (stepped kind number home w)) → Moves w
+          (IsOver kind (stepped kind number home w) number) (IsDropped kind w (list_length (coming kind w number)) buffer (stepped kind number home w)) → Moves w
       by_case (Goes below stays counts) = goes below stays counts.in_trb
       by_case (Fills full told counts) = gone counts.in_trb
       by_case (Ends residual adds some over told counts) = gone counts.in_trb
-      by_case (Fails told dropped) = absurd (true≢false (sym dropped.1 ∙ clear.there))
+      by_case (Fails told dropped) = absurd (true≢false (sym dropped.2 ∙ clear.there))
 
   taken : (w : TagWorld D) (front : Front) (buffer : Buffer) → IsSound w → IsClear kind number home w → front_of w.ring home ≡ Some front
       → moving w.ring.consumer front ≡ Some buffer → Moves w

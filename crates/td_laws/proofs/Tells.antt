@@ -41,8 +41,8 @@ poured_since edtla n count size = mod-mod (edtla + n) (2 ^ 24) ∙ ap (λ (k : �
 
 module _ {D : Type 0} (kind : Kind D) where
   -- what a step that left this told, of a buffer of which it filled a part
-  abbrev AddsUp : TagWorld D → TagWorld D → ℕ → Front → Buffer → Range → Type 0
-  AddsUp w new number front buffer part = IsTold w.ring new.ring front.cursor.place buffer part (IsOver kind new number) (IsDropped kind new)
+  abbrev AddsUp : TagWorld D → TagWorld D → ℕ → Front → Buffer → ℕ → Range → Type 0
+  AddsUp w new number front buffer n part = IsTold w.ring new.ring front.cursor.place buffer part (IsOver kind new number) (IsDropped kind w n buffer new)
 
   abbrev part_here : TagWorld D → ℕ → Buffer → Range
   part_here w count buffer = record { at = buffer.pointer + w.ring.consumer.progress.moved; count = min count (buffer.length - w.ring.consumer.progress.moved) }
@@ -51,19 +51,19 @@ module _ {D : Type 0} (kind : Kind D) where
   same_since edtla count none = ap (λ (n : ℕ). n % 2 ^ 24) (sym (add-zero edtla) ∙ ap (λ (n : ℕ). edtla + n) (sym none))
 
   -- the TRB waits, with nothing moved
-  waits : (w new : TagWorld D) (number : ℕ) (front : Front) (buffer : Buffer) (part : Range) → new.ring ≡ w.ring → part.count ≡ 0
-      → w.ring.consumer.progress.moved < buffer.length → AddsUp w new number front buffer part
-  waits w new number front buffer part same none room =
+  waits : (w new : TagWorld D) (number : ℕ) (front : Front) (buffer : Buffer) (n : ℕ) (part : Range) → new.ring ≡ w.ring → part.count ≡ 0
+      → w.ring.consumer.progress.moved < buffer.length → AddsUp w new number front buffer n part
+  waits w new number front buffer n part same none room =
       let moved : w.ring.consumer.progress.moved ≡ w.ring.consumer.progress.moved + part.count = omega (arith, none) in
-      subst (λ (ring : World). IsTold w.ring ring front.cursor.place buffer part (IsOver kind new number) (IsDropped kind new)) (sym same)
+      subst (λ (ring : World). IsTold w.ring ring front.cursor.place buffer part (IsOver kind new number) (IsDropped kind w n buffer new)) (sym same)
       (Goes (omega (arith, none)) (record { others = λ a outside. refl; events = refl; ending = refl })
       (record { in_trb = moved; since = same_since w.ring.consumer.progress.edtla part.count none }))
 
   -- it is full, and nothing moved
-  was_full : (w new : TagWorld D) (number : ℕ) (front : Front) (buffer : Buffer) (part : Range) → new.ring ≡ filled w.ring front buffer.flags → part.count ≡ 0
-      → w.ring.consumer.progress.moved ≡ buffer.length → AreApart (event_range w.ring.events) (home_range front.home) → AddsUp w new number front buffer part
-  was_full w new number front buffer part same none full apart =
-      subst (λ (ring : World). IsTold w.ring ring front.cursor.place buffer part (IsOver kind new number) (IsDropped kind new)) (sym same)
+  was_full : (w new : TagWorld D) (number : ℕ) (front : Front) (buffer : Buffer) (n : ℕ) (part : Range) → new.ring ≡ filled w.ring front buffer.flags → part.count ≡ 0
+      → w.ring.consumer.progress.moved ≡ buffer.length → AreApart (event_range w.ring.events) (home_range front.home) → AddsUp w new number front buffer n part
+  was_full w new number front buffer n part same none full apart =
+      subst (λ (ring : World). IsTold w.ring ring front.cursor.place buffer part (IsOver kind new number) (IsDropped kind w n buffer new)) (sym same)
       (Fills (omega (arith, none)) (filled-tells w.ring front buffer.flags apart)
       (filled-counts w.ring front buffer.flags (w.ring.consumer.progress.edtla + part.count) (same_since w.ring.consumer.progress.edtla part.count none)))
 
@@ -71,14 +71,14 @@ module _ {D : Type 0} (kind : Kind D) where
   went : (full : Bool) (w : TagWorld D) (number : ℕ) (front : Front) (buffer : Buffer) → (w.ring.consumer.progress.moved + moved_count kind w buffer == buffer.length) ≡ full
       → w.ring.consumer.progress.moved < buffer.length → AreApart (event_range w.ring.events) (home_range front.home)
       → AddsUp w (filled_ring kind full (given_to kind w (buffer.pointer + w.ring.consumer.progress.moved) (moved_count kind w buffer)) front buffer) number front buffer
-      (part_here w (list_length w.tag.chunk) buffer)
+      (list_length w.tag.chunk) (part_here w (list_length w.tag.chunk) buffer)
   unfolding given_to poured
   went full w number front buffer is room apart = by_full full is (length-take-le (moved_count kind w buffer) w.tag.chunk (omega arith))
     where
       by_full : (f : Bool) → (w.ring.consumer.progress.moved + moved_count kind w buffer == buffer.length) ≡ f
           → list_length (take (moved_count kind w buffer) w.tag.chunk) ≡ moved_count kind w buffer
           → AddsUp w (filled_ring kind f (given_to kind w (buffer.pointer + w.ring.consumer.progress.moved) (moved_count kind w buffer)) front buffer) number front buffer
-          (part_here w (list_length w.tag.chunk) buffer)
+          (list_length w.tag.chunk) (part_here w (list_length w.tag.chunk) buffer)
       by_full true is size =
           let v = poured w.ring (buffer.pointer + w.ring.consumer.progress.moved) (take (moved_count kind w buffer) w.tag.chunk) in
           Fills (eqb-true (w.ring.consumer.progress.moved + moved_count kind w buffer) buffer.length is) (filled-tells v front buffer.flags apart)
@@ -98,77 +98,77 @@ module _ {D : Type 0} (kind : Kind D) where
 
   moved_in-told : (w : TagWorld D) (number : ℕ) (front : Front) (buffer : Buffer) → w.ring.consumer.progress.moved < buffer.length
       → AreApart (event_range w.ring.events) (home_range front.home)
-      → AddsUp w (moved_in kind w front buffer) number front buffer (where_there w.ring.memory (part_here w (list_length w.tag.chunk) buffer))
+      → AddsUp w (moved_in kind w front buffer) number front buffer (list_length w.tag.chunk) (where_there w.ring.memory (part_here w (list_length w.tag.chunk) buffer))
   unfolding moved_in lost
-  moved_in-told w number front buffer room apart = by_there (is_there w.ring.memory (buffer.pointer + w.ring.consumer.progress.moved) (moved_count kind w buffer))
+  moved_in-told w number front buffer room apart = by_there (is_there w.ring.memory (buffer.pointer + w.ring.consumer.progress.moved) (moved_count kind w buffer)) refl
     where
-      by_there : (there : Bool) → AddsUp w
+      by_there : (there : Bool) → is_there w.ring.memory (buffer.pointer + w.ring.consumer.progress.moved) (moved_count kind w buffer) ≡ there → AddsUp w
           (if there then filled_ring kind (w.ring.consumer.progress.moved + moved_count kind w buffer == buffer.length) (given_to kind w (buffer.pointer + w.ring.consumer.progress.moved) (moved_count kind w buffer)) front buffer
-          else lost kind w front buffer) number front buffer
+          else lost kind w front buffer) number front buffer (list_length w.tag.chunk)
           (if there then part_here w (list_length w.tag.chunk) buffer else nowhere)
-      by_there true = went (w.ring.consumer.progress.moved + moved_count kind w buffer == buffer.length) w number front buffer refl room apart
-      by_there false = Fails (failed-tells w.ring front buffer.length buffer.flags apart) (refl, refl)
+      by_there true is = went (w.ring.consumer.progress.moved + moved_count kind w buffer == buffer.length) w number front buffer refl room apart
+      by_there false is = Fails (failed-tells w.ring front buffer.length buffer.flags apart) (is, refl, refl)
 
   moved_if-told : (some : Bool) (w : TagWorld D) (number : ℕ) (front : Front) (buffer : Buffer) → has_chunk w.tag ≡ some
       → w.ring.consumer.progress.moved < buffer.length → AreApart (event_range w.ring.events) (home_range front.home)
-      → AddsUp w (moved_if kind some w front buffer) number front buffer (where_there w.ring.memory (part_here w (list_length w.tag.chunk) buffer))
+      → AddsUp w (moved_if kind some w front buffer) number front buffer (list_length w.tag.chunk) (where_there w.ring.memory (part_here w (list_length w.tag.chunk) buffer))
   moved_if-told true w number front buffer some room apart = moved_in-told w number front buffer room apart
   moved_if-told false w number front buffer empty room apart =
       let none : list_length w.tag.chunk ≡ 0 = ap (λ (xs : List ℕ). list_length xs) (empty_chunk w.tag.chunk empty) in
-      waits w w number front buffer _ refl (nothing_there w.ring.memory (part_here w (list_length w.tag.chunk) buffer) (omega (arith, none))) room
+      waits w w number front buffer (list_length w.tag.chunk) _ refl (nothing_there w.ring.memory (part_here w (list_length w.tag.chunk) buffer) (omega (arith, none))) room
 
   nothing_here : (w : TagWorld D) (buffer : Buffer) → (where_there w.ring.memory (part_here w 0 buffer)).count ≡ 0
   nothing_here w buffer = nothing_there w.ring.memory (part_here w 0 buffer) (omega arith)
 
-  closed_if-told : (closes : Bool) (w : TagWorld D) (number : ℕ) (front : Front) (buffer : Buffer) (part : Range) → part.count ≡ 0 → IsOver kind w number
+  closed_if-told : (closes : Bool) (w : TagWorld D) (number : ℕ) (front : Front) (buffer : Buffer) (n : ℕ) (part : Range) → part.count ≡ 0 → IsOver kind w number
       → w.ring.consumer.progress.moved < buffer.length → AreApart (event_range w.ring.events) (home_range front.home)
-      → AddsUp w (closed_if kind closes w front buffer).0 number front buffer part
+      → AddsUp w (closed_if kind closes w front buffer).0 number front buffer n part
   unfolding closed
-  closed_if-told true w number front buffer part none over room apart =
+  closed_if-told true w number front buffer n part none over room apart =
       let left = buffer.length - w.ring.consumer.progress.moved in
       Ends left (omega (arith, none)) (omega arith) (over.0, over.1) (shortened-tells w.ring front left buffer.flags apart)
       (shortened-counts w.ring front left buffer.flags (w.ring.consumer.progress.edtla + part.count) (same_since w.ring.consumer.progress.edtla part.count none))
-  closed_if-told false w number front buffer part none over room apart = waits w w number front buffer part refl none room
+  closed_if-told false w number front buffer n part none over room apart = waits w w number front buffer n part refl none room
 
   gave_by-told : (phase : Phase) (w : TagWorld D) (number : ℕ) (front : Front) (buffer : Buffer) → kind.phase w.device number ≡ phase → has_chunk w.tag ≡ false
       → w.ring.consumer.progress.moved < buffer.length → AreApart (event_range w.ring.events) (home_range front.home)
-      → AddsUp w (gave_by kind phase w number front buffer).0 number front buffer
+      → AddsUp w (gave_by kind phase w number front buffer).0 number front buffer (list_length (given_by phase (kind.given w.device number)))
       (where_there w.ring.memory (part_here w (list_length (given_by phase (kind.given w.device number))) buffer))
   unfolding refilled
-  gave_by-told Absent w number front buffer is empty room apart = waits w w number front buffer _ refl (nothing_here w buffer) room
+  gave_by-told Absent w number front buffer is empty room apart = waits w w number front buffer 0 _ refl (nothing_here w buffer) room
   gave_by-told (Gives count) w number front buffer is empty room apart =
       let v = refilled kind w number in
       moved_if-told (has_chunk v.tag) v number front buffer refl room apart
-  gave_by-told (Takes count) w number front buffer is empty room apart = waits w w number front buffer _ refl (nothing_here w buffer) room
+  gave_by-told (Takes count) w number front buffer is empty room apart = waits w w number front buffer 0 _ refl (nothing_here w buffer) room
   gave_by-told (Ended end) w number front buffer is empty room apart =
       let over : IsOver kind w number = (empty_chunk w.tag.chunk empty, subst (λ (phase : Phase). IsEnded phase) (sym is) tt) in
-      closed_if-told (is_status end && ends_td w.tag w.ring.consumer.progress.fed) w number front buffer _ (nothing_here w buffer) over room apart
+      closed_if-told (is_status end && ends_td w.tag w.ring.consumer.progress.fed) w number front buffer 0 _ (nothing_here w buffer) over room apart
 
   ran-told : (w : TagWorld D) (number : ℕ) (front : Front) (buffer : Buffer) → w.ring.consumer.progress.moved ≤ buffer.length
       → AreApart (event_range w.ring.events) (home_range front.home)
-      → AddsUp w (ran kind w number front buffer).0 number front buffer (part_of w.ring.memory w.ring.consumer (list_length (coming kind w number)) (Some buffer))
+      → AddsUp w (ran kind w number front buffer).0 number front buffer (list_length (coming kind w number)) (part_of w.ring.memory w.ring.consumer (list_length (coming kind w number)) (Some buffer))
   unfolding ran
   ran-told w number front buffer within apart = by_tests (nat_le buffer.length w.ring.consumer.progress.moved) (has_chunk w.tag) refl refl
     where
       by_tests : (full some : Bool) → nat_le buffer.length w.ring.consumer.progress.moved ≡ full → has_chunk w.tag ≡ some → AddsUp w
           (if full then (with_ring kind w (filled w.ring front buffer.flags), Worked)
           else if some then (moved_in kind w front buffer, Worked)
-          else gave_by kind (kind.phase w.device number) w number front buffer).0 number front buffer
+          else gave_by kind (kind.phase w.device number) w number front buffer).0 number front buffer (list_length (if some then w.tag.chunk else given_by (kind.phase w.device number) (kind.given w.device number)))
           (where_there w.ring.memory (part_here w (list_length (if some then w.tag.chunk else given_by (kind.phase w.device number) (kind.given w.device number))) buffer))
       by_tests true some is has =
           let past : buffer.length ≤ w.ring.consumer.progress.moved = leb-true buffer.length w.ring.consumer.progress.moved is in
-          was_full w (with_ring kind w (filled w.ring front buffer.flags)) number front buffer _ refl (nothing_there w.ring.memory (part_here w (list_length (if some then w.tag.chunk else given_by (kind.phase w.device number) (kind.given w.device number))) buffer) (omega (arith, past))) (omega (arith, past, within)) apart
+          was_full w (with_ring kind w (filled w.ring front buffer.flags)) number front buffer (list_length (if some then w.tag.chunk else given_by (kind.phase w.device number) (kind.given w.device number))) _ refl (nothing_there w.ring.memory (part_here w (list_length (if some then w.tag.chunk else given_by (kind.phase w.device number) (kind.given w.device number))) buffer) (omega (arith, past))) (omega (arith, past, within)) apart
       by_tests false true is has = moved_in-told w number front buffer (leb-false buffer.length w.ring.consumer.progress.moved is) apart
       by_tests false false is has =
           gave_by-told (kind.phase w.device number) w number front buffer refl has (leb-false buffer.length w.ring.consumer.progress.moved is) apart
 
   normal-told : (ending : Ending) (w : TagWorld D) (number : ℕ) (front : Front) (buffer moved : Buffer) → (if runs ending then Some buffer else None) ≡ Some moved
       → w.ring.consumer.progress.moved ≤ moved.length → AreApart (event_range w.ring.events) (home_range front.home)
-      → AddsUp w (normal kind ending w number front buffer).0 number front moved
+      → AddsUp w (normal kind ending w number front buffer).0 number front moved (list_length (coming kind w number))
       (part_of w.ring.memory w.ring.consumer (list_length (coming kind w number)) (if runs ending then Some buffer else None))
   normal-told Runs w number front buffer moved is within apart =
       let same : buffer ≡ moved = same_Some buffer moved is in
-      subst (λ (b : Buffer). w.ring.consumer.progress.moved ≤ b.length → AddsUp w (ran kind w number front buffer).0 number front b (part_of w.ring.memory w.ring.consumer (list_length (coming kind w number)) (Some buffer)))
+      subst (λ (b : Buffer). w.ring.consumer.progress.moved ≤ b.length → AddsUp w (ran kind w number front buffer).0 number front b (list_length (coming kind w number)) (part_of w.ring.memory w.ring.consumer (list_length (coming kind w number)) (Some buffer)))
       same (λ within. ran-told w number front buffer within apart) within
   normal-told (Told code) w number front buffer moved is within apart = absurd (none-some moved is)
   normal-told Owed w number front buffer moved is within apart = absurd (none-some moved is)
@@ -176,7 +176,7 @@ module _ {D : Type 0} (kind : Kind D) where
   acted-told : (found : Found) (w : TagWorld D) (number : ℕ) (front : Front) (buffer : Buffer)
       → (if runs w.ring.consumer.progress.ending then buffer_of found else None) ≡ Some buffer
       → w.ring.consumer.progress.moved ≤ buffer.length → AreApart (event_range w.ring.events) (home_range front.home)
-      → AddsUp w (acted kind w number front found).0 number front buffer
+      → AddsUp w (acted kind w number front found).0 number front buffer (list_length (coming kind w number))
       (part_of w.ring.memory w.ring.consumer (list_length (coming kind w number)) (if runs w.ring.consumer.progress.ending then buffer_of found else None))
   acted-told WrongKind w number front buffer is within apart = no_buffer (runs w.ring.consumer.progress.ending) buffer is
   acted-told NotYet w number front buffer is within apart = no_buffer (runs w.ring.consumer.progress.ending) buffer is
@@ -202,7 +202,7 @@ module _ {D : Type 0} (kind : Kind D) where
   pub residuals_add_up : ResidualsAddUp kind
   residuals_add_up w number home front buffer found is within apart =
       stepped_on w number home front
-      (λ (new : TagWorld D) (f : Option Front). AddsUp w new number front buffer (part_of w.ring.memory w.ring.consumer (list_length (coming kind w number)) (f >>= moving w.ring.consumer)))
+      (λ (new : TagWorld D) (f : Option Front). AddsUp w new number front buffer (list_length (coming kind w number)) (part_of w.ring.memory w.ring.consumer (list_length (coming kind w number)) (f >>= moving w.ring.consumer)))
       found (λ same. acted-told front.found w number front buffer is within
       (subst (λ (h : Home). AreApart (event_range w.ring.events) (home_range h)) (sym same) apart))
 

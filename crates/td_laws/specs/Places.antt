@@ -46,16 +46,24 @@ front_of w home = let_through (gate w.memory w.events w.consumer) (looked w.memo
 abbrev pub buffer_in_front : World → Home → Option Buffer
 buffer_in_front w home = front_of w home >>= moving w.consumer
 
--- the part of a buffer that takes so many bytes, or as many as there is room for: behind those that have moved, where all of it is there
+-- a range of which all is there, else none
 abbrev pub where_there : Memory → Range → Range
 where_there memory range = if is_there memory range.at range.count then range else nowhere
 
-abbrev pub part_of : Memory → Consumer → ℕ → Option Buffer → Range
-part_of memory consumer coming None = nowhere
-part_of memory consumer coming (Some buffer) = where_there memory (record {
+-- the part of a buffer that takes so many bytes, or as many as there is room for, behind those that have moved
+abbrev pub part_ahead : Consumer → ℕ → Buffer → Range
+part_ahead consumer coming buffer = record {
   at = buffer.pointer + consumer.progress.moved;
   count = min coming (buffer.length - consumer.progress.moved);
-})
+}
+
+abbrev pub part_of : Memory → Consumer → ℕ → Option Buffer → Range
+part_of memory consumer coming None = nowhere
+part_of memory consumer coming (Some buffer) = where_there memory (part_ahead consumer coming buffer)
+
+-- a byte of that part isn't there
+abbrev pub IsMissing : World → ℕ → Buffer → Type 0
+IsMissing w coming buffer = is_there w.memory (part_ahead w.consumer coming buffer).at (part_ahead w.consumer coming buffer).count ≡ false
 
 -- the bytes that a device gives next
 abbrev pub given_by : Phase → Option (List ℕ) → List ℕ

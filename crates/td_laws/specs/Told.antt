@@ -1,5 +1,5 @@
 -- WHAT IS TOLD of the TRBs of a data-in TD: an event each, whose residual adds up with what was moved.
-use Rattle.std.specs.Prelude.{◌≡◌, ℕ, ◌+◌, ◌%◌, ◌^◌, ◌<◌, ◌≤◌, Bool, true, false, not, ◌&&◌, ◌||◌, [], Some, None}
+use Rattle.std.specs.Prelude.{◌≡◌, ℕ, ◌+◌, ◌%◌, ◌^◌, ◌<◌, ◌≤◌, Bool, true, false, not, ◌&&◌, ◌||◌, [], length as list_length, Some, None}
 use Rattle.guest_memory.specs.Bytes.{bytes_from}
 use Rattle.guest_rings.specs.declared.context.Home.{Home}
 use Rattle.guest_rings.specs.declared.context.Front.{Front}
@@ -19,7 +19,7 @@ use Rattle.guest_tags.specs.declared.buffer.Buffer.{Buffer}
 use Rattle.guest_tags.specs.Devices.{IsEnded, Kind}
 use Rattle.guest_tags.specs.Tags.{TagWorld}
 use Rattle.guest_tags.specs.Wanted.{moving}
-use Rattle.td_laws.specs.Places.{AreApart, IsOutside, event_range, front_of}
+use Rattle.td_laws.specs.Places.{AreApart, IsMissing, IsOutside, coming, event_range, front_of}
 use Rattle.td_laws.specs.Runs.{part_filled, stepped}
 
 -- one event was posted: its bytes stand at the place that was the next
@@ -56,20 +56,20 @@ abbrev pub edtla_with : World → Range → ℕ
 edtla_with w part = w.consumer.progress.edtla + part.count
 
 -- what a step told of the Normal TRB in front, of whose buffer it filled a part
-pub data IsTold (old new : World) (place : ℕ) (buffer : Buffer) (part : Range) (Over Dropped : Type 0) : Type 0 where
+pub data IsTold (old new : World) (place : ℕ) (buffer : Buffer) (part : Range) (Over Missing : Type 0) : Type 0 where
   -- it has room left: nothing, and the TRB stays in front
   Goes : moved_with old part < buffer.length → Stays old new part → Counts new.consumer.progress (moved_with old part) (edtla_with old part)
-      → IsTold old new place buffer part Over Dropped
+      → IsTold old new place buffer part Over Missing
   -- it is full: with IOC, code 1 and no residual
   Fills : moved_with old part ≡ buffer.length → Tells buffer.flags.ioc old.events new (about old.consumer place 0 1) buffer.flags.bei
-      → Counts new.consumer.progress 0 (edtla_behind buffer.flags.chain (edtla_with old part)) → IsTold old new place buffer part Over Dropped
+      → Counts new.consumer.progress 0 (edtla_behind buffer.flags.chain (edtla_with old part)) → IsTold old new place buffer part Over Missing
   -- the TD ends in it as a short packet, since the task gives no more: with ISP or IOC, code 13 and what is left
   Ends : (residual : ℕ) → moved_with old part + residual ≡ buffer.length → 1 ≤ residual → Over
       → Tells (buffer.flags.isp || buffer.flags.ioc) old.events new (about old.consumer place residual 13) buffer.flags.bei
-      → Counts new.consumer.progress 0 (edtla_behind buffer.flags.chain (edtla_with old part)) → IsTold old new place buffer part Over Dropped
+      → Counts new.consumer.progress 0 (edtla_behind buffer.flags.chain (edtla_with old part)) → IsTold old new place buffer part Over Missing
   -- its buffer isn't there: code 2 and its length
-  Fails : HasTold old.events new (about old.consumer place buffer.length 2) buffer.flags.bei → Dropped
-      → IsTold old new place buffer part Over Dropped
+  Fails : HasTold old.events new (about old.consumer place buffer.length 2) buffer.flags.bei → Missing
+      → IsTold old new place buffer part Over Missing
 
 -- what a step told of another TRB, or of a Normal one in a TD whose rest is skipped
 abbrev pub IsToldOf : PipeTrb → Consumer → EventEnd → World → ℕ → Type 0
@@ -94,9 +94,9 @@ module _ {D : Type 0} (kind : Kind D) where
   abbrev pub IsOver : TagWorld D → ℕ → Type 0
   IsOver w number = (w.tag.chunk ≡ []) × IsEnded (kind.phase w.device number)
 
-  -- what a task still gives is dropped
-  abbrev pub IsDropped : TagWorld D → Type 0
-  IsDropped w = (w.tag.chunk ≡ []) × (w.tag.drops ≡ true)
+  -- a byte of the buffer isn't there, and what a task still gives is dropped
+  abbrev pub IsDropped : TagWorld D → ℕ → Buffer → TagWorld D → Type 0
+  IsDropped w coming buffer new = IsMissing w.ring coming buffer × (new.tag.chunk ≡ []) × (new.tag.drops ≡ true)
 
   -- THE LAW, where no more than the TRB's length has moved of it before: a step tells once of a TRB, and what it tells adds up
   abbrev pub ResidualsAddUp : Type 0
@@ -105,7 +105,7 @@ module _ {D : Type 0} (kind : Kind D) where
       → moving w.ring.consumer front ≡ Some buffer → w.ring.consumer.progress.moved ≤ buffer.length
       → AreApart (event_range w.ring.events) (home_range home)
       → IsTold w.ring (stepped kind number home w).ring front.cursor.place buffer (part_filled kind number home w)
-      (IsOver (stepped kind number home w) number) (IsDropped (stepped kind number home w))
+      (IsOver (stepped kind number home w) number) (IsDropped w (list_length (coming kind w number)) buffer (stepped kind number home w))
 
   -- AN EVENT EACH, of all TRBs beside
   abbrev pub AnEventEach : Type 0

@@ -9,7 +9,8 @@ pub record IsFreedTo (ring : EventEnd) (dequeue : ℕ) : Type 0 where
   pub dequeue_inside : dequeue < ring.places
   pub counted : ring.free ≡ free_by ring dequeue
 
--- a place whose event the driver hasn't freed: the enqueue place is behind it, or beyond the segment's end, or both are
+-- a place whose event the driver hasn't freed: between the two pointers; or, where the enqueue pointer has gone round, from the dequeue
+-- pointer to the segment's end, or from its start
 pub data IsUnfreed (ring : EventEnd) (dequeue place : ℕ) : Type 0 where
   Between : dequeue ≤ place → place < ring.place → IsUnfreed ring dequeue place
   ToTheEnd : ring.place < dequeue → dequeue ≤ place → place < ring.places → IsUnfreed ring dequeue place

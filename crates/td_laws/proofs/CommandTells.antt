@@ -1,5 +1,5 @@
 -- What a step of the command pipe tells.
-use Rattle.std.proofs.Common.{◌≡◌, ℕ, ◌+◌, ◌^◌, Bool, true, false, List, Option, Some, None, refl, sym, ap, subst, ◌∙◌, arith}
+use Rattle.std.proofs.Common.{◌≡◌, ℕ, ◌+◌, ◌^◌, Bool, true, false, List, Option, Some, None, refl, sym, ap, subst, ◌∙◌, arith, ◌⊎◌, inl, inr}
 use Rattle.std.specs.Prelude.{not, ◌&&◌, if◌then◌else◌, option_map}
 use Rattle.std.proofs.Math.Nat.{mod-mod}
 use Rattle.std.proofs.lemmas.Option.{none-some, same_Some}
@@ -17,7 +17,7 @@ use Rattle.guest_pipes.specs.declared.progress.Ending.{Ending}
 use Rattle.guest_pipes.specs.declared.progress.Ending.TheVariants.{Runs, Told, Owed}
 use Rattle.guest_pipes.specs.Gate.{gate}
 use Rattle.guest_pipes.specs.Progress.{runs}
-use Rattle.guest_pipes.specs.Step.{World, filled, with_progress}
+use Rattle.guest_pipes.specs.Step.{World, about, filled, with_progress}
 use Rattle.guest_tags.specs.declared.buffer.Buffer.{Buffer}
 use Rattle.guest_tags.specs.Devices.{Kind}
 use Rattle.guest_tags.specs.Wanted.{buffer_of}
@@ -25,53 +25,63 @@ use Rattle.guest_out.specs.Command.{command_acted, command_after, command_at, co
 use Rattle.guest_out.specs.Immediate.{bytes_out, tallied}
 use Rattle.guest_out.specs.Worlds.{OutWorld}
 use Rattle.td_laws.specs.Places.{AreApart, event_range, front_of, let_through}
-use Rattle.td_laws.specs.OutTold.{CommandEventEach, CommandResidualsAddUp, IsToldOut, Misses, Wholly, command_stepped}
+use Rattle.td_laws.specs.OutTold.{CommandEventEach, CommandResidualsAddUp, command_stepped}
+use Rattle.td_laws.specs.Told.{Counts, HasTold, Tells, edtla_behind}
 use Rattle.td_laws.proofs.Fronts.{looked_home}
 use Rattle.td_laws.proofs.RingTells.{TellsOf, failed-tells, filled-counts, filled-tells, no_buffer, other-tells, skipped-edtla, skipped-tells}
 use Rattle.guest_tags.specs.declared.device.Received.{Received}
 
 module _ {D : Type 0} (kind : Kind D) where
+  -- what the TRB in front was told as
+  abbrev TellsWhole : OutWorld D → World → Front → Buffer → Type 0
+  TellsWhole w new front buffer =
+      Tells buffer.flags.ioc w.ring.events new (about w.ring.consumer front.cursor.place 0 1) buffer.flags.bei
+      × Counts new.consumer.progress 0 (edtla_behind buffer.flags.chain (w.ring.consumer.progress.edtla + buffer.length))
+
+  abbrev TellsMissing : OutWorld D → World → Front → Buffer → Type 0
+  TellsMissing w new front buffer =
+      HasTold w.ring.events new (about w.ring.consumer front.cursor.place buffer.length 2) buffer.flags.bei × (bytes_out w.ring.memory buffer 0 (command_count kind w buffer) ≡ None)
+
   abbrev AddsUp : OutWorld D → OutWorld D → Front → Buffer → Type 0
-  AddsUp w new front buffer = IsToldOut w.ring new.ring front.cursor.place buffer buffer.length (Unit {0})
+  AddsUp w new front buffer = TellsWhole w new.ring front buffer ⊎ TellsMissing w new.ring front buffer
 
   received_if-ring : (last : Bool) (v : OutWorld D) → (received_if kind last v).0.ring ≡ v.ring
   unfolding unit_received
   received_if-ring true v = refl
   received_if-ring false v = refl
 
-  drawn-told : (bytes : Option (List ℕ)) (w : OutWorld D) (front : Front) (buffer : Buffer) → w.ring.consumer.progress.moved ≡ 0 → AreApart (event_range w.ring.events) (home_range front.home)
-      → AddsUp w (command_drawn kind bytes w front buffer).0 front buffer
+  drawn-told : (bytes : Option (List ℕ)) (w : OutWorld D) (front : Front) (buffer : Buffer) → bytes_out w.ring.memory buffer 0 (command_count kind w buffer) ≡ bytes
+      → AreApart (event_range w.ring.events) (home_range front.home) → AddsUp w (command_drawn kind bytes w front buffer).0 front buffer
   unfolding command_lost command_gathered
-  drawn-told None w front buffer none apart = Misses (failed-tells w.ring front buffer.length buffer.flags apart)
-  drawn-told (Some bytes) w front buffer none apart =
+  drawn-told None w front buffer lacks apart = inr (failed-tells w.ring front buffer.length buffer.flags apart, lacks)
+  drawn-told (Some bytes) w front buffer drawn apart =
       let v = with_progress w.ring (tallied w.ring.consumer.progress buffer.length) in
-      let all : w.ring.consumer.progress.moved + buffer.length ≡ buffer.length = omega (arith, none) in
-      let told : IsToldOut w.ring (filled v front buffer.flags) front.cursor.place buffer buffer.length (Unit {0}) =
-      Wholly all (filled-tells v front buffer.flags apart)
-      (filled-counts v front buffer.flags (w.ring.consumer.progress.edtla + buffer.length) (mod-mod (w.ring.consumer.progress.edtla + buffer.length) (2 ^ 24))) in
-      subst (λ (ring : World). IsToldOut w.ring ring front.cursor.place buffer buffer.length (Unit {0}))
-      (sym (received_if-ring (not buffer.flags.chain) (command_gathered kind w bytes front buffer))) told
+      let told : TellsWhole w (filled v front buffer.flags) front buffer =
+      (filled-tells v front buffer.flags apart,
+      filled-counts v front buffer.flags (w.ring.consumer.progress.edtla + buffer.length) (mod-mod (w.ring.consumer.progress.edtla + buffer.length) (2 ^ 24))) in
+      inl (subst (λ (ring : World). TellsWhole w ring front buffer)
+      (sym (received_if-ring (not buffer.flags.chain) (command_gathered kind w bytes front buffer))) told)
 
   normal-told : (ending : Ending) (w : OutWorld D) (front : Front) (buffer moved : Buffer) → (if runs ending then Some buffer else None) ≡ Some moved
-      → w.ring.consumer.progress.moved ≡ 0 → AreApart (event_range w.ring.events) (home_range front.home) → AddsUp w (command_normal kind ending w front buffer).0 front moved
+      → AreApart (event_range w.ring.events) (home_range front.home) → AddsUp w (command_normal kind ending w front buffer).0 front moved
   unfolding command_ran
-  normal-told Runs w front buffer moved is none apart =
+  normal-told Runs w front buffer moved is apart =
       let same : buffer ≡ moved = same_Some buffer moved is in
       subst (λ (b : Buffer). AddsUp w (command_normal kind Runs w front buffer).0 front b) same
-      (drawn-told (bytes_out w.ring.memory buffer 0 (command_count kind w buffer)) w front buffer none apart)
-  normal-told (Told code) w front buffer moved is none apart = absurd (none-some moved is)
-  normal-told Owed w front buffer moved is none apart = absurd (none-some moved is)
+      (drawn-told (bytes_out w.ring.memory buffer 0 (command_count kind w buffer)) w front buffer refl apart)
+  normal-told (Told code) w front buffer moved is apart = absurd (none-some moved is)
+  normal-told Owed w front buffer moved is apart = absurd (none-some moved is)
 
   acted-told : (found : Found) (w : OutWorld D) (front : Front) (buffer : Buffer) → (if runs w.ring.consumer.progress.ending then buffer_of found else None) ≡ Some buffer
-      → w.ring.consumer.progress.moved ≡ 0 → AreApart (event_range w.ring.events) (home_range front.home) → AddsUp w (command_acted kind w front found).0 front buffer
-  acted-told WrongKind w front buffer is none apart = no_buffer (runs w.ring.consumer.progress.ending) buffer is
-  acted-told NotYet w front buffer is none apart = no_buffer (runs w.ring.consumer.progress.ending) buffer is
-  acted-told (Item (Normal pointer length flags)) w front buffer is none apart =
-      normal-told w.ring.consumer.progress.ending w front (record { pointer = pointer; length = length; flags = flags }) buffer is none apart
-  acted-told (Item (Link pointer toggle flags)) w front buffer is none apart = no_buffer (runs w.ring.consumer.progress.ending) buffer is
-  acted-told (Item (NoOp flags)) w front buffer is none apart = no_buffer (runs w.ring.consumer.progress.ending) buffer is
-  acted-told (Item (EventData parameter flags)) w front buffer is none apart = no_buffer (runs w.ring.consumer.progress.ending) buffer is
-  acted-told (Item Foreign) w front buffer is none apart = no_buffer (runs w.ring.consumer.progress.ending) buffer is
+      → AreApart (event_range w.ring.events) (home_range front.home) → AddsUp w (command_acted kind w front found).0 front buffer
+  acted-told WrongKind w front buffer is apart = no_buffer (runs w.ring.consumer.progress.ending) buffer is
+  acted-told NotYet w front buffer is apart = no_buffer (runs w.ring.consumer.progress.ending) buffer is
+  acted-told (Item (Normal pointer length flags)) w front buffer is apart =
+      normal-told w.ring.consumer.progress.ending w front (record { pointer = pointer; length = length; flags = flags }) buffer is apart
+  acted-told (Item (Link pointer toggle flags)) w front buffer is apart = no_buffer (runs w.ring.consumer.progress.ending) buffer is
+  acted-told (Item (NoOp flags)) w front buffer is apart = no_buffer (runs w.ring.consumer.progress.ending) buffer is
+  acted-told (Item (EventData parameter flags)) w front buffer is apart = no_buffer (runs w.ring.consumer.progress.ending) buffer is
+  acted-told (Item Foreign) w front buffer is apart = no_buffer (runs w.ring.consumer.progress.ending) buffer is
 
   -- a step that is let through is taken on what was found
   stepped_on : (w : OutWorld D) (home : Home) (front : Front) (P : OutWorld D → Type 0) → front_of w.ring home ≡ Some front
@@ -89,9 +99,9 @@ module _ {D : Type 0} (kind : Kind D) where
       by_gate (Some (Some acted)) finds homes is = absurd (none-some front is)
 
   pub command_residuals_add_up : CommandResidualsAddUp kind
-  command_residuals_add_up w home front buffer found is none apart =
+  command_residuals_add_up w home front buffer found is apart =
       stepped_on w home front (λ (new : OutWorld D). AddsUp w new front buffer) found
-      (λ same. acted-told front.found w front buffer is none (subst (λ (h : Home). AreApart (event_range w.ring.events) (home_range h)) (sym same) apart))
+      (λ same. acted-told front.found w front buffer is (subst (λ (h : Home). AreApart (event_range w.ring.events) (home_range h)) (sym same) apart))
 
   -- the device receives beside the ring
   last-tells : (trb : PipeTrb) (flags : Flags) (w : OutWorld D) (front : Front) → buffer_of (Item trb) ≡ None → AreApart (event_range w.ring.events) (home_range front.home)

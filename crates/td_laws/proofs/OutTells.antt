@@ -32,7 +32,7 @@ use Rattle.guest_out.specs.Immediate.{bytes_out, immediate_bytes, is_immediate, 
 use Rattle.guest_out.specs.Worlds.{OutWorld}
 use Rattle.td_laws.specs.Places.{AreApart, event_range}
 use Rattle.td_laws.specs.OutInOrder.{taken_by, taken_of}
-use Rattle.td_laws.specs.OutTold.{Drops, IsToldOut, Misses, OutEventEach, OutResidualsAddUp, Partly, Wholly}
+use Rattle.td_laws.specs.OutTold.{Drops, IsOutMissing, IsToldOut, Misses, OutEventEach, OutResidualsAddUp, Partly, Wholly}
 use Rattle.td_laws.proofs.Fronts.{on_front}
 use Rattle.td_laws.proofs.RingTells.{TellsOf, failed-tells, filled-counts, filled-tells, no_buffer, other-tells, skipped-edtla, skipped-tells}
 use Rattle.td_laws.proofs.OutOrdered.{no_bytes}
@@ -53,10 +53,10 @@ fewer memory buffer moved count bytes is = by_kind (is_immediate buffer) is
 abbrev with_more : World → ℕ → World
 with_more w count = with_progress w (counted w.consumer.progress count)
 
-module _ (Over : Type 0) (w : World) (front : Front) (buffer : Buffer) where
+module _ (Over Missing : Type 0) (w : World) (front : Front) (buffer : Buffer) where
   -- what the TRB in front was told as, with so many bytes of it
   abbrev AddsUp : World → ℕ → Type 0
-  AddsUp new count = IsToldOut w new front.cursor.place buffer count Over
+  AddsUp new count = IsToldOut w new front.cursor.place buffer count Over Missing
 
   same_since : (count : ℕ) → count ≡ 0 → w.consumer.progress.edtla % 2 ^ 24 ≡ (w.consumer.progress.edtla + count) % 2 ^ 24
   same_since count none = ap (λ (n : ℕ). n % 2 ^ 24) (sym (add-zero w.consumer.progress.edtla) ∙ ap (λ (n : ℕ). w.consumer.progress.edtla + n) (sym none))
@@ -92,8 +92,8 @@ module _ (Over : Type 0) (w : World) (front : Front) (buffer : Buffer) where
           wholly count (omega (arith, past, within)) apart
       by_test false is = partly count within
 
-  missing : AreApart (event_range w.events) (home_range front.home) → (count : ℕ) → AddsUp (failed w front buffer.length buffer.flags) count
-  missing apart count = Misses (failed-tells w front buffer.length buffer.flags apart)
+  missing : AreApart (event_range w.events) (home_range front.home) → Missing → (count : ℕ) → AddsUp (failed w front buffer.length buffer.flags) count
+  missing apart lacks count = Misses (failed-tells w front buffer.length buffer.flags apart) lacks
 
   -- what is left is told as if it had been taken
   tallied_whole : (left : ℕ) → AreApart (event_range w.events) (home_range front.home) → (over : Over) → left ≡ buffer.length - w.consumer.progress.moved → (count : ℕ)
@@ -110,7 +110,7 @@ module _ {D : Type 0} (kind : Kind D) where
   IsGood w number = kind.phase w.device number ≡ Ended Good
 
   abbrev OutAddsUp : OutWorld D → OutWorld D → ℕ → Front → Buffer → List ℕ → Type 0
-  OutAddsUp w new number front buffer bytes = IsToldOut w.ring new.ring front.cursor.place buffer (list_length bytes) (IsGood w number)
+  OutAddsUp w new number front buffer bytes = IsToldOut w.ring new.ring front.cursor.place buffer (list_length bytes) (IsGood w number) (IsOutMissing kind w number buffer)
 
   abbrev OutDone : OutWorld D → OutWorld D × Acted → ℕ → Front → Buffer → List ℕ → Type 0
   OutDone w done number front buffer bytes = OutAddsUp w done.0 number front buffer bytes
@@ -120,16 +120,17 @@ module _ {D : Type 0} (kind : Kind D) where
       → OutAddsUp w (if size then out_filled_if kind fits (out_handed kind (out_gathered kind w bytes) number) front buffer else out_filled kind (out_gathered kind w bytes) front buffer)
       number front buffer bytes
   unfolding out_gathered out_handed
-  out_went-told true true w number front buffer bytes within apart = filled_so (IsGood w number) w.ring front buffer (list_length bytes) within apart
-  out_went-told true false w number front buffer bytes within apart = partly (IsGood w number) w.ring front buffer (list_length bytes) within
-  out_went-told false fits w number front buffer bytes within apart = filled_so (IsGood w number) w.ring front buffer (list_length bytes) within apart
+  out_went-told true true w number front buffer bytes within apart = filled_so (IsGood w number) (IsOutMissing kind w number buffer) w.ring front buffer (list_length bytes) within apart
+  out_went-told true false w number front buffer bytes within apart = partly (IsGood w number) (IsOutMissing kind w number buffer) w.ring front buffer (list_length bytes) within
+  out_went-told false fits w number front buffer bytes within apart = filled_so (IsGood w number) (IsOutMissing kind w number buffer) w.ring front buffer (list_length bytes) within apart
 
   out_drawn-told : (bytes : Option (List ℕ)) (w : OutWorld D) (number count : ℕ) (front : Front) (buffer : Buffer)
       → w.ring.consumer.progress.moved + list_length (unwrap_or bytes []) ≤ buffer.length → AreApart (event_range w.ring.events) (home_range front.home)
+      → (bytes ≡ None → IsOutMissing kind w number buffer)
       → OutAddsUp w (out_drawn kind bytes w number count front buffer) number front buffer (unwrap_or bytes [])
   unfolding out_took out_gathered
-  out_drawn-told None w number count front buffer within apart = missing (IsGood w number) w.ring front buffer apart 0
-  out_drawn-told (Some bytes) w number count front buffer within apart =
+  out_drawn-told None w number count front buffer within apart lacks = missing (IsGood w number) (IsOutMissing kind w number buffer) w.ring front buffer apart (lacks refl) 0
+  out_drawn-told (Some bytes) w number count front buffer within apart lacks =
       out_went-told (list_length (w.taken ++ bytes) == count) (kind.fits w.device number (w.taken ++ bytes)) w number front buffer bytes within apart
 
   ended_good : (end : End) → is_good end ≡ true → end ≡ Good
@@ -142,18 +143,18 @@ module _ {D : Type 0} (kind : Kind D) where
       → OutAddsUp w (out_dropped_if kind drops w front buffer).0 number front buffer []
   unfolding out_dropped
   out_dropped-told true w number front buffer good within apart =
-      tallied_whole (IsGood w number) w.ring front buffer (buffer.length - w.ring.consumer.progress.moved) apart (good refl) refl 0
-  out_dropped-told false w number front buffer good within apart = waits (IsGood w number) w.ring front buffer 0 refl within
+      tallied_whole (IsGood w number) (IsOutMissing kind w number buffer) w.ring front buffer (buffer.length - w.ring.consumer.progress.moved) apart (good refl) refl 0
+  out_dropped-told false w number front buffer good within apart = waits (IsGood w number) (IsOutMissing kind w number buffer) w.ring front buffer 0 refl within
 
   out_by-told : (phase : Phase) (w : OutWorld D) (number : ℕ) (home : Home) (front : Front) (buffer : Buffer) → kind.phase w.device number ≡ phase
       → w.ring.consumer.progress.moved ≤ buffer.length → AreApart (event_range w.ring.events) (home_range front.home)
       → OutAddsUp w (out_by kind phase w number front buffer).0 number front buffer (taken_by kind number home phase w buffer)
   unfolding out_moved
-  out_by-told Absent w number home front buffer is within apart = waits (IsGood w number) w.ring front buffer 0 refl within
-  out_by-told (Gives count) w number home front buffer is within apart = waits (IsGood w number) w.ring front buffer 0 refl within
+  out_by-told Absent w number home front buffer is within apart = waits (IsGood w number) (IsOutMissing kind w number buffer) w.ring front buffer 0 refl within
+  out_by-told (Gives count) w number home front buffer is within apart = waits (IsGood w number) (IsOutMissing kind w number buffer) w.ring front buffer 0 refl within
   out_by-told (Takes count) w number home front buffer is within apart =
       let read = bytes_out w.ring.memory buffer w.ring.consumer.progress.moved (out_count kind w count buffer) in
-      out_drawn-told read w number count front buffer (fits read refl) apart
+      out_drawn-told read w number count front buffer (fits read refl) apart (λ none. (count, is, none))
     where
       fits : (read : Option (List ℕ)) → bytes_out w.ring.memory buffer w.ring.consumer.progress.moved (out_count kind w count buffer) ≡ read
           → w.ring.consumer.progress.moved + list_length (unwrap_or read []) ≤ buffer.length
@@ -185,7 +186,7 @@ module _ {D : Type 0} (kind : Kind D) where
           number front buffer (taken_by kind number home (kind.phase w.device number) w buffer)
       by_room true is =
           let past = leb-true buffer.length w.ring.consumer.progress.moved is in
-          was_full (IsGood w number) w.ring front buffer (list_length (taken_by kind number home (kind.phase w.device number) w buffer))
+          was_full (IsGood w number) (IsOutMissing kind w number buffer) w.ring front buffer (list_length (taken_by kind number home (kind.phase w.device number) w buffer))
           (full_takes (kind.phase w.device number) w number home buffer past) (omega (arith, past, within)) apart
       by_room false is = out_by-told (kind.phase w.device number) w number home front buffer refl within apart
 

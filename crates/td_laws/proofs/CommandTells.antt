@@ -1,5 +1,5 @@
 -- What a step of the command pipe tells.
-use Rattle.std.proofs.Common.{◌≡◌, ℕ, ◌+◌, ◌^◌, Bool, true, false, List, Option, Some, None, refl, sym, ap, subst, ◌∙◌, arith, ◌⊎◌, inl, inr}
+use Rattle.std.proofs.Common.{◌≡◌, ℕ, ◌+◌, ◌^◌, Bool, true, false, List, Option, Some, None, refl, sym, ap, subst, ◌∙◌, ◌⊎◌, inl, inr}
 use Rattle.std.specs.Prelude.{not, ◌&&◌, if◌then◌else◌, option_map}
 use Rattle.std.proofs.Math.Nat.{mod-mod}
 use Rattle.std.proofs.lemmas.Option.{none-some, same_Some}
@@ -56,9 +56,10 @@ module _ {D : Type 0} (kind : Kind D) where
   drawn-told None w front buffer lacks apart = inr (failed-tells w.ring front buffer.length buffer.flags apart, lacks)
   drawn-told (Some bytes) w front buffer drawn apart =
       let v = with_progress w.ring (tallied w.ring.consumer.progress buffer.length) in
-      let told : TellsWhole w (filled v front buffer.flags) front buffer =
-      (filled-tells v front buffer.flags apart,
-      filled-counts v front buffer.flags (w.ring.consumer.progress.edtla + buffer.length) (mod-mod (w.ring.consumer.progress.edtla + buffer.length) (2 ^ 24))) in
+      let told : TellsWhole w (filled v front buffer.flags) front buffer = (
+        filled-tells v front buffer.flags apart,
+        filled-counts v front buffer.flags (w.ring.consumer.progress.edtla + buffer.length) (mod-mod (w.ring.consumer.progress.edtla + buffer.length) (2 ^ 24)),
+      ) in
       inl (subst (λ (ring : World). TellsWhole w ring front buffer)
       (sym (received_if-ring (not buffer.flags.chain) (command_gathered kind w bytes front buffer))) told)
 

@@ -16,3 +16,4 @@ pub mod Buffered
 pub mod OutTells
 pub mod CommandTells
 pub mod StatusTells
+pub mod BuffersHeld

@@ -1,6 +1,6 @@
 -- A step of data-in, of a device that notes what it gives: where the bytes go, and what is left of the chunk.
 use Rattle.std.proofs.Common.{◌≡◌, ℕ, ◌+◌, ◌-◌, ◌≤◌, ◌==◌, Bool, true, false, List, [], ◌∷◌, ◌++◌, length as list_length, take, drop, Option, Some, None, refl, sym, ap, subst, ◌∙◌, arith, append_assoc, append-nil, take-append-drop, true≢false}
-use Rattle.std.specs.Prelude.{min, nat_le, not, ◌&&◌, if◌then◌else◌, unwrap_or}
+use Rattle.std.specs.Prelude.{min, nat_le, not, ◌&&◌, if◌then◌else◌, unwrap_or, is_some}
 use Rattle.std.proofs.lemmas.Bool.{eqb-true, leb-true, not-false}
 use Rattle.std.proofs.lemmas.List.{length-take-le}
 use Rattle.guest_memory.specs.Bytes.{Memory, bytes_from, is_there, ◌>>=◌}
@@ -61,6 +61,7 @@ module _ {D : Type 0} (kind : Kind D) where
   -- what a step made of the tag, with the part of a buffer that it filled
   pub record Orders (w new : Tags) (home : Home) (part : Range) : Type 0 where
     pub drops : new.tag.drops ≡ false → w.tag.drops ≡ false
+    pub there : new.tag.drops ≡ false → AreApart part (event_range w.ring.events) → AreApart part (home_range home) → is_some (held_in new.ring.memory part) ≡ true
     pub order : new.tag.drops ≡ false → AreApart part (event_range w.ring.events) → AreApart part (home_range home)
         → (before : List ℕ) → before ++ w.tag.chunk ≡ w.device.given
         → (before ++ unwrap_or (held_in new.ring.memory part) []) ++ new.tag.chunk ≡ new.device.given
@@ -70,6 +71,7 @@ module _ {D : Type 0} (kind : Kind D) where
       → new.tag.drops ≡ w.tag.drops → Orders w new home part
   still w new home part none chunk given drops = record {
     drops = λ kept. sym drops ∙ kept;
+    there = λ kept events ends. ap (λ (held : Option (List ℕ)). is_some held) (nothing_held new.ring.memory part none);
     order = λ kept events ends before is.
         ap (λ (held : Option (List ℕ)). (before ++ unwrap_or held []) ++ new.tag.chunk) (nothing_held new.ring.memory part none)
         ∙ ap (λ (b : List ℕ). b ++ new.tag.chunk) (append-nil before) ∙ ap (λ (c : List ℕ). before ++ c) chunk ∙ is ∙ sym given;
@@ -91,12 +93,14 @@ module _ {D : Type 0} (kind : Kind D) where
       let new = filled_if full v front buffer.flags in
       let size : list_length (take count w.tag.chunk) ≡ count = length-take-le count w.tag.chunk (omega arith) in
       let kept = filled_if-keeps full v front buffer.flags room in
+      let held : AreApart (part_here w (list_length w.tag.chunk) buffer) (event_range w.ring.events) → AreApart (part_here w (list_length w.tag.chunk) buffer) (home_range front.home)
+      → held_in new.memory (part_here w (list_length w.tag.chunk) buffer) ≡ Some bytes = λ events ends. from_each new.memory to count bytes size (λ k below.
+      kept.others (to + k) (events k below) (ends k below) ∙ written_ahead w.ring.memory to bytes k (omega (arith, size))) in
       record {
         drops = λ same. same;
+        there = λ same events ends. ap (λ (h : Option (List ℕ)). is_some h) (held events ends);
         order = λ same events ends before is.
-            let held : held_in new.memory (part_here w (list_length w.tag.chunk) buffer) ≡ Some bytes = from_each new.memory to count bytes size (λ k below.
-            kept.others (to + k) (events k below) (ends k below) ∙ written_ahead w.ring.memory to bytes k (omega (arith, size))) in
-            ap (λ (h : Option (List ℕ)). (before ++ unwrap_or h []) ++ drop count w.tag.chunk) held
+            ap (λ (h : Option (List ℕ)). (before ++ unwrap_or h []) ++ drop count w.tag.chunk) (held events ends)
             ∙ append_assoc before bytes (drop count w.tag.chunk) ∙ ap (λ (c : List ℕ). before ++ c) (take-append-drop count w.tag.chunk) ∙ is;
       }
 
@@ -111,7 +115,7 @@ module _ {D : Type 0} (kind : Kind D) where
           else lost (noting kind) w front buffer) front.home
           (if there then part_here w (list_length w.tag.chunk) buffer else nowhere)
       by_there true = gone w front buffer (w.ring.consumer.progress.moved + moved_count (noting kind) w buffer == buffer.length) room
-      by_there false = record { drops = λ kept. absurd (true≢false kept); order = λ kept events ends before is. absurd (true≢false kept) }
+      by_there false = record { drops = λ kept. absurd (true≢false kept); there = λ kept events ends. absurd (true≢false kept); order = λ kept events ends before is. absurd (true≢false kept) }
 
   -- the device gives its next chunk
   refilled-orders : (w : Tags) (number : ℕ) (new : Tags) (home : Home) (part : Range) → has_chunk w.tag ≡ false
@@ -119,6 +123,7 @@ module _ {D : Type 0} (kind : Kind D) where
   unfolding refilled
   refilled-orders w number new home part empty orders = record {
     drops = orders.drops;
+    there = orders.there;
     order = λ kept events ends before is.
         let none : before ≡ w.device.given = sym (append-nil before) ∙ sym (ap (λ (c : List ℕ). before ++ c) (empty_chunk w.tag.chunk empty)) ∙ is in
         orders.order kept events ends before (ap (λ (b : List ℕ). b ++ unwrap_or (kind.given w.device.device number) []) none);

@@ -48,7 +48,7 @@ module _ {D : Type 0} (kind : Kind D) (number : ℕ) (home : Home) where
   final w turns = all_stepped (noting kind) number home w turns
 
   -- what was filled stays
-  stays : (turns : List (TagTurn Tags)) (parts : List Range) (w : Tags) → StayFilled kind number home parts w turns
+  pub stays : (turns : List (TagTurn Tags)) (parts : List Range) (w : Tags) → StayFilled kind number home parts w turns
       → HoldTheSame (final w turns).ring.memory w.ring.memory parts
   stays [] parts w filled = itself w.ring.memory parts
   stays (Steps ∷ turns) parts w filled =
@@ -60,7 +60,7 @@ module _ {D : Type 0} (kind : Kind D) (number : ℕ) (home : Home) where
       through_both (final other turns).ring.memory other.ring.memory w.ring.memory parts (stays turns parts other filled.1) filled.0.bytes
 
   -- what a task gives isn't dropped before
-  kept_before : (turns : List (TagTurn Tags)) (parts : List Range) (w : Tags) → StayFilled kind number home parts w turns
+  pub kept_before : (turns : List (TagTurn Tags)) (parts : List Range) (w : Tags) → StayFilled kind number home parts w turns
       → (final w turns).tag.drops ≡ false → w.tag.drops ≡ false
   kept_before [] parts w filled kept = kept
   kept_before (Steps ∷ turns) parts w filled kept =

@@ -12,3 +12,4 @@ pub mod Told
 pub mod OutTold
 pub mod StatusTold
 pub mod Buffers
+pub mod Filled

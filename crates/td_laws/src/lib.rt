@@ -24,6 +24,7 @@ ghost use Rattle.td_laws.specs.NothingElse.{CommandLeavesElse, DataInLeavesElse,
 ghost use Rattle.td_laws.specs.NotOvertaken.{NewRingIsFreed, NextIsFreed, PostsKeepUnfreed, TurnsLeaveElse, UnfreedStand};
 ghost use Rattle.td_laws.specs.Beside.{NotesAreBeside, OutNotesAreBeside};
 ghost use Rattle.td_laws.specs.Buffers.{PartsAreBuffers};
+ghost use Rattle.td_laws.specs.Filled.{BuffersHoldWhatWasGiven};
 ghost use Rattle.td_laws.specs.InOrder.{GivenInOrder};
 ghost use Rattle.td_laws.specs.OutInOrder.{TakenInOrder};
 ghost use Rattle.td_laws.specs.OutTold.{CommandEventEach, CommandResidualsAddUp, OutEventEach, OutResidualsAddUp};
@@ -67,6 +68,7 @@ pub fn an_event_each<D>()
 
 /// Law: the bytes that a device gave stand in the buffers in order, and it takes those of the buffers in order.
 pub fn bytes_in_order<D>()
+    ensures filled { (kind : Kind D) (number : ℕ) (home : Home) → BuffersHoldWhatWasGiven kind number home }
     ensures given { (kind : Kind D) (number : ℕ) (home : Home) → GivenInOrder kind number home }
     ensures buffers { (kind : Kind D) (number : ℕ) (home : Home) → PartsAreBuffers kind number home }
     ensures taken { (kind : Kind D) (number : ℕ) (home : Home) → TakenInOrder kind number home }

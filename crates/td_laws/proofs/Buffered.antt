@@ -16,19 +16,20 @@ use Rattle.guest_pipes.specs.declared.acted.Acted.{Acted}
 use Rattle.guest_pipes.specs.declared.consumer.Consumer.{Consumer}
 use Rattle.guest_pipes.specs.declared.progress.Ending.{Ending}
 use Rattle.guest_pipes.specs.declared.progress.Progress.{Progress}
-use Rattle.guest_pipes.specs.Gate.{after, gate}
+use Rattle.guest_pipes.specs.Gate.{after}
 use Rattle.guest_pipes.specs.Progress.{runs}
 use Rattle.guest_tags.specs.declared.buffer.Buffer.{Buffer}
 use Rattle.guest_tags.specs.Devices.{Kind}
 use Rattle.guest_tags.specs.Tags.{TagWorld}
 use Rattle.guest_tags.specs.DataIn.{acted}
 use Rattle.guest_tags.specs.Wanted.{buffer_of, moving}
-use Rattle.td_laws.specs.Places.{AreApart, buffer_in_front, coming, front_of, let_through, nowhere, part_of}
+use Rattle.td_laws.specs.Places.{AreApart, buffer_in_front, coming, front_of, nowhere, part_of}
 use Rattle.td_laws.specs.Runs.{Others, Steps, TagTurn, all_stepped, part_filled, parts_filled, stepped}
 use Rattle.td_laws.specs.Buffers.{AreBeside, IsClear, PartsAreBuffers, StayClear, addresses, addresses_from, all_addresses, all_left_behind, begun_part, front_part, left_behind}
 use Rattle.td_laws.specs.Told.{Ends, Fails, Fills, Goes, IsDropped, IsOver, IsTold, Stays, moved_with}
+use Rattle.td_laws.proofs.Fronts.{front_looked}
 use Rattle.td_laws.proofs.Fronted.{looked_same, untouched}
-use Rattle.td_laws.proofs.RingTells.{data_told-gone, erred-progress, linked-progress, passed-gone, refused-progress, skipped-gone}
+use Rattle.td_laws.proofs.RingTells.{other-gone, refused-progress, skipped-gone}
 use Rattle.td_laws.proofs.Tells as tells
 
 none_from : (at n : ℕ) → n ≡ 0 → addresses_from at n ≡ []
@@ -104,15 +105,6 @@ module _ {D : Type 0} (kind : Kind D) (number : ℕ) (home : Home) where
     joins : addresses (begun_part kind number home w) ++ addresses (part_filled kind number home w)
         ≡ addresses (left_behind kind number home w) ++ addresses (begun_part kind number home (stepped kind number home w))
 
-  -- a step that is let through looks at the ring's end
-  front_looked : (w : TagWorld D) (front : Front) → front_of w.ring home ≡ Some front → looked w.ring.memory home ≡ Some front
-  front_looked w front found = by_gate (gate w.ring.memory w.ring.events w.ring.consumer) (looked w.ring.memory home) found
-    where
-      by_gate : (opens : Option (Option Acted)) (finds : Option Front) → let_through opens finds ≡ Some front → finds ≡ Some front
-      by_gate None finds is = absurd (none-some front is)
-      by_gate (Some None) finds is = is
-      by_gate (Some (Some acted)) finds is = absurd (none-some front is)
-
   -- no step
   idle : (w : TagWorld D) → IsSound w → front_of w.ring home ≡ None → Moves w
   idle w sound none =
@@ -140,11 +132,10 @@ module _ {D : Type 0} (kind : Kind D) (number : ℕ) (home : Home) where
       let buffer : Buffer = record { pointer = pointer; length = length; flags = flags } in
       ap (λ (done : TagWorld D × Acted). done.0.ring.consumer.progress.moved) (tells.skips kind w.ring.consumer.progress.ending w number front buffer is)
       ∙ skipped-gone w.ring front length flags
-  none_moves (Item (Link pointer toggle flags)) w front is none =
-      ap (λ (progress : Progress). progress.moved) (linked-progress w.ring front pointer toggle flags) ∙ none
-  none_moves (Item (NoOp flags)) w front is none = passed-gone w.ring.consumer.progress.ending w.ring front flags
-  none_moves (Item (EventData parameter flags)) w front is none = data_told-gone w.ring front parameter flags
-  none_moves (Item Foreign) w front is none = ap (λ (progress : Progress). progress.moved) (erred-progress w.ring front) ∙ none
+  none_moves (Item (Link pointer toggle flags)) w front is none = other-gone (Link pointer toggle flags) w.ring front none
+  none_moves (Item (NoOp flags)) w front is none = other-gone (NoOp flags) w.ring front none
+  none_moves (Item (EventData parameter flags)) w front is none = other-gone (EventData parameter flags) w.ring front none
+  none_moves (Item Foreign) w front is none = other-gone Foreign w.ring front none
 
   beside : (w : TagWorld D) (front : Front) → IsSound w → front_of w.ring home ≡ Some front → moving w.ring.consumer front ≡ None → Moves w
   beside w front sound found is =
@@ -168,7 +159,7 @@ module _ {D : Type 0} (kind : Kind D) (number : ℕ) (home : Home) where
       fresh : IsSound w → w.ring.consumer.progress.moved ≡ 0
       fresh (Fresh none) = none
       fresh (Begun buffer at within) =
-          absurd (none-some buffer (sym is ∙ sym (ap (λ (f : Option Front). f >>= moving w.ring.consumer) (front_looked w front found)) ∙ at))
+          absurd (none-some buffer (sym is ∙ sym (ap (λ (f : Option Front). f >>= moving w.ring.consumer) (front_looked w.ring home front found)) ∙ at))
 
   -- what holds of the TRB in front, once a step told of it
   by_told : (w : TagWorld D) (front : Front) (buffer : Buffer) → IsClear kind number home w → front_of w.ring home ≡ Some front
@@ -178,7 +169,7 @@ module _ {D : Type 0} (kind : Kind D) (number : ℕ) (home : Home) where
   by_told w front buffer clear found is told = by_case told
     where
       here : looked w.ring.memory home ≡ Some front
-      here = front_looked w front found
+      here = front_looked w.ring home front found
 
       at : (looked w.ring.memory home >>= moving w.ring.consumer) ≡ Some buffer
       at = ap (λ (f : Option Front). f >>= moving w.ring.consumer) here ∙ is
@@ -249,7 +240,7 @@ module _ {D : Type 0} (kind : Kind D) (number : ℕ) (home : Home) where
       within : IsSound w → w.ring.consumer.progress.moved ≤ buffer.length
       within (Fresh none) = omega (arith, none)
       within (Begun other at fits) =
-          let same : other ≡ buffer = same_Some other buffer (sym at ∙ ap (λ (f : Option Front). f >>= moving w.ring.consumer) (front_looked w front found) ∙ is) in
+          let same : other ≡ buffer = same_Some other buffer (sym at ∙ ap (λ (f : Option Front). f >>= moving w.ring.consumer) (front_looked w.ring home front found) ∙ is) in
           subst (λ (b : Buffer). w.ring.consumer.progress.moved ≤ b.length) same fits
 
   moves : (w : TagWorld D) → IsSound w → IsClear kind number home w → Moves w

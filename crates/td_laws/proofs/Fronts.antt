@@ -70,3 +70,12 @@ on_front {S} s w home act P front found holds =
     let same : other ≡ front = same_Some other front is in
     subst (λ (g : Front). P (act g).0 (Some g)) (sym same) (holds (subst (λ (g : Front). g.home ≡ home) same there)))
     found
+
+-- what stands in front is what a look finds
+pub front_looked : (w : World) (home : Home) (front : Front) → front_of w home ≡ Some front → looked w.memory home ≡ Some front
+front_looked w home front found = by_gate (gate w.memory w.events w.consumer) (looked w.memory home) found
+  where
+    by_gate : (opens : Option (Option Acted)) (finds : Option Front) → let_through opens finds ≡ Some front → finds ≡ Some front
+    by_gate None finds is = absurd (none-some front is)
+    by_gate (Some None) finds is = is
+    by_gate (Some (Some acted)) finds is = absurd (none-some front is)

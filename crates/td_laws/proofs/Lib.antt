@@ -17,3 +17,4 @@ pub mod OutTells
 pub mod CommandTells
 pub mod StatusTells
 pub mod BuffersHeld
+pub mod OutBuffered

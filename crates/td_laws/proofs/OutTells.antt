@@ -34,7 +34,7 @@ use Rattle.td_laws.specs.Places.{AreApart, event_range}
 use Rattle.td_laws.specs.OutInOrder.{taken_by, taken_of}
 use Rattle.td_laws.specs.OutTold.{Drops, IsOutMissing, IsToldOut, Misses, OutEventEach, OutResidualsAddUp, Partly, Wholly}
 use Rattle.td_laws.proofs.Fronts.{on_front}
-use Rattle.td_laws.proofs.RingTells.{TellsOf, failed-tells, filled-counts, filled-tells, no_buffer, other-tells, skipped-edtla, skipped-tells}
+use Rattle.td_laws.proofs.RingTells.{TellsOf, failed-gone, failed-tells, filled-counts, filled-tells, no_buffer, other-tells, skipped-edtla, skipped-tells}
 use Rattle.td_laws.proofs.OutOrdered.{no_bytes}
 
 -- no more bytes than were asked for
@@ -64,7 +64,7 @@ module _ (Over Missing : Type 0) (w : World) (front : Front) (buffer : Buffer) w
   waits : (count : ℕ) → count ≡ 0 → w.consumer.progress.moved ≤ buffer.length → AddsUp w count
   waits count none within =
       let moved : w.consumer.progress.moved ≡ w.consumer.progress.moved + count = omega (arith, none) in
-      Partly (omega (arith, none)) refl refl (record { in_trb = moved; since = same_since count none })
+      Partly (omega (arith, none)) refl refl refl (record { in_trb = moved; since = same_since count none })
 
   was_full : (count : ℕ) → count ≡ 0 → w.consumer.progress.moved ≡ buffer.length → AreApart (event_range w.events) (home_range front.home)
       → AddsUp (filled w front buffer.flags) count
@@ -73,7 +73,7 @@ module _ (Over Missing : Type 0) (w : World) (front : Front) (buffer : Buffer) w
       (filled-counts w front buffer.flags (w.consumer.progress.edtla + count) (same_since count none))
 
   partly : (count : ℕ) → w.consumer.progress.moved + count ≤ buffer.length → AddsUp (with_more w count) count
-  partly count within = Partly within refl refl (record { in_trb = refl; since = mod-mod (w.consumer.progress.edtla + count) (2 ^ 24) })
+  partly count within = Partly within refl refl refl (record { in_trb = refl; since = mod-mod (w.consumer.progress.edtla + count) (2 ^ 24) })
 
   wholly : (count : ℕ) → w.consumer.progress.moved + count ≡ buffer.length → AreApart (event_range w.events) (home_range front.home)
       → AddsUp (filled (with_more w count) front buffer.flags) count
@@ -93,7 +93,7 @@ module _ (Over Missing : Type 0) (w : World) (front : Front) (buffer : Buffer) w
       by_test false is = partly count within
 
   missing : AreApart (event_range w.events) (home_range front.home) → Missing → (count : ℕ) → AddsUp (failed w front buffer.length buffer.flags) count
-  missing apart lacks count = Misses (failed-tells w front buffer.length buffer.flags apart) lacks
+  missing apart lacks count = Misses (failed-tells w front buffer.length buffer.flags apart) lacks (failed-gone w front buffer.length buffer.flags)
 
   -- what is left is told as if it had been taken
   tallied_whole : (left : ℕ) → AreApart (event_range w.events) (home_range front.home) → (over : Over) → left ≡ buffer.length - w.consumer.progress.moved → (count : ℕ)
@@ -220,7 +220,7 @@ module _ {D : Type 0} (kind : Kind D) where
       (λ same. subst (λ (b : Option Buffer). OutAddsUp w (out_at kind w number front).0 number front buffer (taken_of kind number home b w)) (sym is)
       (out_acted-told front.found w number home front buffer is within (subst (λ (h : Home). AreApart (event_range w.ring.events) (home_range h)) (sym same) apart)))
 
-  out_skips : (ending : Ending) (w : OutWorld D) (number : ℕ) (front : Front) (buffer : Buffer) → (if runs ending then Some buffer else None) ≡ None
+  pub out_skips : (ending : Ending) (w : OutWorld D) (number : ℕ) (front : Front) (buffer : Buffer) → (if runs ending then Some buffer else None) ≡ None
       → out_normal kind ending w number front buffer ≡ out_normal kind (Told 2) w number front buffer
   out_skips Runs w number front buffer is = absurd (none-some buffer (sym is))
   out_skips (Told code) w number front buffer is = refl

@@ -227,6 +227,10 @@ skipped-gone w front length flags =
     let told = owes w.consumer.progress.ending && (not flags.chain && flags.ioc) in
     consumed-gone (posted_if told w (about w.consumer front.cursor.place length 13) flags.bei) front flags.chain
 
+pub failed-gone : (w : World) (front : Front) (length : ℕ) (flags : Flags) → (failed w front length flags).consumer.progress.moved ≡ 0
+unfolding failed
+failed-gone w front length flags = consumed-gone (ended_as (posted w (about w.consumer front.cursor.place length 2) flags.bei) (Told 2)) front flags.chain
+
 pub passed-gone : (ending : Ending) (w : World) (front : Front) (flags : Flags) → (passed ending w front flags).consumer.progress.moved ≡ 0
 unfolding filled
 passed-gone Runs w front flags = consumed-gone (posted_if flags.ioc w (about w.consumer front.cursor.place 0 1) flags.bei) front flags.chain
@@ -262,6 +266,14 @@ erred-tells w front apart =
       once = refl;
       stands = from_each (erred w front).memory (enqueue_pointer w.events) 16 bytes size (λ k below. written_ahead w.memory (enqueue_pointer w.events) bytes k (omega (arith, size)));
     }
+
+-- nothing has moved behind a TRB that moves nothing
+pub other-gone : (trb : PipeTrb) (w : World) (front : Front) → w.consumer.progress.moved ≡ 0 → (took_other w front trb).consumer.progress.moved ≡ 0
+other-gone (Normal pointer length flags) w front none = none
+other-gone (Link pointer toggle flags) w front none = ap (λ (progress : Progress). progress.moved) (linked-progress w front pointer toggle flags) ∙ none
+other-gone (NoOp flags) w front none = passed-gone w.consumer.progress.ending w front flags
+other-gone (EventData parameter flags) w front none = data_told-gone w front parameter flags
+other-gone Foreign w front none = ap (λ (progress : Progress). progress.moved) (erred-progress w front) ∙ none
 
 -- what is told of a TRB that moves nothing, and what EDTLA is behind it
 abbrev pub TellsOf : PipeTrb → World → Front → World → Type 0

@@ -13,3 +13,4 @@ pub mod OutTold
 pub mod StatusTold
 pub mod Buffers
 pub mod Filled
+pub mod OutBuffers

@@ -23,6 +23,7 @@ use Rattle.td_laws.specs.Told.{Counts, HasTold, IsToldOf, Tells, edtla_behind, e
 pub data IsToldOut (old new : World) (place : ℕ) (buffer : Buffer) (count : ℕ) (Over Missing : Type 0) : Type 0 where
   -- the TRB stays in front, and nothing is written
   Partly : old.consumer.progress.moved + count ≤ buffer.length → new.memory ≡ old.memory → new.events ≡ old.events
+      → new.consumer.progress.ending ≡ old.consumer.progress.ending
       → Counts new.consumer.progress (old.consumer.progress.moved + count) (old.consumer.progress.edtla + count)
       → IsToldOut old new place buffer count Over Missing
   -- all of it was taken: with IOC, code 1 and no residual
@@ -35,6 +36,7 @@ pub data IsToldOut (old new : World) (place : ℕ) (buffer : Buffer) (count : �
       → IsToldOut old new place buffer count Over Missing
   -- its buffer isn't there: code 2 and its length
   Misses : HasTold old.events new (about old.consumer place buffer.length 2) buffer.flags.bei → Missing
+      → new.consumer.progress.moved ≡ 0
       → IsToldOut old new place buffer count Over Missing
 
 module _ {D : Type 0} (kind : Kind D) where

@@ -26,6 +26,7 @@ ghost use Rattle.td_laws.specs.Beside.{NotesAreBeside, OutNotesAreBeside};
 ghost use Rattle.td_laws.specs.Buffers.{PartsAreBuffers};
 ghost use Rattle.td_laws.specs.Filled.{BuffersHoldWhatWasGiven};
 ghost use Rattle.td_laws.specs.InOrder.{GivenInOrder};
+ghost use Rattle.td_laws.specs.OutBuffers.{BuffersAreTaken};
 ghost use Rattle.td_laws.specs.OutInOrder.{TakenInOrder};
 ghost use Rattle.td_laws.specs.OutTold.{CommandEventEach, CommandResidualsAddUp, OutEventEach, OutResidualsAddUp};
 ghost use Rattle.td_laws.specs.Told.{AnEventEach, NoneWithoutATrb, ResidualsAddUp};
@@ -72,6 +73,7 @@ pub fn bytes_in_order<D>()
     ensures given { (kind : Kind D) (number : ℕ) (home : Home) → GivenInOrder kind number home }
     ensures buffers { (kind : Kind D) (number : ℕ) (home : Home) → PartsAreBuffers kind number home }
     ensures taken { (kind : Kind D) (number : ℕ) (home : Home) → TakenInOrder kind number home }
+    ensures buffers_out { (kind : Kind D) (number : ℕ) (home : Home) → BuffersAreTaken kind number home }
 {}
 
 /// Law: a device that notes what it gives and takes does what it does without its notes. The laws of bytes in order speak of such a device.

@@ -50,7 +50,8 @@ pub fn not_overtaken<D>()
     ensures stand { (kind : Kind D) → UnfreedStand kind }
 {}
 
-/// Law: what a driver is told of a TRB adds up with what was moved in it, and EDTLA with what was moved since it began.
+/// Law: the residual that a driver is told of a TRB, with what was moved in it, is its length; and EDTLA is what was moved since it began.
+/// What is left of a data-out TD once its task has ended with GOOD is told as if it had been taken.
 pub fn residuals_add_up<D>()
     ensures of_data_in { (kind : Kind D) → ResidualsAddUp kind }
     ensures of_status { (kind : Kind D) → StatusResidualsAddUp kind }
@@ -67,7 +68,9 @@ pub fn an_event_each<D>()
     ensures of_none { (kind : Kind D) → NoneWithoutATrb kind }
 {}
 
-/// Law: the bytes that a device gave stand in the buffers in order, and it takes those of the buffers in order.
+/// Law: the buffers of a data-in TD, in the ring's order, hold the bytes that the device gave (`filled`): it fills them part by part
+/// (`given`), and the parts are the buffers (`buffers`). It takes the bytes of data-out part by part (`taken`), and they are those of the
+/// buffers in the ring's order, whole (`buffers_out`).
 pub fn bytes_in_order<D>()
     ensures filled { (kind : Kind D) (number : ℕ) (home : Home) → BuffersHoldWhatWasGiven kind number home }
     ensures given { (kind : Kind D) (number : ℕ) (home : Home) → GivenInOrder kind number home }

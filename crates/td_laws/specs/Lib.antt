@@ -1,0 +1,16 @@
+pub mod Places
+pub mod NothingElse
+pub mod Turns
+pub mod Unfreed
+pub mod NotOvertaken
+pub mod Noting
+pub mod Runs
+pub mod InOrder
+pub mod Beside
+pub mod OutInOrder
+pub mod Told
+pub mod OutTold
+pub mod StatusTold
+pub mod Buffers
+pub mod Filled
+pub mod OutBuffers

@@ -96,13 +96,13 @@ left_whole after moved buffer gone = by_test (after == moved) refl
 
 module _ {D : Type 0} (kind : Kind D) (number : ℕ) (home : Home) where
   -- nothing has moved of the TRB in front, or it is one with a buffer of at least so many bytes
-  data IsSound (w : TagWorld D) : Type 0 where
+  pub data IsSound (w : TagWorld D) : Type 0 where
     Fresh : w.ring.consumer.progress.moved ≡ 0 → IsSound w
     Begun : (buffer : Buffer) → (looked w.ring.memory home >>= moving w.ring.consumer) ≡ Some buffer → w.ring.consumer.progress.moved ≤ buffer.length → IsSound w
 
-  record Moves (w : TagWorld D) : Type 0 where
-    sound : IsSound (stepped kind number home w)
-    joins : addresses (begun_part kind number home w) ++ addresses (part_filled kind number home w)
+  pub record Moves (w : TagWorld D) : Type 0 where
+    pub sound : IsSound (stepped kind number home w)
+    pub joins : addresses (begun_part kind number home w) ++ addresses (part_filled kind number home w)
         ≡ addresses (left_behind kind number home w) ++ addresses (begun_part kind number home (stepped kind number home w))
 
   -- no step
@@ -232,18 +232,20 @@ module _ {D : Type 0} (kind : Kind D) (number : ℕ) (home : Home) where
       by_case (Ends residual adds some over told counts) = gone counts.in_trb
       by_case (Fails told dropped) = absurd (true≢false (sym dropped.2 ∙ clear.there))
 
+  -- no more than its length has moved of the buffer in front
+  pub within_front : (w : TagWorld D) (front : Front) (buffer : Buffer) → front_of w.ring home ≡ Some front → moving w.ring.consumer front ≡ Some buffer
+      → IsSound w → w.ring.consumer.progress.moved ≤ buffer.length
+  within_front w front buffer found is (Fresh none) = omega (arith, none)
+  within_front w front buffer found is (Begun other at fits) =
+      let same : other ≡ buffer = same_Some other buffer (sym at ∙ ap (λ (f : Option Front). f >>= moving w.ring.consumer) (front_looked w.ring home front found) ∙ is) in
+      subst (λ (b : Buffer). w.ring.consumer.progress.moved ≤ b.length) same fits
+
   taken : (w : TagWorld D) (front : Front) (buffer : Buffer) → IsSound w → IsClear kind number home w → front_of w.ring home ≡ Some front
       → moving w.ring.consumer front ≡ Some buffer → Moves w
   taken w front buffer sound clear found is =
-      by_told w front buffer clear found is (tells.residuals_add_up kind w number home front buffer found is (within sound) clear.event)
-    where
-      within : IsSound w → w.ring.consumer.progress.moved ≤ buffer.length
-      within (Fresh none) = omega (arith, none)
-      within (Begun other at fits) =
-          let same : other ≡ buffer = same_Some other buffer (sym at ∙ ap (λ (f : Option Front). f >>= moving w.ring.consumer) (front_looked w.ring home front found) ∙ is) in
-          subst (λ (b : Buffer). w.ring.consumer.progress.moved ≤ b.length) same fits
+      by_told w front buffer clear found is (tells.residuals_add_up kind w number home front buffer found is (within_front w front buffer found is sound) clear.event)
 
-  moves : (w : TagWorld D) → IsSound w → IsClear kind number home w → Moves w
+  pub moves : (w : TagWorld D) → IsSound w → IsClear kind number home w → Moves w
   moves w sound clear = by_front (front_of w.ring home) refl
     where
       by_buffer : (front : Front) (buffer : Option Buffer) → front_of w.ring home ≡ Some front → moving w.ring.consumer front ≡ buffer → Moves w
@@ -261,7 +263,7 @@ module _ {D : Type 0} (kind : Kind D) (number : ℕ) (home : Home) where
   same_begun w other left =
       ap (λ (f : Option Front). begun_by f other.ring.consumer.progress) left.front ∙ ap (λ (progress : Progress). begun_by (looked w.ring.memory home) progress) left.progress
 
-  still_sound : (w other : TagWorld D) → AreBeside kind number home w other → IsSound w → IsSound other
+  pub still_sound : (w other : TagWorld D) → AreBeside kind number home w other → IsSound w → IsSound other
   still_sound w other left (Fresh none) = Fresh (ap (λ (progress : Progress). progress.moved) left.progress ∙ none)
   still_sound w other left (Begun buffer at within) =
       let moving_by : Option Front → Progress → Option Buffer = λ f progress. f >>= (λ front. if runs progress.ending then buffer_of front.found else None) in

@@ -18,3 +18,4 @@ pub mod CommandTells
 pub mod StatusTells
 pub mod BuffersHeld
 pub mod OutBuffered
+pub mod EdtlaAdds

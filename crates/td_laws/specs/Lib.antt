@@ -14,3 +14,4 @@ pub mod StatusTold
 pub mod Buffers
 pub mod Filled
 pub mod OutBuffers
+pub mod Edtla

@@ -24,6 +24,7 @@ ghost use Rattle.td_laws.specs.NothingElse.{CommandLeavesElse, DataInLeavesElse,
 ghost use Rattle.td_laws.specs.NotOvertaken.{NewRingIsFreed, NextIsFreed, PostsKeepUnfreed, TurnsLeaveElse, UnfreedStand};
 ghost use Rattle.td_laws.specs.Beside.{NotesAreBeside, OutNotesAreBeside};
 ghost use Rattle.td_laws.specs.Buffers.{PartsAreBuffers};
+ghost use Rattle.td_laws.specs.Edtla.{EdtlaAddsUp};
 ghost use Rattle.td_laws.specs.Filled.{BuffersHoldWhatWasGiven};
 ghost use Rattle.td_laws.specs.InOrder.{GivenInOrder};
 ghost use Rattle.td_laws.specs.OutBuffers.{BuffersAreTaken};
@@ -57,6 +58,7 @@ pub fn residuals_add_up<D>()
     ensures of_status { (kind : Kind D) → StatusResidualsAddUp kind }
     ensures of_data_out { (kind : Kind D) → OutResidualsAddUp kind }
     ensures of_command { (kind : Kind D) → CommandResidualsAddUp kind }
+    ensures of_edtla { (kind : Kind D) (number : ℕ) (home : Home) → EdtlaAddsUp kind number home }
 {}
 
 /// Law: a TRB has an event where its bits ask for one, and no other.

@@ -1,4 +1,5 @@
 use Rattle.td_laws.proofs.CommandTells as commands
+use Rattle.td_laws.proofs.EdtlaAdds.{edtla_adds_up}
 use Rattle.td_laws.proofs.OutTells as outs
 use Rattle.td_laws.proofs.StatusTells as statuses
 use Rattle.td_laws.proofs.Tells as tells
@@ -10,4 +11,5 @@ returns g c = record {
   of_status = λ kind. statuses.status_residuals_add_up kind;
   of_data_out = λ kind. outs.out_residuals_add_up kind;
   of_command = λ kind. commands.command_residuals_add_up kind;
+  of_edtla = λ kind number home. edtla_adds_up kind number home;
 }

@@ -1,7 +1,6 @@
 -- What a session that a fault ended had read, done and told, and what the file is behind it.
-use Rattle.std.specs.Prelude.{◌≡◌, ℕ, ◌*◌, ◌⊎◌, Bool, true, false, IsTrue, List, length, Option, Some, None, Result, Ok, Err, ⊤}
+use Rattle.std.specs.Prelude.{◌≡◌, ℕ, ◌⊎◌, Bool, true, false, IsTrue, List, length, Option, Some, Result, Err, ⊤}
 use Rattle.std.specs.Io.KnownBytes.{Appends, Consumes}
-use Rattle.block_unit.specs.declared.ImageFault.{ImageFault}
 use Rattle.nbd.specs.declared.handshake.OptionHead.{OptionHead}
 use Rattle.nbd.specs.declared.transmission.Command.TheVariants.{Write}
 use Rattle.nbd.specs.declared.transmission.Request.{Request}

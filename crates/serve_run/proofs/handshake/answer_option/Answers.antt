@@ -11,13 +11,16 @@ pub returns-in_err-tell_option-clause-broken : goal.returns-in_err-tell_option-c
 returns-in_err-tell_option-clause-broken g c =
     let tested = c.in_ok-well_formed.ensures.tested in
     let p = err_from_is_err_and c.from_residual-in_err-tell_option.result c.from_residual-in_err-tell_option.ensures.1 in
-    rw (p.1, p.2) (inr (_, record {
-      brought = tested.brought;
-      len = tested.len;
-      read = tested.read;
-      sent = rw tested.tests at c.in_err-tell_option.ensures.sent;
-      goes_on = refl;
-    }))
+    rw (p.1, p.2) (inr (
+      _,
+      record {
+        brought = tested.brought;
+        len = tested.len;
+        read = tested.read;
+        sent = rw tested.tests at c.in_err-tell_option.ensures.sent;
+        goes_on = refl;
+      },
+    ))
 
 pub returns-clause-answered : goal.returns-clause-answered
 returns-clause-answered g c =

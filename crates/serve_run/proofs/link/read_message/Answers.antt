@@ -1,4 +1,4 @@
-use Rattle.std.proofs.Common.{rules, ◌≡◌, ◌≤◌, ◌<◌, ℕ, length, take, arith}
+use Rattle.std.proofs.Common.{rules, ◌≤◌, ◌<◌, length, take, arith}
 use Rattle.std.proofs.lemmas.List.{length-take-le}
 use Rattle.serve_run.proofs.link.read_message.Goals as goal
 

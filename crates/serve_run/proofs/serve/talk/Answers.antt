@@ -1,4 +1,4 @@
-use Rattle.std.proofs.Common.{rules, ◌≡◌, ℕ, true, false, Ok, Err, inl, inr, refl, subst}
+use Rattle.std.proofs.Common.{rules, ◌≡◌, ℕ, true, false, Ok, inl, inr, refl, subst}
 use Rattle.std.proofs.lemmas.Result.{err_from_is_err_and}
 use Rattle.serve_run.specs.Handshake.{Shaken}
 use Rattle.serve_run.proofs.Talking.{on_err, on_ok, on_ok_of}

@@ -1,4 +1,4 @@
-use Rattle.std.proofs.Common.{rules, ◌≡◌, ◌≢◌, ◌*◌, ◌∙◌, ℕ, ap, inr}
+use Rattle.std.proofs.Common.{rules, ◌≡◌, ◌≢◌, ◌*◌, ◌∙◌, ℕ, ap}
 use borrow.Author.Tests.{tests}
 use Rattle.nbd.specs.declared.transmission.ErrorNumber.TheVariants as error
 use Rattle.serve_run.proofs.Answering.{read_serves, refusal_serves, replies_serve}

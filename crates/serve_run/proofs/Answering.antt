@@ -117,14 +117,14 @@ pub replies_serve : (r : Result (Unit {0}) ServeFault) (can_read can_write can_f
 replies_serve r can_read can_write can_fail tells size old new request l w wn replies =
     inr (record { brought = []; read = Consumes-nil l; replies = replies })
 
--- the same, or memory for it was wanting
+-- a READ, or memory for it was wanting
 pub read_serves : (r : Result (Unit {0}) ServeFault) (can_read can_write can_fail tells : Bool) (size : ℕ) (file : Filed) (request : Request)
-    (l w wn : Option (List ℕ))
+    (l w wn : Option (List ℕ)) → request.command ≡ Read
     → ((r ≡ Err fault.NoMemory) × (wn ≡ w)) ⊎ Replies can_fail tells size file file request [] (Sends r can_write w wn)
     → Serves r can_read can_write can_fail tells size file file request l l w wn
-read_serves r can_read can_write can_fail tells size file request l w wn (inl wants) =
-    inl (refl, record { reason = fault.NoMemory; is = wants.0; silent = wants.1; lacks = inl (refl, refl) })
-read_serves r can_read can_write can_fail tells size file request l w wn (inr replies) =
+read_serves r can_read can_write can_fail tells size file request l w wn named (inl wants) =
+    inl (refl, record { reason = fault.NoMemory; is = wants.0; silent = wants.1; lacks = inl (refl, inl named, refl) })
+read_serves r can_read can_write can_fail tells size file request l w wn named (inr replies) =
     replies_serve r can_read can_write can_fail tells size file file request l w wn replies
 
 -- a request that is refused

@@ -21,17 +21,17 @@ use Rattle.serve_run.specs.Handshake.{may_take, next_behind, offered, options_te
 -- AN OPTION
 
 -- an option was read and answered, and the handshake goes on in this way
-pub record OptionTurn (size : ℕ) (lacks : Bool) (onward : Next) (left left_new written written_new : Option (List ℕ)) : Type 0 where
+pub record OptionTurn (size : ℕ) (lacks : Bool) (onward : Next) (left left_new : Option (List ℕ)) (Sent : List ℕ → Type 0) : Type 0 where
   pub asked : Asked
   pub is : IsAsked asked
   pub goes_on : next_behind asked ≡ onward
   pub read : Consumes left left_new (asked_text asked)
-  pub sent : Appends written written_new (told_text size lacks asked)
+  pub sent : Sent (told_text size lacks asked)
 
 -- its head, and then its data and what it is told
-pub turned : (size : ℕ) (lacks : Bool) (head : OptionHead) (onward : Next) (l m n w x : Option (List ℕ)) → ReadsHead (Some head) l m
-    → OptionAnswered size lacks head onward m n (Appends w x) → OptionTurn size lacks onward l n w x
-turned size lacks head onward l m n w x first rest =
+pub turned : (size : ℕ) (lacks : Bool) (head : OptionHead) (onward : Next) (l m n : Option (List ℕ)) (Sent : List ℕ → Type 0)
+    → ReadsHead (Some head) l m → OptionAnswered size lacks head onward m n Sent → OptionTurn size lacks onward l n Sent
+turned size lacks head onward l m n Sent first rest =
     let good : ℕ → Result OptionHead NotNbd = λ (k : ℕ). Ok (record { option = head.option; length = k }) in
     record {
       asked = record { head = first.0; option = head.option; brought = rest.brought };
@@ -48,7 +48,7 @@ options_text-then [] a = append-nil (asked_text a)
 options_text-then (b ∷ others) a =
     ap (λ (t : List ℕ). asked_text b ++ t) (options_text-then others a) ∙ sym (append_assoc (asked_text b) (options_text others) (asked_text a))
 
-answers_text-then : (size : ℕ) (lacks : Bool) (options : List Asked) (a : Asked)
+pub answers_text-then : (size : ℕ) (lacks : Bool) (options : List Asked) (a : Asked)
     → answers_text size lacks (options ++ (a ∷ [])) ≡ answers_text size lacks options ++ told_text size lacks a
 answers_text-then size lacks [] a = append-nil (told_text size lacks a)
 answers_text-then size lacks (b ∷ others) a =
@@ -84,7 +84,7 @@ shaking_begun size lacks flags l m w x len may zeros read sent = record {
 }
 
 -- what is read and written of one option more
-more_read : (flags : List ℕ) (options : List Asked) (a : Asked) (l m n : Option (List ℕ)) → Consumes l m (flags ++ options_text options)
+pub more_read : (flags : List ℕ) (options : List Asked) (a : Asked) (l m n : Option (List ℕ)) → Consumes l m (flags ++ options_text options)
     → Consumes m n (asked_text a) → Consumes l n (flags ++ options_text (options ++ (a ∷ [])))
 more_read flags options a l m n before read =
     subst (Consumes l n) (append_assoc flags (options_text options) (asked_text a)
@@ -101,7 +101,7 @@ more_sent size lacks hello options a w x y before sent =
 
 -- an option more
 pub shaking_on : (size : ℕ) (lacks : Bool) (count : ℕ) (l m n w x y : Option (List ℕ)) → Shaking size lacks count l m w x
-    → OptionTurn size lacks next.Option m n x y → Shaking size lacks (count + 1) l n w y
+    → OptionTurn size lacks next.Option m n (Appends x y) → Shaking size lacks (count + 1) l n w y
 shaking_on size lacks count l m n w x y s turn = record {
   flags = s.flags;
   options = s.options ++ (turn.asked ∷ []);
@@ -118,7 +118,7 @@ shaking_on size lacks count l m n w x y s turn = record {
 
 -- by an option
 shaken_by : (size : ℕ) (lacks begins : Bool) (count : ℕ) (onward : Next) (l m n w x y : Option (List ℕ)) → Shaking size lacks count l m w x
-    → (turn : OptionTurn size lacks onward m n x y) → EndsWith begins (turn.asked ∷ []) n → Shaken size begins l n w y
+    → (turn : OptionTurn size lacks onward m n (Appends x y)) → EndsWith begins (turn.asked ∷ []) n → Shaken size begins l n w y
 shaken_by size lacks begins count onward l m n w x y s turn ends = record {
   flags = s.flags;
   options = s.options;
@@ -132,12 +132,12 @@ shaken_by size lacks begins count onward l m n w x y s turn ends = record {
 }
 
 pub shaken_begins : (size : ℕ) (lacks : Bool) (count : ℕ) (l m n w x y : Option (List ℕ)) → Shaking size lacks count l m w x
-    → OptionTurn size lacks next.Transmission m n x y → Shaken size true l n w y
+    → OptionTurn size lacks next.Transmission m n (Appends x y) → Shaken size true l n w y
 shaken_begins size lacks count l m n w x y s turn =
     shaken_by size lacks true count next.Transmission l m n w x y s turn (turn.asked, refl, turn.is, turn.goes_on)
 
 pub shaken_ends : (size : ℕ) (lacks : Bool) (count : ℕ) (l m n w x y : Option (List ℕ)) → Shaking size lacks count l m w x
-    → OptionTurn size lacks next.End m n x y → Shaken size false l n w y
+    → OptionTurn size lacks next.End m n (Appends x y) → Shaken size false l n w y
 shaken_ends size lacks count l m n w x y s turn =
     shaken_by size lacks false count next.End l m n w x y s turn (inr (turn.asked, refl, turn.is, turn.goes_on))
 

@@ -1,5 +1,6 @@
 mod Answering
 mod Asking
+mod Beginnings
 mod Flushing
 mod Handshakes
 mod Sending

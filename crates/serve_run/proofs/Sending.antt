@@ -10,7 +10,7 @@ use Rattle.serve_run.specs.Faults.{EndsReading, IsCut, Sends}
 
 -- WRITING
 
-began_then : (w x y : Option (List ℕ)) (bytes more : List ℕ) → Appends w x bytes → Began x y more → Began w y (bytes ++ more)
+pub began_then : (w x y : Option (List ℕ)) (bytes more : List ℕ) → Appends w x bytes → Began x y more → Began w y (bytes ++ more)
 began_then w x y bytes more first second = record {
   part = bytes ++ second.part;
   rest = second.rest;

@@ -15,27 +15,27 @@ use Rattle.serve_run.specs.Filed.{Exports, Filed, IsAnswered}
 use Rattle.serve_run.specs.Sessions.{Answers, Leaves, Transmitted, Turns}
 use Rattle.serve_run.proofs.Talking.{ok_err}
 
-requests_text-then : (answers : List Answered) (a : Answered) → requests_text (answers ++ (a ∷ [])) ≡ requests_text answers ++ asked_text a
+pub requests_text-then : (answers : List Answered) (a : Answered) → requests_text (answers ++ (a ∷ [])) ≡ requests_text answers ++ asked_text a
 requests_text-then [] a = append-nil (asked_text a)
 requests_text-then (b ∷ others) a =
     ap (λ (t : List ℕ). asked_text b ++ t) (requests_text-then others a) ∙ sym (append_assoc (asked_text b) (requests_text others) (asked_text a))
 
-replies_text-then : (answers : List Answered) (a : Answered) → replies_text (answers ++ (a ∷ [])) ≡ replies_text answers ++ told_text a
+pub replies_text-then : (answers : List Answered) (a : Answered) → replies_text (answers ++ (a ∷ [])) ≡ replies_text answers ++ told_text a
 replies_text-then [] a = append-nil (told_text a)
 replies_text-then (b ∷ others) a =
     ap (λ (t : List ℕ). told_text b ++ t) (replies_text-then others a) ∙ sym (append_assoc (told_text b) (replies_text others) (told_text a))
 
-AreNamed-then : (answers : List Answered) (a : Answered) → AreNamed answers → IsCommand a.request.command → AreNamed (answers ++ (a ∷ []))
+pub AreNamed-then : (answers : List Answered) (a : Answered) → AreNamed answers → IsCommand a.request.command → AreNamed (answers ++ (a ∷ []))
 AreNamed-then [] a are is = (is, tt)
 AreNamed-then (b ∷ others) a are is = (are.0, AreNamed-then others a are.1 is)
 
 -- no request changes nothing
-Exports-none : (can_fail tells : Bool) (size : ℕ) (file : Filed) → Exports can_fail tells size file [] file
+pub Exports-none : (can_fail tells : Bool) (size : ℕ) (file : Filed) → Exports can_fail tells size file [] file
 unfolding Exports
 Exports-none can_fail tells size file = refl
 
 -- one request more
-Exports-then : (can_fail tells : Bool) (size : ℕ) (old middle new : Filed) (answers : List Answered) (a : Answered)
+pub Exports-then : (can_fail tells : Bool) (size : ℕ) (old middle new : Filed) (answers : List Answered) (a : Answered)
     → Exports can_fail tells size old answers middle → IsAnswered can_fail tells size middle new a
     → Exports can_fail tells size old (answers ++ (a ∷ [])) new
 unfolding Exports
@@ -45,7 +45,7 @@ Exports-then can_fail tells size old middle new (b ∷ others) a done is =
     (done.0, done.1, Exports-then can_fail tells size done.0 middle new others a done.2 is)
 
 -- what is read of a request that is answered
-asked : (a : Answered) (request : Request) (brought : List ℕ) (l m n : Option (List ℕ)) → a.request ≡ request → a.brought ≡ brought
+pub asked : (a : Answered) (request : Request) (brought : List ℕ) (l m n : Option (List ℕ)) → a.request ≡ request → a.brought ≡ brought
     → Consumes l m (request_text request) → Consumes m n brought → Consumes l n (asked_text a)
 unfolding asked_text
 asked a request brought l m n asks brings head rest =

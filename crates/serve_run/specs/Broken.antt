@@ -2,7 +2,7 @@
 use Rattle.std.specs.Prelude.{◌≡◌, ℕ, ◌⊎◌, Bool, true, false, IsTrue, List, length, Option, Some, Result, Err, ⊤}
 use Rattle.std.specs.Io.KnownBytes.{Appends, Consumes}
 use Rattle.nbd.specs.declared.handshake.OptionHead.{OptionHead}
-use Rattle.nbd.specs.declared.transmission.Command.TheVariants.{Write}
+use Rattle.nbd.specs.declared.transmission.Command.TheVariants.{Read, Write}
 use Rattle.nbd.specs.declared.transmission.Request.{Request}
 use Rattle.nbd.specs.Handshake.{greeting_text, option_in}
 use Rattle.nbd.specs.Transmission.{IsCommand, request_in, request_text}
@@ -63,10 +63,10 @@ HandshakeBroken reason can_read can_write size left left_new written written_new
 
 -- ONE REQUEST
 
--- memory for a request's bytes is wanting, or the data of a WRITE weren't read whole
+-- memory for the bytes of a READ or a WRITE is wanting, or the data of a WRITE weren't read whole
 abbrev pub LacksBytes : ServeFault → Bool → Request → (left left_new : Option (List ℕ)) → Type 0
 LacksBytes reason can_read request left left_new =
-    ((reason ≡ fault.NoMemory) × (left_new ≡ left))
+    ((reason ≡ fault.NoMemory) × ((request.command ≡ Read) ⊎ (request.command ≡ Write)) × (left_new ≡ left))
     ⊎ ((request.command ≡ Write) × IsCut reason can_read 0 request.length left left_new)
 
 -- a call that answers this didn't do the request, and told nothing of it

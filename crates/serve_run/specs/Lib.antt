@@ -6,3 +6,4 @@ pub mod Sizes
 pub mod Filed
 pub mod Sessions
 pub mod Broken
+pub mod Beginnings

@@ -2,6 +2,7 @@
 
 ghost use Rattle.std.specs.Prelude.{◌≡◌, ◌≢◌, ◌*◌, ◌^◌, ◌<◌, ◌≤◌, ◌⊎◌, false, length, IsTrue, IsOk, IsErr, IsNone, IsSome, IfErr, IfOk, IfSome, OnOk, Err};
 ghost use Rattle.std.specs.Io.KnownBytes.{Keeps};
+ghost use Rattle.serve_run.specs.Beginnings.{BrokenBegins};
 ghost use Rattle.serve_run.specs.Broken.{Failed, Fails, IsReported, TalkBroken};
 ghost use Rattle.serve_run.specs.Filed.{filed};
 ghost use Rattle.serve_run.specs.Sessions.{Served, Talked};
@@ -155,6 +156,11 @@ fn talk<B: Blocks, S: Source, O: Output>(
     }
     transmit(alloc, disk, file, input, output)
 }
+
+/// Law: what a session that a fault ended has told is a beginning of what it tells, and its requests were done.
+pub fn broken_sessions_begin()
+    ensures { BrokenBegins }
+{}
 
 /// How many blocks a file of so many bytes has: at least one, whole ones, and at most 2^48.
 fn blocks_in(size: u64) -> Result<u64, ImageFault>

@@ -61,7 +61,7 @@ loop-turn-preserved g c =
       read = c.in_ok-answer_option.ensures.read ∙ (c.in_ok-head.ensures.same ∙ inv.read);
       written = c.in_ok-answer_option.ensures.written ∙ inv.written;
       shaking = shaking_on c.args.size _ _ _ _ _ _ _ _ inv.shaking
-          (turned c.args.size _ c.in-Some.head next.Option _ _ _ _ _ (rw c.in-Some.is at c.in_ok-head.ensures.head)
+          (turned c.args.size _ c.in-Some.head next.Option _ _ _ _ (rw c.in-Some.is at c.in_ok-head.ensures.head)
           (rw c.in-Option.is at c.in_ok-answer_option.ensures.answered));
     }
 
@@ -84,13 +84,13 @@ returns-in_default-clause-shaken g c =
 pub returns-in-Transmission-clause-shaken : goal.returns-in-Transmission-clause-shaken
 returns-in-Transmission-clause-shaken g c =
     shaken_begins c.args.size _ _ _ _ _ _ _ _ c.loop-turn.invariant.shaking
-    (turned c.args.size _ c.in-Some.head next.Transmission _ _ _ _ _ (rw c.in-Some.is at c.in_ok-head.ensures.head)
+    (turned c.args.size _ c.in-Some.head next.Transmission _ _ _ _ (rw c.in-Some.is at c.in_ok-head.ensures.head)
     (rw c.in-Transmission.is at c.in_ok-answer_option.ensures.answered))
 
 pub returns-in-End-clause-shaken : goal.returns-in-End-clause-shaken
 returns-in-End-clause-shaken g c =
     shaken_ends c.args.size _ _ _ _ _ _ _ _ c.loop-turn.invariant.shaking
-    (turned c.args.size _ c.in-Some.head next.End _ _ _ _ _ (rw c.in-Some.is at c.in_ok-head.ensures.head)
+    (turned c.args.size _ c.in-Some.head next.End _ _ _ _ (rw c.in-Some.is at c.in_ok-head.ensures.head)
     (rw c.in-End.is at c.in_ok-answer_option.ensures.answered))
 
 pub returns-clause-broken : goal.returns-clause-broken

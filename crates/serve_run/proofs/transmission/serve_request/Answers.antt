@@ -13,7 +13,7 @@ returns-then-ne-clause-served g c =
     refusal_serves c.refuse.result _ _ _ _ _ _ c.args.request.now c.refusal_of-refusal.result _ _ _ _ is denied c.refuse.ensures.refused
 
 pub returns-in-Read-clause-served : goal.returns-in-Read-clause-served
-returns-in-Read-clause-served g c = read_serves c.give.result _ _ _ _ _ _ c.args.request.now _ _ _ c.give.ensures.answered
+returns-in-Read-clause-served g c = read_serves c.give.result _ _ _ _ _ _ c.args.request.now _ _ _ c.in-Read.is c.give.ensures.answered
 
 pub returns-in-Write-clause-served : goal.returns-in-Write-clause-served
 returns-in-Write-clause-served g c = c.take.ensures.served

@@ -39,9 +39,10 @@ pub trait Blocks {
         ensures told { tells self.new ≡ tells self.old }
         ensures same { can_fail self.new ≡ can_fail self.old };
 
-    /// Makes safe what it holds: it stays, whatever ends the program or the machine.
+    /// Makes safe what it holds: it stays, whatever ends the program or the machine. A fault makes nothing safe.
     fn sync(&mut self) -> Result<(), StreamFault>
         ensures safe { OnOk result (IsTrue (tells self.old) → synced self.new ≡ holds self.new) }
+        ensures kept { OnErr result (IsTrue (tells self.old) → synced self.new ≡ synced self.old) }
         ensures bytes { OnOk result (IsTrue (tells self.old) → holds self.new ≡ holds self.old) }
         ensures len { IsTrue (tells self.old) → length (holds self.new) ≡ length (holds self.old) }
         ensures fault { OnErr result (IsTrue (can_fail self.old)) }

@@ -252,6 +252,7 @@ impl Device {
         ensures ready { IsAt self.new.blocks self.new.tasks None }
         ensures blocks { self.new.blocks ≡ self.old.blocks }
         ensures safe { OnOk result (IsTrue (B.tells file.old) → B.synced file.new ≡ B.holds file.new) }
+        ensures kept { OnErr result (IsTrue (B.tells file.old) → B.synced file.new ≡ B.synced file.old) }
         ensures bytes { OnOk result (IsTrue (B.tells file.old) → B.holds file.new ≡ B.holds file.old) }
         ensures len { IsTrue (B.tells file.old) → length (B.holds file.new) ≡ length (B.holds file.old) }
         ensures fault { OnErr result (IsTrue (B.can_fail file.old)) }
@@ -272,6 +273,7 @@ impl Device {
         ensures done { OnOk result (IsAt self.new.blocks self.new.tasks (Some (ended Good))) }
         ensures failed { OnErr result (IsAt self.new.blocks self.new.tasks (Some (ended (Check write_error)))) }
         ensures safe { OnOk result (IsTrue (B.tells file.old) → B.synced file.new ≡ B.holds file.new) }
+        ensures kept { OnErr result (IsTrue (B.tells file.old) → B.synced file.new ≡ B.synced file.old) }
         ensures bytes { OnOk result (IsTrue (B.tells file.old) → B.holds file.new ≡ B.holds file.old) }
         ensures len { IsTrue (B.tells file.old) → length (B.holds file.new) ≡ length (B.holds file.old) }
         ensures fault { OnErr result (IsTrue (B.can_fail file.old)) }

@@ -87,6 +87,7 @@ impl FileDisk {
     pub fn flush<B: Blocks>(&mut self, file: &mut B) -> Result<(), DiskFault>
         ensures disk { self.new ≡ self.old }
         ensures safe { OnOk result (IsTrue (B.tells file.old) → B.synced file.new ≡ B.holds file.new) }
+        ensures kept { OnErr result (IsTrue (B.tells file.old) → B.synced file.new ≡ B.synced file.old) }
         ensures bytes { OnOk result (IsTrue (B.tells file.old) → B.holds file.new ≡ B.holds file.old) }
         ensures len { IsTrue (B.tells file.old) → length (B.holds file.new) ≡ length (B.holds file.old) }
         ensures fault { OnErr result (IsTrue (B.can_fail file.old)) }

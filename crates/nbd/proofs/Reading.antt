@@ -1,9 +1,9 @@
 -- Bytes that are read part after part into a buffer.
-use Rattle.std.proofs.Common.{◌≡◌, ℕ, zero, suc, ◌+◌, ◌-◌, ◌≤◌, List, [], ◌∷◌, ◌++◌, length, take, Option, subst, sym, ap, arith}
-use Rattle.std.specs.Io.KnownBytes.{Consumes}
-use Rattle.std.proofs.KnownBytes.{Consumes-nil, Consumes-trans}
+use Rattle.std.proofs.Common.{◌≡◌, ℕ, zero, suc, ◌+◌, ◌-◌, ◌<◌, ◌≤◌, List, [], ◌∷◌, ◌++◌, length, take, Option, subst, sym, ap, arith}
+use Rattle.std.specs.Io.KnownBytes.{Consumes, Keeps}
+use Rattle.std.proofs.KnownBytes.{Consumes-kept, Consumes-nil, Consumes-trans}
 use Rattle.std.proofs.lemmas.List.{length-append, length-take-le, take-append-le}
-use Rattle.nbd.specs.Streams.{Gave}
+use Rattle.nbd.specs.Streams.{Gave, GaveFewer}
 use borrow.Rule.Slice.PartMut.{put_mid, post_of}
 
 front : (a c : ℕ) (xs ys rest : List ℕ) → a ≤ length xs → c ≤ length ys → take (a + c) (take a xs ++ (ys ++ rest)) ≡ take a xs ++ take c ys
@@ -33,3 +33,21 @@ gave_more old middle new count left read chunk bound few fits before after =
       read = Consumes-trans old middle new before.bytes (take read chunk) before.read after;
       len = omega (arith, length-append before.bytes (take read chunk), before.len, len);
     }
+
+-- after so many bytes of a buffer a read failed
+pub fewer_before : (old middle new : Option (List ℕ)) (done : ℕ) (buffer : List ℕ) → done < length buffer → Consumes old middle (take done buffer)
+    → Keeps middle new → GaveFewer old new (length buffer)
+fewer_before old middle new done buffer inside before after = record {
+  bytes = take done buffer;
+  read = Consumes-kept old middle new (take done buffer) before after;
+  few = omega (arith, length-take-le done buffer (omega arith));
+}
+
+-- so many bytes, and then fewer than a part of those that are left
+pub fewer_more : (old middle new : Option (List ℕ)) (count left part : ℕ) → left ≤ count → part ≤ left → Gave old middle (count - left)
+    → GaveFewer middle new part → GaveFewer old new count
+fewer_more old middle new count left part bound few before after = record {
+  bytes = before.bytes ++ after.bytes;
+  read = Consumes-trans old middle new before.bytes after.bytes before.read after.read;
+  few = omega (arith, length-append before.bytes after.bytes, before.len, after.few);
+}

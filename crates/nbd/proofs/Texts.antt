@@ -1,5 +1,5 @@
 -- Requests and replies, and their bytes, give each other back.
-use Rattle.std.proofs.Common.{◌≡◌, ℕ, ◌+◌, ◌-◌, ◌^◌, ◌<◌, ◌≤◌, true, false, cond, List, [], ◌++◌, length, take, drop, Result, Ok, Err, refl, ap, sym, ◌∙◌, arith, rules}
+use Rattle.std.proofs.Common.{◌≡◌, ℕ, ◌+◌, ◌^◌, ◌<◌, ◌≤◌, true, false, cond, List, [], ◌++◌, length, take, drop, Result, Ok, Err, refl, ap, sym, ◌∙◌, arith, rules}
 use Rattle.std.specs.Prelude.{◌==◌, IfOk}
 use Rattle.std.proofs.lemmas.Bool.{eqb-true}
 use Rattle.std.proofs.lemmas.List.{length-drop, take-append-drop, take_all, drop-drop}
@@ -8,7 +8,7 @@ use Rattle.byteorder.specs.Numbers.{big_number-reads_back}
 use Rattle.nbd.specs.declared.NotNbd.{NotNbd}
 use Rattle.nbd.specs.declared.transmission.Reply.{Reply}
 use Rattle.nbd.specs.declared.transmission.Request.{Request}
-use Rattle.nbd.specs.Transmission.{FitsReply, FitsRequest, command_of, error_of, number_of_command, number_of_error, reply_in, reply_magic, reply_text}
+use Rattle.nbd.specs.Transmission.{FitsReply, FitsRequest, IsCommand, command_of, error_of, number_of_command, number_of_error, reply_in, reply_magic, reply_text}
 use Rattle.nbd.specs.Transmission.{request_in, request_magic, request_text}
 use Rattle.nbd.specs.declared.flags.ServerFlags.{ServerFlags}
 use Rattle.nbd.specs.declared.handshake.Export.{Export}
@@ -105,6 +105,24 @@ request_text-request_in bytes long is =
           ∙ at0
       | false ↦ λ _. tt
     ] refl
+
+-- what bytes are read as has its command's own name
+command_of-named : (n : ℕ) → IsCommand (command_of n)
+command_of-named n = ap command_of (number_of_command-command_of n)
+
+pub request_in-named : (bytes : List ℕ) → IfOk (request_in bytes) (λ r. IsCommand r.command)
+unfolding request_in
+request_in-named bytes =
+    elim (big_number 4 bytes == request_magic) as (λ b. IfOk (cond {A = Result Request NotNbd} b (Ok (record {
+      flags = record { 0 = big_number 2 (drop 4 bytes) };
+      command = command_of (big_number 2 (drop 6 bytes));
+      cookie = big_number 8 (drop 8 bytes);
+      offset = big_number 8 (drop 16 bytes);
+      length = big_number 4 (drop 24 bytes);
+    })) (Err (record {}))) (λ r. IsCommand r.command)) [
+      | true ↦ command_of-named (big_number 2 (drop 6 bytes))
+      | false ↦ tt
+    ]
 
 -- bytes that are read as a reply are its bytes
 pub reply_text-reply_in : (bytes : List ℕ) → length bytes ≡ 16 → AreBytes bytes → IfOk (reply_in bytes) (λ r. reply_text r ≡ bytes)

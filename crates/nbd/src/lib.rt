@@ -8,7 +8,8 @@
 //! Each message has a fixed head, all numbers big endian: an option 16 bytes, a reply to it 20, a request 28 and a simple reply 16. What a
 //! head's bytes are read as, and what is written of one, is specs/Handshake.antt and specs/Transmission.antt; bytes that don't begin
 //! with the head's own number are refused as [`NotNbd`]. What is written is read back, and what is read is written back
-//! ([`request_reads_back`] and its like). [`read_whole`] reads a head or data from any reader, to the end at most.
+//! ([`request_reads_back`] and its like). [`read_whole`] reads a head or data from any reader, to the end at most; an
+//! [`Output`] takes all of them, or at a fault a beginning.
 //!
 //! It stands on readers and writers, and on `byteorder`, `bitflags` and `thiserror`. Nothing takes memory.
 #![tactic(auto)]
@@ -17,6 +18,7 @@ pub mod flags;
 mod handshake;
 mod streams;
 mod transmission;
+mod writing;
 
 pub use handshake::{
     BlockSizes, Export, OPTION_MAGIC, OPTION_REPLY_MAGIC, OptionHead, OptionKind, OptionReply,
@@ -29,6 +31,7 @@ pub use transmission::{
     Command, ErrorNumber, REPLY_BYTES, REPLY_MAGIC, REQUEST_BYTES, REQUEST_MAGIC, Reply, Request,
     reply_reads_back, reply_writes_back, request_reads_back, request_writes_back,
 };
+pub use writing::{Output, WriteFailed};
 
 /// The bytes don't begin with the number that such a message begins with.
 #[derive(Clone, Copy, Debug, PartialEq, Eq, Error)]

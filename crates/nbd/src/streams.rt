@@ -2,7 +2,7 @@
 
 ghost use Rattle.std.specs.Prelude.{◌≡◌, ◌-◌, ◌≤◌, ◌<◌, length, take, IsTrue, IfOk, OnErr};
 ghost use Rattle.std.specs.Io.KnownBytes.{Consumes, IsAtEnd};
-ghost use Rattle.nbd.specs.Streams.{Gave};
+ghost use Rattle.nbd.specs.Streams.{Gave, GaveFewer};
 
 use byte_io::{ReadFailed, Source};
 
@@ -14,6 +14,7 @@ pub fn read_whole<S: Source>(source: &mut S, buffer: &mut [u8]) -> Result<usize,
     ensures bound { IfOk result (λ count. count ≤ length buffer.new) }
     ensures bytes { IfOk result (λ count. Consumes (S.left source.old) (S.left source.new) (take count buffer.new)) }
     ensures end { IfOk result (λ count. count < length buffer.new → IsAtEnd (S.left source.new)) }
+    ensures few { OnErr result (GaveFewer (S.left source.old) (S.left source.new) (length buffer.old)) }
     ensures fault { OnErr result (IsTrue (S.can_fail source.old)) }
     ensures same { S.can_fail source.new ≡ S.can_fail source.old }
 {
@@ -33,6 +34,7 @@ pub fn drop_bytes<S: Source>(source: &mut S, count: u32) -> Result<u32, ReadFail
     ensures bound { IfOk result (λ missing. missing ≤ count) }
     ensures bytes { IfOk result (λ missing. Gave (S.left source.old) (S.left source.new) (count - missing)) }
     ensures end { IfOk result (λ missing. 0 < missing → IsAtEnd (S.left source.new)) }
+    ensures few { OnErr result (GaveFewer (S.left source.old) (S.left source.new) count) }
     ensures fault { OnErr result (IsTrue (S.can_fail source.old)) }
     ensures same { S.can_fail source.new ≡ S.can_fail source.old }
 {

@@ -1,7 +1,7 @@
 //! The requests of a client and the replies of a server, as bytes.
 
 ghost use Rattle.std.specs.Prelude.{◌≡◌, Ok, IfOk};
-ghost use Rattle.nbd.specs.Transmission.{FitsReply, FitsRequest, command_of, error_of, number_of_command, number_of_error, reply_in, reply_text};
+ghost use Rattle.nbd.specs.Transmission.{FitsReply, FitsRequest, IsCommand, command_of, error_of, number_of_command, number_of_error, reply_in, reply_text};
 ghost use Rattle.nbd.specs.Transmission.{request_in, request_text};
 
 use crate::NotNbd;
@@ -207,9 +207,10 @@ pub fn reply_reads_back(reply: &Reply)
     let _reply = *reply;
 }
 
-/// Law: bytes that are read as a request are its bytes.
+/// Law: bytes that are read as a request are its bytes, and its command is named by its own name.
 pub fn request_writes_back(bytes: &[u8; 28])
-    ensures { IfOk (request_in bytes.now) (λ request. request_text request ≡ bytes.now) }
+    ensures text { IfOk (request_in bytes.now) (λ request. request_text request ≡ bytes.now) }
+    ensures named { IfOk (request_in bytes.now) (λ request. IsCommand request.command) }
 {
     let _read = Request::from_bytes(bytes);
 }

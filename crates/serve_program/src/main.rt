@@ -11,9 +11,10 @@
 mod lock;
 mod words;
 
-use byte_io::{Reader, Sink, Writer};
+use byte_io::{Reader, Writer};
 use file_disk::HostBlocks;
 use lock::{ImageLock, Locked};
+use nbd::Output;
 use serve_run::run_serve;
 use std::io::Write;
 use std::process::ExitCode;
@@ -50,7 +51,7 @@ fn start(rt: &HostRuntime, words: &[String]) -> u8 {
 }
 
 /// Serves an image with the lock on it, and answers the exit status.
-fn serve_locked<O: Sink>(rt: &HostRuntime, asked: Asked, output: &mut O) -> u8 {
+fn serve_locked<O: Output>(rt: &HostRuntime, asked: Asked, output: &mut O) -> u8 {
     match ImageLock::take(rt, asked.file) {
         // the lock is held until the run has ended
         Ok(_lock) => run_serve(
@@ -58,7 +59,7 @@ fn serve_locked<O: Sink>(rt: &HostRuntime, asked: Asked, output: &mut O) -> u8 {
             &mut HostBlocks::open(rt, asked.file, asked.bad.map(u64::from)),
             &mut Reader(rt.reader()),
             output,
-            &mut rt.stderr(),
+            &mut Writer(rt.stderr()),
         ),
         Err(Locked) => {
             let _ = writeln!(rt.stderr(), "image: locked");

@@ -44,6 +44,11 @@ pub record IsFlushed (old new : Filed) : Type 0 where
   pub holds : new.holds ≡ old.holds
   pub safe : new.synced ≡ old.holds
 
+-- a write or a sync that failed made nothing safe, and what was safe stays so
+pub record IsKept (old new : Filed) : Type 0 where
+  pub len : length new.holds ≡ length old.holds
+  pub safe : new.synced ≡ old.synced
+
 -- What a request that is served is told, by its command, and what the file is then. A WRITE without FUA makes nothing safe. A disconnection
 -- is never answered.
 abbrev pub IsTold : (can_fail tells : Bool) → (old new : Filed) → Answered → Command → Type 0
@@ -51,11 +56,11 @@ IsTold can_fail tells old new answered Read = (new ≡ old) × (IsRead tells old
 IsTold can_fail tells old new answered Write =
     (has_fua answered.request ≡ false → new.synced ≡ old.synced)
     × ((IsDone answered × (IsTrue tells → IsWritten old new answered))
-    ⊎ (HasFailed can_fail answered × (IsTrue tells → length new.holds ≡ length old.holds)))
+    ⊎ (HasFailed can_fail answered × (IsTrue tells → IsKept old new)))
 IsTold can_fail tells old new answered Disconnect = ⊥
 IsTold can_fail tells old new answered Flush =
     (IsDone answered × (IsTrue tells → IsFlushed old new))
-    ⊎ (HasFailed can_fail answered × (IsTrue tells → length new.holds ≡ length old.holds))
+    ⊎ (HasFailed can_fail answered × (IsTrue tells → IsKept old new))
 IsTold can_fail tells old new answered (Other number) = ⊥
 
 -- A request is refused for this reason: it is given nothing, and changes nothing.

@@ -133,13 +133,13 @@ pub record Tested (test : List ℕ → Bool) (count : ℕ) (says : Bool) (left l
   pub read : Consumes left left_new brought
   pub tests : says ≡ test brought
 
--- the option of a head was answered: its data were read, and what it is told was written
-pub record OptionAnswered (size : ℕ) (lacks : Bool) (head : OptionHead) (onward : Next) (left left_new written written_new : Option (List ℕ))
+-- The option of a head was answered: its data were read, and what it is told was sent.
+pub record OptionAnswered (size : ℕ) (lacks : Bool) (head : OptionHead) (onward : Next) (left left_new : Option (List ℕ)) (Sent : List ℕ → Type 0)
     : Type 0 where
   pub brought : List ℕ
   pub len : length brought ≡ head.length
   pub read : Consumes left left_new brought
-  pub sent : Appends written written_new (told_option size lacks head.option (is_well_formed head.option brought))
+  pub sent : Sent (told_option size lacks head.option (is_well_formed head.option brought))
   pub goes_on : onward ≡ next_of head.option (is_well_formed head.option brought)
 
 -- THE HANDSHAKE
@@ -167,6 +167,18 @@ EndsWith false last left_new =
 -- a client takes flags, which are 4 bytes; one that leaves before them has none, and asks nothing
 abbrev pub IsTaken : List ℕ → List Asked → Type 0
 IsTaken flags asked = ((length flags ≡ 4) × (may_take flags ≡ true)) ⊎ ((flags ≡ []) × (asked ≡ []))
+
+-- Flags were taken, and so many options answered behind which the handshake goes on.
+pub record Shaking (size : ℕ) (lacks : Bool) (count : ℕ) (left left_new written written_new : Option (List ℕ)) : Type 0 where
+  pub flags : List ℕ
+  pub options : List Asked
+  pub many : length options ≡ count
+  pub len : length flags ≡ 4
+  pub may : may_take flags ≡ true
+  pub zeros : lacks_zeros flags ≡ lacks
+  pub answered : AreAnswered options
+  pub read : Consumes left left_new (flags ++ options_text options)
+  pub sent : Appends written written_new (greeting_text offered ++ answers_text size lacks options)
 
 -- A handshake: the flags that the client took, the options behind which it went on, and how it ended.
 pub record Shaken (size : ℕ) (begins : Bool) (left left_new written written_new : Option (List ℕ)) : Type 0 where

@@ -1,13 +1,11 @@
--- What a request is refused for, and the exit status of a fault.
-use Rattle.std.specs.Prelude.{ℕ, ◌+◌, ◌==◌, nat_lt, ◌||◌, Bool, true, false, if◌then◌else◌}
+-- What a request is refused for, and what one that is served is told.
+use Rattle.std.specs.Prelude.{ℕ, ◌+◌, ◌==◌, nat_lt, ◌||◌, Bool, true, false, if◌then◌else◌, Result, Ok, Err}
+use Rattle.file_disk.specs.declared.DiskFault.{DiskFault}
 use Rattle.nbd.specs.declared.transmission.Command.{Command}
 use Rattle.nbd.specs.declared.transmission.Command.TheVariants.{Read, Write, Disconnect, Flush, Other}
 use Rattle.nbd.specs.declared.transmission.ErrorNumber.{ErrorNumber}
 use Rattle.nbd.specs.declared.transmission.ErrorNumber.TheVariants as error
 use Rattle.nbd.specs.declared.transmission.Request.{Request}
-use Rattle.serve_run.specs.declared.fault.ServeFault.{ServeFault}
-use Rattle.serve_run.specs.declared.fault.ServeFault.TheVariants as fault
-use Rattle.uas_replay.specs.Runs.{status_of as status_of_run}
 
 -- a request has at most 33,554,432 bytes
 abbrev pub most_bytes : ℕ
@@ -42,10 +40,7 @@ is_disconnection Disconnect = true
 is_disconnection Flush = false
 is_disconnection (Other number) = false
 
--- 4 for want of memory, else 3
-abbrev pub status_of : ServeFault → ℕ
-status_of (fault.Run run) = status_of_run run
-status_of fault.Handshake = 3
-status_of fault.Request = 3
-status_of fault.Ended = 3
-status_of fault.Stream = 3
+-- a request that the file failed is told EIO
+abbrev pub error_of : Result (Unit {0}) DiskFault → ErrorNumber
+error_of (Ok done) = error.None
+error_of (Err failed) = error.Io

@@ -6,7 +6,7 @@ use Rattle.nbd.specs.declared.transmission.Request.{Request}
 use Rattle.nbd.specs.Transmission.{request_text}
 use Rattle.serve_run.specs.Filed.{Exports, Filed, IsAnswered}
 use Rattle.serve_run.specs.Handshake.{Shaken}
-use Rattle.serve_run.specs.Transcript.{Answered, replies_text, requests_text, told_text}
+use Rattle.serve_run.specs.Transcript.{Answered, AreNamed, replies_text, requests_text, told_text}
 
 -- a client leaves by the end of its bytes, or by a disconnection; what stands behind that isn't read
 abbrev pub IsLeaving : List ℕ → Option (List ℕ) → Type 0
@@ -18,25 +18,27 @@ pub record Leaves (left left_new : Option (List ℕ)) : Type 0 where
   pub read : Consumes left left_new ending
   pub how : IsLeaving ending left_new
 
--- a request that brought these bytes is answered, and its reply is written
-pub record Replies (can_fail tells : Bool) (size : ℕ) (old new : Filed) (request : Request) (brought : List ℕ)
-    (written written_new : Option (List ℕ)) : Type 0 where
+-- a request that brought these bytes is answered, and its reply is sent
+pub record Replies (can_fail tells : Bool) (size : ℕ) (old new : Filed) (request : Request) (brought : List ℕ) (Sent : List ℕ → Type 0)
+    : Type 0 where
   pub answered : Answered
   pub asks : answered.request ≡ request
   pub brings : answered.brought ≡ brought
   pub is : IsAnswered can_fail tells size old new answered
-  pub sent : Appends written written_new (told_text answered)
+  pub sent : Sent (told_text answered)
 
--- a request that was read is answered: what it brings is read, and its reply is written
-pub record Answers (can_fail tells : Bool) (size : ℕ) (old new : Filed) (request : Request)
-    (left left_new written written_new : Option (List ℕ)) : Type 0 where
+-- a request that was read is answered: what it brings is read, and its reply is sent
+pub record Answers (can_fail tells : Bool) (size : ℕ) (old new : Filed) (request : Request) (left left_new : Option (List ℕ))
+    (Sent : List ℕ → Type 0) : Type 0 where
   pub brought : List ℕ
   pub read : Consumes left left_new brought
-  pub replies : Replies can_fail tells size old new request brought written written_new
+  pub replies : Replies can_fail tells size old new request brought Sent
 
--- requests were read and answered
-pub record Turns (can_fail tells : Bool) (size : ℕ) (old new : Filed) (left left_new written written_new : Option (List ℕ)) : Type 0 where
+-- so many requests were read and answered
+pub record Turns (can_fail tells : Bool) (size count : ℕ) (old new : Filed) (left left_new written written_new : Option (List ℕ)) : Type 0 where
   pub answers : List Answered
+  pub many : length answers ≡ count
+  pub named : AreNamed answers
   pub read : Consumes left left_new (requests_text answers)
   pub sent : Appends written written_new (replies_text answers)
   pub exports : Exports can_fail tells size old answers new
@@ -45,6 +47,7 @@ pub record Turns (can_fail tells : Bool) (size : ℕ) (old new : Filed) (left le
 pub record Transmitted (can_fail tells : Bool) (size : ℕ) (old new : Filed) (left left_new written written_new : Option (List ℕ)) : Type 0 where
   pub answers : List Answered
   pub ending : List ℕ
+  pub named : AreNamed answers
   pub how : IsLeaving ending left_new
   pub read : Consumes left left_new (requests_text answers ++ ending)
   pub sent : Appends written written_new (replies_text answers)

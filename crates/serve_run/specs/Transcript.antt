@@ -1,10 +1,10 @@
 -- What a client and its disk say to each other: each request with what it is told, as bytes.
-use Rattle.std.specs.Prelude.{ℕ, ◌==◌, Bool, List, [], ◌∷◌, ◌++◌}
+use Rattle.std.specs.Prelude.{ℕ, ◌==◌, Bool, List, [], ◌∷◌, ◌++◌, ⊤}
 use Rattle.nbd.specs.declared.transmission.Command.{Command}
 use Rattle.nbd.specs.declared.transmission.Command.TheVariants.{Read, Write, Disconnect, Flush, Other}
 use Rattle.nbd.specs.declared.transmission.ErrorNumber.{ErrorNumber}
 use Rattle.nbd.specs.declared.transmission.Request.{Request}
-use Rattle.nbd.specs.Transmission.{reply_text, request_text}
+use Rattle.nbd.specs.Transmission.{IsCommand, reply_text, request_text}
 
 -- A request that was answered: the bytes that it brought, which a WRITE does, the error that it was told, and the bytes that it was given,
 -- which a READ is that was done.
@@ -32,6 +32,11 @@ requests_text (answered ∷ others) = asked_text answered ++ requests_text other
 abbrev pub replies_text : List Answered → List ℕ
 replies_text [] = []
 replies_text (answered ∷ others) = told_text answered ++ replies_text others
+
+-- each has its command's own name: its bytes are those of no other request
+abbrev pub AreNamed : List Answered → Type 0
+AreNamed [] = ⊤
+AreNamed (answered ∷ others) = IsCommand answered.request.command × AreNamed others
 
 -- ONE REQUEST
 

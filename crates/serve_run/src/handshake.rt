@@ -1,19 +1,22 @@
 //! The handshake: the greeting, and the client's options until the transmission begins. Its bytes, as definitions, are
-//! specs/Handshake.antt.
+//! specs/Handshake.antt, and up to a fault specs/Broken.antt.
 
-ghost use Rattle.std.specs.Prelude.{◌≡◌, ◌^◌, ◌<◌, length, OnOk, IfOk};
+ghost use Rattle.std.specs.Prelude.{◌≡◌, ◌^◌, ◌<◌, length, IfErr, IfOk};
 ghost use Rattle.std.specs.Io.KnownBytes.{Appends};
+ghost use Rattle.serve_run.specs.Broken.{HandshakeBroken, IsNoOption, Unanswered};
+ghost use Rattle.serve_run.specs.Faults.{IsCut, Misses, Sends};
 ghost use Rattle.serve_run.specs.Handshake.{OptionAnswered, ReadsHead, Shaken, Tested};
 ghost use Rattle.serve_run.specs.Handshake.{export_information, export_of, informed, is_well_formed, is_whole_ask, listed};
 ghost use Rattle.serve_run.specs.Handshake.{next_of, replied, sizes_information, told_export, told_option};
 
 use crate::fault::ServeFault;
 use crate::link::{drop_rest, read_message, read_rest, send};
-use byte_io::{Sink, Source};
+use byte_io::Source;
 use byteorder::{BigEndian, ByteOrder};
 use nbd::flags::{ExportFlags, ServerFlags};
 use nbd::{
-    BlockSizes, Export, OptionHead, OptionKind, OptionReply, ReplyKind, client_flags, greeting,
+    BlockSizes, Export, NotNbd, OptionHead, OptionKind, OptionReply, Output, ReplyKind,
+    client_flags, greeting,
 };
 
 /// What is offered: the fixed newstyle, and to leave out the zeros behind an export.
@@ -50,12 +53,16 @@ pub(crate) enum Next {
 
 /// Greets the client and answers its options, and tells whether the transmission begins: it doesn't where the client leaves, by the end of
 /// its bytes or by ABORT. A flag that isn't offered is a fault, and so is an option that doesn't begin as one.
-pub fn shake<S: Source, O: Sink>(
+pub fn shake<S: Source, O: Output>(
     input: &mut S,
     output: &mut O,
     size: u64,
 ) -> Result<bool, ServeFault>
-    ensures { IfOk result (λ begins. Shaken size begins (S.left input.old) (S.left input.new) (O.written output.old) (O.written output.new)) }
+    ensures shaken { IfOk result (λ begins. Shaken size begins (S.left input.old) (S.left input.new) (O.written output.old) (O.written output.new)) }
+    ensures broken { IfErr result (λ reason. HandshakeBroken reason (S.can_fail input.old) (O.can_fail output.old) size
+        (S.left input.old) (S.left input.new) (O.written output.old) (O.written output.new)) }
+    ensures read { S.can_fail input.new ≡ S.can_fail input.old }
+    ensures written { O.can_fail output.new ≡ O.can_fail output.old }
 {
     send(output, &greeting(ServerFlags(OFFERED)))?;
     let mut taken = [0; 4];
@@ -77,13 +84,15 @@ pub fn shake<S: Source, O: Sink>(
             Next::End => return Ok(false),
         }
     }
-    // so many options nobody sends
-    Err(ServeFault::Stream)
+    Err(ServeFault::TooMany)
 }
 
 /// Reads the head of the next option; none where the client leaves before it.
 fn read_head<S: Source>(input: &mut S) -> Result<Option<OptionHead>, ServeFault>
-    ensures { IfOk result (λ found. ReadsHead found (S.left input.old) (S.left input.new)) }
+    ensures head { IfOk result (λ found. ReadsHead found (S.left input.old) (S.left input.new)) }
+    ensures refused { IfErr result (λ reason.
+        Misses ServeFault.Handshake IsNoOption 16 reason (S.can_fail input.old) (S.left input.old) (S.left input.new)) }
+    ensures same { S.can_fail input.new ≡ S.can_fail input.old }
 {
     let mut bytes = [0; 16];
     if !read_message(input, &mut bytes)? {
@@ -91,20 +100,24 @@ fn read_head<S: Source>(input: &mut S) -> Result<Option<OptionHead>, ServeFault>
     }
     match OptionHead::from_bytes(&bytes) {
         Ok(head) => Ok(Some(head)),
-        Err(_) => Err(ServeFault::Handshake),
+        Err(NotNbd) => Err(ServeFault::Handshake),
     }
 }
 
 /// Reads the data of an option, answers it, and tells how the handshake goes on.
-fn answer_option<S: Source, O: Sink>(
+fn answer_option<S: Source, O: Output>(
     input: &mut S,
     output: &mut O,
     size: u64,
     lacks_zeros: bool,
     head: OptionHead,
 ) -> Result<Next, ServeFault>
-    ensures { IfOk result (λ next. OptionAnswered size lacks_zeros head next
+    ensures answered { IfOk result (λ next. OptionAnswered size lacks_zeros head next (S.left input.old) (S.left input.new)
+        (Appends (O.written output.old) (O.written output.new))) }
+    ensures broken { IfErr result (λ reason. Unanswered reason (S.can_fail input.old) (O.can_fail output.old) size lacks_zeros head
         (S.left input.old) (S.left input.new) (O.written output.old) (O.written output.new)) }
+    ensures read { S.can_fail input.new ≡ S.can_fail input.old }
+    ensures written { O.can_fail output.new ≡ O.can_fail output.old }
 {
     let well_formed = read_option_data(input, head)?;
     tell_option(output, size, lacks_zeros, head.option, well_formed)?;
@@ -113,7 +126,9 @@ fn answer_option<S: Source, O: Sink>(
 
 /// Reads the data of an option, and tells whether they are well formed.
 fn read_option_data<S: Source>(input: &mut S, head: OptionHead) -> Result<bool, ServeFault>
-    ensures { IfOk result (λ says. Tested (is_well_formed head.option) head.length says (S.left input.old) (S.left input.new)) }
+    ensures tested { IfOk result (λ says. Tested (is_well_formed head.option) head.length says (S.left input.old) (S.left input.new)) }
+    ensures cut { IfErr result (λ reason. IsCut reason (S.can_fail input.old) 0 head.length (S.left input.old) (S.left input.new)) }
+    ensures same { S.can_fail input.new ≡ S.can_fail input.old }
 {
     match head.option {
         OptionKind::Info | OptionKind::Go => read_asked(input, head.length),
@@ -131,7 +146,9 @@ fn read_option_data<S: Source>(input: &mut S, head: OptionHead) -> Result<bool, 
 /// Reads the data of INFO and GO, so many bytes: a name's length, the name, a count, and so many numbers of what is asked for. It
 /// tells whether they are just that.
 fn read_asked<S: Source>(input: &mut S, length: u32) -> Result<bool, ServeFault>
-    ensures { IfOk result (λ says. Tested is_whole_ask length says (S.left input.old) (S.left input.new)) }
+    ensures tested { IfOk result (λ says. Tested is_whole_ask length says (S.left input.old) (S.left input.new)) }
+    ensures cut { IfErr result (λ reason. IsCut reason (S.can_fail input.old) 0 length (S.left input.old) (S.left input.new)) }
+    ensures same { S.can_fail input.new ≡ S.can_fail input.old }
 {
     let Some(behind_name) = length.checked_sub(6) else {
         drop_rest(input, length)?;
@@ -163,14 +180,15 @@ fn next_of(option: OptionKind, well_formed: bool) -> Next
 }
 
 /// Writes what an option is told.
-fn tell_option<O: Sink>(
+fn tell_option<O: Output>(
     output: &mut O,
     size: u64,
     lacks_zeros: bool,
     option: OptionKind,
     well_formed: bool,
 ) -> Result<(), ServeFault>
-    ensures { OnOk result (Appends (O.written output.old) (O.written output.new) (told_option size lacks_zeros option well_formed)) }
+    ensures sent { Sends result (O.can_fail output.old) (O.written output.old) (O.written output.new) (told_option size lacks_zeros option well_formed) }
+    ensures same { O.can_fail output.new ≡ O.can_fail output.old }
 {
     if !well_formed {
         return reply(output, option, ReplyKind::Invalid, &[]);
@@ -185,8 +203,9 @@ fn tell_option<O: Sink>(
 }
 
 /// Answers the option EXPORT_NAME, whatever name it has: the export, and the zeros where the client wants them.
-fn tell_export<O: Sink>(output: &mut O, size: u64, lacks_zeros: bool) -> Result<(), ServeFault>
-    ensures { OnOk result (Appends (O.written output.old) (O.written output.new) (told_export size lacks_zeros)) }
+fn tell_export<O: Output>(output: &mut O, size: u64, lacks_zeros: bool) -> Result<(), ServeFault>
+    ensures sent { Sends result (O.can_fail output.old) (O.written output.old) (O.written output.new) (told_export size lacks_zeros) }
+    ensures same { O.can_fail output.new ≡ O.can_fail output.old }
 {
     send(output, &export_of(size).to_bytes())?;
     if lacks_zeros {
@@ -196,8 +215,9 @@ fn tell_export<O: Sink>(output: &mut O, size: u64, lacks_zeros: bool) -> Result<
 }
 
 /// Answers the option LIST: the one export has no name.
-fn list<O: Sink>(output: &mut O) -> Result<(), ServeFault>
-    ensures { OnOk result (Appends (O.written output.old) (O.written output.new) listed) }
+fn list<O: Output>(output: &mut O) -> Result<(), ServeFault>
+    ensures sent { Sends result (O.can_fail output.old) (O.written output.old) (O.written output.new) listed }
+    ensures same { O.can_fail output.new ≡ O.can_fail output.old }
 {
     // its name's length
     reply(output, OptionKind::List, ReplyKind::Server, &[0, 0, 0, 0])?;
@@ -205,8 +225,9 @@ fn list<O: Sink>(output: &mut O) -> Result<(), ServeFault>
 }
 
 /// Answers the options INFO and GO, whatever name they have.
-fn inform<O: Sink>(output: &mut O, size: u64, option: OptionKind) -> Result<(), ServeFault>
-    ensures { OnOk result (Appends (O.written output.old) (O.written output.new) (informed size option)) }
+fn inform<O: Output>(output: &mut O, size: u64, option: OptionKind) -> Result<(), ServeFault>
+    ensures sent { Sends result (O.can_fail output.old) (O.written output.old) (O.written output.new) (informed size option) }
+    ensures same { O.can_fail output.new ≡ O.can_fail output.old }
 {
     reply(output, option, ReplyKind::Info, &export_information(size))?;
     reply(output, option, ReplyKind::Info, &sizes_information())?;
@@ -249,14 +270,15 @@ fn export_of(size: u64) -> Export
 }
 
 /// Writes a reply to an option, with its data.
-fn reply<O: Sink>(
+fn reply<O: Output>(
     output: &mut O,
     option: OptionKind,
     kind: ReplyKind,
     bytes: &[u8],
 ) -> Result<(), ServeFault>
     requires { length bytes.now < 2 ^ 32 }
-    ensures { OnOk result (Appends (O.written output.old) (O.written output.new) (replied option kind bytes.now)) }
+    ensures sent { Sends result (O.can_fail output.old) (O.written output.old) (O.written output.new) (replied option kind bytes.now) }
+    ensures same { O.can_fail output.new ≡ O.can_fail output.old }
 {
     let head = OptionReply {
         option,
@@ -264,8 +286,5 @@ fn reply<O: Sink>(
         length: bytes.len() as u32,
     };
     send(output, &head.to_bytes())?;
-    if bytes.is_empty() {
-        return Ok(());
-    }
     send(output, bytes)
 }

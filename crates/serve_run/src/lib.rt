@@ -9,6 +9,9 @@
 //! reads and writes are specs/Sessions.antt. With status 0 what the file holds in the end is safe; where the file can't fail, that is so
 //! whatever ends the session.
 //!
+//! What a session is that a fault ends is specs/Broken.antt; what it told is a beginning of what it tells, and its requests were done
+//! ([`broken_sessions_begin`]). What a fault's cause is, and its line, is specs/Faults.antt.
+//!
 //! It stands on the disk over a file, on the messages of `nbd`, and on readers and writers.
 #![tactic(auto)]
 
@@ -20,5 +23,5 @@ mod serve;
 mod transmission;
 
 pub use fault::ServeFault;
-pub use serve::run_serve;
+pub use serve::{broken_sessions_begin, run_serve};
 pub use transmission::{serve_request, transmit};

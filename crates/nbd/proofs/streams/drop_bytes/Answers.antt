@@ -1,5 +1,6 @@
-use Rattle.std.proofs.Common.{arith, rules, ◌≤◌, ◌∙◌}
-use Rattle.nbd.proofs.Reading.{gave_more}
+use Rattle.std.proofs.Common.{arith, rules, ℕ, ◌≤◌, ◌∙◌, length, take}
+use Rattle.nbd.proofs.Parts.{on_err_so}
+use Rattle.nbd.proofs.Reading.{fewer_more, gave_more}
 use Rattle.nbd.proofs.streams.drop_bytes.Goals as goal
 
 pub loop-left-preserved : goal.loop-left-preserved
@@ -19,3 +20,10 @@ returns-then-read-part-clause-bytes g c =
     let few : c.in_ok-read.read ≤ l.left = search rules in
     gave_more _ _ _ c.args.count l.left c.in_ok-read.read c.read_whole.new.buffer l.invariant.bound few
     c.in_ok-read.ensures.bound l.invariant.bytes c.in_ok-read.ensures.bytes
+
+pub returns-in_err-read-clause-few : goal.returns-in_err-read-clause-few
+returns-in_err-read-clause-few g c =
+    let l = c.loop-left in
+    let part : ℕ = length (take c.min-part.result l.chunk) in
+    let few : part ≤ l.left = search rules in
+    on_err_so c.from_residual.result (fewer_more _ _ _ c.args.count l.left part l.invariant.bound few l.invariant.bytes c.in_err-read.ensures.few)

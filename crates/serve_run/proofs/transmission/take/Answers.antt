@@ -1,7 +1,8 @@
-use Rattle.std.proofs.Common.{rules, ◌≡◌, ◌≤◌, ℕ, List, length, take, Ok, None, Option, ap, subst, sym, arith}
+use Rattle.std.proofs.Common.{◌≡◌, ◌≤◌, ℕ, List, length, take, Option, ap, inl, inr, refl, subst, sym, arith}
 use Rattle.std.specs.Io.KnownBytes.{Consumes}
 use Rattle.std.proofs.lemmas.List.{length-take-le}
-use Rattle.serve_run.proofs.Answering.{write_done, write_failed}
+use Rattle.std.proofs.lemmas.Result.{err_from_is_err_and}
+use Rattle.serve_run.proofs.Answering.{write_answers}
 use Rattle.serve_run.proofs.transmission.take.Goals as goal
 
 -- the data of a WRITE, in the room where they were read
@@ -10,20 +11,15 @@ data_read : (count : ℕ) (items taken : List ℕ) (l ln : Option (List ℕ)) �
 data_read count items taken l ln same room heard =
     (length-take-le count items (omega (arith, room, ap length same)), subst (λ (xs : List ℕ). Consumes l ln (take count xs)) (sym same) heard)
 
-pub returns-in-Ok-clause-answered : goal.returns-in-Ok-clause-answered
-returns-in-Ok-clause-answered g c = λ e.
-    let none : c.tell.result ≡ None = cc in
-    let read : c.read_data.result ≡ Ok None = search rules in
+pub returns-clause-served : goal.returns-clause-served
+returns-clause-served g c =
     let read_in = data_read c.args.request.now.length c.deref.result.now c.read_data.new.taken.items _ _ c.deref.ensures.value
-    (c.read_data.ensures.room read) (c.read_data.ensures.bytes read) in
-    write_done _ _ _ _ _ c.args.request.now _ _ _ _ _ c.requires.served c.requires.command read_in.0 c.in-Ok.ensures.kept c.in-Ok.ensures.bytes
-    c.in-Ok.ensures.safe read_in.1 (c.tell.ensures none)
+    c.in_ok-read_data.ensures.room c.in_ok-read_data.ensures.bytes in
+    inr (write_answers _ _ _ _ _ c.args.request.now _ c.store-stored.result _ _ _ c.requires.served c.requires.command read_in.0
+    c.store-stored.ensures.plain c.store-stored.ensures.bytes c.store-stored.ensures.safe c.store-stored.ensures.kept c.store-stored.ensures.len
+    c.store-stored.ensures.fault read_in.1 (rw c.error_of.ensures at c.tell.ensures.sent))
 
-pub returns-in-Err-clause-answered : goal.returns-in-Err-clause-answered
-returns-in-Err-clause-answered g c = λ e.
-    let none : c.tell-in-Err.result ≡ None = cc in
-    let read : c.read_data.result ≡ Ok None = search rules in
-    let read_in = data_read c.args.request.now.length c.deref.result.now c.read_data.new.taken.items _ _ c.deref.ensures.value
-    (c.read_data.ensures.room read) (c.read_data.ensures.bytes read) in
-    write_failed _ _ _ _ _ c.args.request.now _ _ _ _ _ c.requires.served c.requires.command read_in.0 c.store.ensures.kept c.store.ensures.len
-    c.in-Err.ensures.fault read_in.1 (c.tell-in-Err.ensures none)
+pub returns-in_err-read_data-clause-served : goal.returns-in_err-read_data-clause-served
+returns-in_err-read_data-clause-served g c =
+    let p = err_from_is_err_and c.from_residual.result c.from_residual.ensures.1 in
+    rw (p.1, p.2) (inl (refl, record { reason = c.in_err-read_data.field-0.0; is = refl; silent = refl; lacks = c.in_err-read_data.ensures.lacks }))

@@ -10,3 +10,6 @@ returns-in-Err-clause-safe g c = rw (c.finish-in-Err.ensures.told (Check write_e
 
 pub returns-in-Err-clause-bytes : goal.returns-in-Err-clause-bytes
 returns-in-Err-clause-bytes g c = rw (c.finish-in-Err.ensures.told (Check write_error) c.in-Err.ensures.failed) tt
+
+pub returns-in-Ok-clause-kept : goal.returns-in-Ok-clause-kept
+returns-in-Ok-clause-kept g c = rw (c.finish.ensures.told Good c.in-Ok.ensures.done) tt

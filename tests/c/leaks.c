@@ -1,42 +1,10 @@
-/* Memory: what new takes free gives back, and want of it is answered by its fault and changes nothing. Linked so that malloc,
- * realloc and free go through this file: --wrap=malloc,--wrap=realloc,--wrap=free.
+/* Memory: what new takes free gives back, and want of it is answered by its fault and changes nothing.
  *
  *   leaks         all of it
  *   leaks lose    leaves a device, a controller, a driver and a bus behind, which the leak check of the address sanitizer must tell */
 #include "check.h"
+#include "counted.h"
 #include "uas.h"
-
-void *__real_malloc(size_t size);
-void *__real_realloc(void *block, size_t size);
-void __real_free(void *block);
-
-static long held;          /* blocks that weren't freed */
-static unsigned long asks; /* calls that ask for memory */
-static unsigned long refused_at;
-
-void *__wrap_malloc(size_t size)
-{
-    if (++asks == refused_at)
-        return NULL;
-    void *block = __real_malloc(size);
-    held += block != NULL;
-    return block;
-}
-
-void *__wrap_realloc(void *block, size_t size)
-{
-    if (++asks == refused_at)
-        return NULL;
-    void *moved = __real_realloc(block, size);
-    held += block == NULL && moved != NULL;
-    return moved;
-}
-
-void __wrap_free(void *block)
-{
-    held -= block != NULL;
-    __real_free(block);
-}
 
 static const uint32_t blocks[3] = { 1, 8, 100 };
 static const struct uas_operation read_24 = { .opcode = UAS_READ_10, .count = 24 };

@@ -1,2 +1,3 @@
 -- What was written to a memory.
 pub mod Notes
+pub mod Laws

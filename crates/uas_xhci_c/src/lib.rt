@@ -13,8 +13,9 @@
 //! access and any bytes. A refused call changes nothing, and REQUEST tells of a request exactly where a tag's is to be asked
 //! (specs/CallLaws.antt). `uas_xhci_take_turn` works over up to 64 regions as one memory, whose bytes are those of `held lent_in regions`, as
 //! `IsWorked` of xhci_machine has it (`HasWorked`); it answers the first fault of the regions (specs/Regions.antt), and then nothing has changed
-//! (specs/Turned.antt). Each range that it writes is noted in the room that it is given, or a flag tells that not all are (`guest_notes`).
-//! `uas_xhci_look` changes neither controller nor regions, and a range that it answers lacks a byte (specs/Looked.antt).
+//! (specs/Turned.antt). What it tells are the ranges of the writes that made the regions' bytes, in their order and as far as there is room, and
+//! whether there were more (`AreTold`). `uas_xhci_look` changes neither controller nor regions, and answers what the next step lacks, as `wanted`
+//! of xhci_machine has it (specs/Looked.antt). That memory is given back, and that there was none where NO_MEMORY is told, is tested.
 //!
 //! What a caller upholds stands in the head of include/uas.h; nothing here tests it. The memory that a call is lent is written by nobody else
 //! while it runs, or what the controller reads of it may be of two moments: each TRB, context and information unit is read once.

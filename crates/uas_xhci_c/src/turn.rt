@@ -1,21 +1,22 @@
 //! A turn of the controller's steps over regions of memory that are lent for it.
 ghost use Rattle.std.specs.Prelude.{◌≡◌, ◌≤◌, false, length};
+ghost use Rattle.guest_notes.specs.Notes.{AreNoted, notes};
 ghost use types.Logic.{sem};
 ghost use base.Fraction.{full_share};
 ghost use denote.RawPtr.{lies_at};
-ghost use Rattle.guest_memory.specs.Bytes.{Memory};
 ghost use Rattle.guest_memory.specs.Held.{held};
 ghost use Rattle.guest_memory.specs.Lend.{lent_in};
 ghost use Rattle.xhci_machine.specs.declared.Machine.{Machine};
 ghost use Rattle.xhci_machine.specs.Worked.{IsWorked};
 ghost use Rattle.uas_xhci_c.specs.contracts.door.KeptXhci.{the_row as xhci_row};
-ghost use Rattle.uas_xhci_c.specs.Turned.{Turned};
+ghost use Rattle.uas_xhci_c.specs.Turned.{AreTold, Turned};
 
 use crate::door::KeptXhci;
 use crate::making::UasXhci;
 use crate::regions::regions_fault;
-use guest_memory::{Lent, Pieces};
-use guest_notes::{Noted, WrittenRange};
+use guest_memory::{GuestMemory, Lent, Pieces};
+use guest_notes::{Beginning, Noted, WrittenRange};
+use std::marker::{Brand, PhantomData};
 use xhci_machine::{Machine, Worked};
 
 /// What a turn asks and answers.
@@ -91,12 +92,12 @@ fn work_over(
     written: &mut [WrittenRange],
     budget: u32,
 ) -> Done
-    ensures worked { (memory : Memory) × IsWorked budget (held lent_in regions.old) machine.old memory machine.new result.worked
-        × (length written.old ≡ 0 → memory ≡ held lent_in regions.new) }
+    ensures worked { IsWorked budget (held lent_in regions.old) machine.old (held lent_in regions.new) machine.new result.worked }
+    ensures noted { AreTold (held lent_in regions.old) (held lent_in regions.new) (length written.old) written.new result.noted result.lost }
     ensures budget { result.worked.steps ≤ budget }
-    ensures noted { result.noted ≤ length written.old }
+    ensures within { result.noted ≤ length written.old }
     ensures stands { machine.old.registers.runs ≡ false
-        → (machine.new ≡ machine.old) × (length written.old ≡ 0 → held lent_in regions.new ≡ held lent_in regions.old) }
+        → (machine.new ≡ machine.old) × (held lent_in regions.new ≡ held lent_in regions.old) }
 {
     if written.is_empty() {
         let worked = work_plainly(machine, regions, budget);
@@ -106,7 +107,8 @@ fn work_over(
             lost: true,
         };
     }
-    work_noting(machine, regions, written, budget)
+    let mut memory = Pieces { pieces: regions };
+    work_noting::<Brand, _>(machine, &mut memory, written, budget)
 }
 
 fn work_plainly(machine: &mut Machine, regions: &mut [Lent], budget: u32) -> Worked
@@ -119,23 +121,33 @@ fn work_plainly(machine: &mut Machine, regions: &mut [Lent], budget: u32) -> Wor
     machine.work(&mut memory, budget)
 }
 
-fn work_noting(
+/// Steps over a memory whose writes are noted.
+#[tactic(auto, using(guest_notes::specs::Laws::same_first, guest_notes::specs::Laws::same_second))]
+fn work_noting<B: Beginning, M: GuestMemory>(
     machine: &mut Machine,
-    regions: &mut [Lent],
+    memory: &mut M,
     written: &mut [WrittenRange],
     budget: u32,
 ) -> Done
-    ensures worked { (memory : Memory) × IsWorked budget (held lent_in regions.old) machine.old memory machine.new result.worked }
+    requires { M.contents memory.old ≡ B.memory }
+    ensures worked { IsWorked budget (M.contents memory.old) machine.old (M.contents memory.new) machine.new result.worked }
+    ensures noted { AreNoted (M.contents memory.old) (M.contents memory.new) (length written.old) (notes written.new result.noted result.lost) }
+    ensures same_loan { M.loan memory.new ≡ M.loan memory.old }
     ensures budget { result.worked.steps ≤ budget }
-    ensures noted { result.noted ≤ length written.old }
-    ensures stands { machine.old.registers.runs ≡ false → machine.new ≡ machine.old }
+    ensures within { result.noted ≤ length written.old }
+    ensures stands { machine.old.registers.runs ≡ false → (machine.new ≡ machine.old) × (M.contents memory.new ≡ M.contents memory.old) }
 {
-    let room = written.len();
-    let mut memory = Noted::new(Pieces { pieces: regions }, written);
-    let worked = machine.work(&mut memory, budget);
+    let mut noting: Noted<'_, '_, M, B> = Noted {
+        memory,
+        ranges: written,
+        used: 0,
+        lost: false,
+        of: PhantomData,
+    };
+    let worked = machine.work(&mut noting, budget);
     Done {
         worked,
-        noted: memory.used.min(room),
-        lost: memory.lost,
+        noted: noting.used,
+        lost: noting.lost,
     }
 }

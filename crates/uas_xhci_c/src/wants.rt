@@ -8,7 +8,8 @@ ghost use Rattle.guest_memory.specs.Held.{held};
 ghost use Rattle.guest_memory.specs.Lend.{lent_in};
 ghost use Rattle.xhci_machine.specs.declared.Machine.{Machine};
 ghost use Rattle.uas_xhci_c.specs.contracts.door.KeptXhci.{the_row as xhci_row};
-ghost use Rattle.uas_xhci_c.specs.Looked.{Looked};
+ghost use Rattle.xhci_machine.specs.Wanted.{wanted};
+ghost use Rattle.uas_xhci_c.specs.Looked.{Looked, range_told};
 
 use crate::door::KeptXhci;
 use crate::making::UasXhci;
@@ -54,8 +55,7 @@ fn look(wanted: &mut UasXhciRange, regions: &mut [Lent], kept: &mut KeptXhci) ->
 
 /// A range as C has it: one of no bytes where there is none.
 fn range_of(range: Option<Range>) -> UasXhciRange
-    ensures some { IfSome range (λ range. (result.address ≡ range.at) × (result.length ≡ range.count)) }
-    ensures none { range ≡ None → result.length ≡ 0 }
+    ensures { result ≡ range_told range }
 {
     match range {
         Some(range) => UasXhciRange {
@@ -71,6 +71,7 @@ fn range_of(range: Option<Range>) -> UasXhciRange
 
 /// The same of regions as one memory.
 fn wants_over(machine: &Machine, regions: &mut [Lent]) -> Option<Range>
+    ensures wanted { result ≡ wanted (held lent_in regions.old) machine.now }
     ensures lacks { IfSome result (λ range. is_there (held lent_in regions.old) range.at range.count ≡ false) }
     ensures stands { machine.now.registers.runs ≡ false → result ≡ None }
     ensures same { regions.new ≡ regions.old }

@@ -7,3 +7,8 @@ pub mod Nothing
 pub mod Device
 pub mod RingStep
 pub mod Active
+pub mod Looks
+mod SlotTaken
+mod OrdersTaken
+pub mod Taken
+pub mod TurnsTaken

@@ -9,4 +9,6 @@ pub mod Orders
 pub mod Steps
 pub mod Rounds
 pub mod Worked
+pub mod Lacking
+pub mod Wanted
 pub mod Laws

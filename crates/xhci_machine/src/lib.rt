@@ -28,8 +28,9 @@
 //! ahead; an event of the controller's own is `event_posted`, and what a step left `settled`.
 //!
 //! What a call of [`Machine::work`] makes of memory and of the whole machine, with which tags are active, is `IsWorked` (specs/Worked): rounds
-//! of turns in their order, each round an equation. How [`Machine::wants`] joins what the turns lack is tested: of a range that is wanted it is
-//! proved alone that a byte isn't there.
+//! of turns in their order, each round an equation. [`Machine::wants`] is `wanted` (specs/Wanted): the first range that a turn lacks, in that order
+//! and up to the turn that acts; a turn that lacks nothing isn't refused for want of memory. That a call with a budget of 1 then isn't either,
+//! where turns before change nothing, is tested.
 //!
 //! It stands on `xhci_registers`, `xhci_slots`, `xhci_control`, `guest_transfers` and `guest_tasks`.
 #![tactic(auto)]
@@ -38,6 +39,7 @@ mod access;
 mod changes;
 mod command;
 mod interrupts;
+mod lacking;
 mod laws;
 mod orders;
 mod ring;
@@ -51,8 +53,9 @@ use guest_tasks::GuestTasks;
 use guest_transfers::Transfers;
 use interrupts::Interrupts;
 pub use laws::{
+    commands_that_lack_nothing_are_taken, control_that_lacks_nothing_is_stepped,
     each_tag_has_its_turn, no_more_leaves_nothing, no_step_leaves_nothing, no_task_is_left_out,
-    tasks_stay_active,
+    pipes_that_lack_nothing_are_stepped, tasks_stay_active,
 };
 use ring::CommandRing;
 use states::States;

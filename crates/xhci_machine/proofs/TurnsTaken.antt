@@ -1,0 +1,85 @@
+-- A turn of endpoint 0 or of a pipe that lacks nothing isn't refused.
+use Rattle.std.proofs.Common.{◌≡◌, ℕ, Bool, true, false, Option, Some, None, refl, sym, ap}
+use Rattle.std.proofs.lemmas.Bool.{false≢true}
+use Rattle.std.specs.Prelude.{is_some, if◌then◌else◌, ◌&&◌}
+use Rattle.guest_memory.specs.Bytes.{Memory}
+use Rattle.guest_rings.specs.Events.{EventEnd}
+use Rattle.guest_pipes.specs.Gate.{is_running, room_gate}
+use Rattle.guest_pipes.specs.Pipe.{PipeState}
+use Rattle.guest_pipes.specs.Wanted.{wanted_through}
+use Rattle.guest_tasks.specs.declared.GuestTasks.{GuestTasks}
+use Rattle.guest_tasks.specs.Tasks.{tasks_kind}
+use Rattle.guest_transfers.specs.declared.control.StreamPipe.{StreamPipe}
+use Rattle.guest_transfers.specs.Orders.{data_stepped, invalid_on, pipe_of}
+use Rattle.guest_transfers.specs.State.{TransfersState, TransfersWorld}
+use Rattle.guest_transfers.specs.Steps.{command_stepped, status_stepped}
+use Rattle.guest_transfers.specs.Wanted.{command_wanted, data_wanted, invalid_wanted, status_wanted}
+use Rattle.xhci_control.specs.declared.pipe.Served.{Served}
+use Rattle.xhci_control.specs.Steps.{ControlWorld, stepped}
+use Rattle.xhci_control.specs.Wanted.{control_wanted}
+use Rattle.xhci_machine.specs.Rounds.{command_pipe_stepped, control_stepped, control_world, data_of, invalid_stepped, served, status_of, transfers_world}
+use Rattle.xhci_machine.specs.Turns.{World}
+use Rattle.xhci_machine.specs.Wanted.{acts_on_data, acts_on_status, command_pipe_looked, control_looked, invalid_looked, is_due, lacks_nothing, needs}
+use Rattle.xhci_machine.specs.Wanted.{tag_context_wanted, tag_looked, then_look, unless}
+use Rattle.xhci_machine.proofs.Taken.{idle_gate, needs_nothing, wants_nothing}
+
+-- ENDPOINT 0
+
+serves : (w : World) (done : ControlWorld × Option Served) → is_some done.1 ≡ true → is_some (served w done).1 ≡ true
+serves w (after, None) is = absurd (false≢true is)
+serves w (after, Some how) is = refl
+
+pub control_taken : ((w : ControlWorld) → control_wanted w ≡ None → is_some (stepped w).1 ≡ true)
+    → (w : World) → lacks_nothing (control_looked w.memory w.machine w.events) ≡ true → is_some (control_stepped w).1 ≡ true
+unfolding control_looked control_stepped
+control_taken law w is =
+    serves w (stepped (control_world w)) (law (control_world w)
+    (wants_nothing (is_due w.machine.control.consumer) w.memory w.machine (control_wanted (control_world w))
+    (idle_gate w.memory w.events w.machine.control.consumer _) is))
+
+-- THE PIPES
+
+pub command_pipe_taken : ((w : TransfersWorld GuestTasks) → command_wanted tasks_kind w ≡ None → is_some (command_stepped tasks_kind w).1 ≡ true)
+    → (w : World) → lacks_nothing (command_pipe_looked w.memory w.machine w.events) ≡ true → is_some (command_pipe_stepped w).1 ≡ true
+unfolding command_pipe_looked command_pipe_stepped
+command_pipe_taken law w is =
+    law (transfers_world w)
+    (wants_nothing (is_due w.machine.transfers.command) w.memory w.machine (command_wanted tasks_kind (transfers_world w))
+    (idle_gate w.memory w.events w.machine.transfers.command _) is)
+
+not_invalid : (memory : Memory) (events : EventEnd) (p : PipeState) → (is_running p.state && p.invalid) ≡ false → invalid_wanted memory events p ≡ None
+not_invalid memory events p rests = ap (λ (b : Bool). if b then wanted_through (room_gate memory events) events None else None) rests
+
+pub invalid_taken : ((memory : Memory) (events : EventEnd) (t : TransfersState) (name : StreamPipe) → invalid_wanted memory events (pipe_of t name) ≡ None
+    → is_some (invalid_on memory events t name).1.1.1 ≡ true)
+    → (w : World) (name : StreamPipe) → lacks_nothing (invalid_looked w.memory w.machine w.events name) ≡ true → is_some (invalid_stepped w name).1 ≡ true
+unfolding invalid_looked invalid_stepped
+invalid_taken law w name is =
+    let pipe = pipe_of w.machine.transfers name in
+    law w.memory w.events w.machine.transfers name
+    (wants_nothing (is_running pipe.state && pipe.invalid) w.memory w.machine (invalid_wanted w.memory w.events pipe)
+    (not_invalid w.memory w.events pipe) is)
+
+-- A TAG
+
+pub data_taken : ((w : TransfersWorld GuestTasks) (tag : ℕ) → data_wanted tasks_kind w tag ≡ None → is_some (data_stepped tasks_kind w tag).1 ≡ true)
+    → (w : World) (tag : ℕ) → lacks_nothing (tag_looked w.memory w.machine w.events tag) ≡ true → is_some (data_of w tag).1 ≡ true
+unfolding tag_looked data_of
+data_taken law w tag is =
+    let behind = (needs_nothing (tag_context_wanted w.memory w.machine tag) _ is).1 in
+    law (transfers_world w) tag (needs_nothing (data_wanted tasks_kind (transfers_world w) tag) _ behind).0
+
+pub status_taken : ((w : TransfersWorld GuestTasks) (tag : ℕ) → status_wanted tasks_kind w tag ≡ None → is_some (status_stepped tasks_kind w tag).1 ≡ true)
+    → (w : World) (tag : ℕ) → lacks_nothing (tag_looked w.memory w.machine w.events tag) ≡ true → acts_on_data w.memory w.machine tag ≡ false
+    → is_some (status_of w tag).1 ≡ true
+unfolding tag_looked status_of
+status_taken law w tag is idle =
+    let behind = (needs_nothing (tag_context_wanted w.memory w.machine tag) _ is).1 in
+    let last = (needs_nothing (data_wanted tasks_kind (transfers_world w) tag) _ behind).1 in
+    law (transfers_world w) tag (by_test (acts_on_data w.memory w.machine tag) idle last)
+  where
+    by_test : (acts : Bool) → acts ≡ false
+        → lacks_nothing (then_look (unless acts) (then_look (needs (status_wanted tasks_kind (transfers_world w) tag)) (unless (acts_on_status w.memory w.machine tag)))) ≡ true
+        → status_wanted tasks_kind (transfers_world w) tag ≡ None
+    by_test true idle is = absurd (false≢true (sym idle))
+    by_test false idle is = (needs_nothing (status_wanted tasks_kind (transfers_world w) tag) _ is).0

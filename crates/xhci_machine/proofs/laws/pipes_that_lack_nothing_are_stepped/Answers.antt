@@ -1,0 +1,12 @@
+use Rattle.xhci_machine.proofs.TurnsTaken.{command_pipe_taken, data_taken, invalid_taken, status_taken}
+use Rattle.xhci_machine.proofs.laws.pipes_that_lack_nothing_are_stepped.Goals as goal
+
+pub returns : goal.returns
+returns c =
+    let law = c.what_lacks_nothing_is_taken.ensures in
+    record {
+      of_command = command_pipe_taken law.of_command;
+      of_invalid = invalid_taken law.of_invalid;
+      of_data = data_taken law.of_data;
+      of_status = status_taken law.of_status;
+    }

@@ -1,5 +1,5 @@
 -- A text that began as a log's goes on as one, and is whole with its end.
-use Rattle.std.proofs.Common.{◌≡◌, ℕ, ◌+◌, List, [], ◌∷◌, ◌++◌, length, map, Some, refl, sym, ap, ◌∙◌, append_assoc, arith}
+use Rattle.std.proofs.Common.{◌≡◌, ℕ, ◌+◌, List, [], ◌++◌, length, map, refl, sym, ap, ◌∙◌, append_assoc, arith}
 use Rattle.std.proofs.lemmas.List.{append-nil, length-append, map-append}
 use Rattle.uas_log.specs.declared.FirstUnit.{FirstUnit}
 use Rattle.uas_log.specs.declared.Log.{Log}
@@ -7,7 +7,7 @@ use Rattle.log_records.specs.Records.{last_sum, record_text, records_text}
 use Rattle.log_records.proofs.Growing.{last_sum-append}
 use Rattle.kept_log.specs.declared.Entry.{Entry}
 use Rattle.kept_log.specs.declared.Why.{Why}
-use Rattle.kept_log.specs.Form.{end_text, entry_text, front_sum, front_text, head_sum, head_text, kept_text}
+use Rattle.kept_log.specs.Form.{end_text, entry_text, front_sum, front_text, head_sum, head_text}
 use Rattle.kept_log.proofs.Growing.{text_goes_on}
 use Rattle.log_keeper.specs.declared.Place.{Place}
 use Rattle.log_keeper.specs.Entries.{Added, entries_behind, records_behind, sum_behind}

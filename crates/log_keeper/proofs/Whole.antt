@@ -1,5 +1,5 @@
 -- A text that has all records.
-use Rattle.std.proofs.Common.{◌≡◌, ℕ, zero, suc, ◌+◌, Bool, true, false, cond, List, [], ◌∷◌, ◌++◌, length, map, Some, refl, sym, ap, ◌∙◌, arith}
+use Rattle.std.proofs.Common.{◌≡◌, ℕ, suc, ◌+◌, Bool, true, false, cond, List, [], ◌∷◌, ◌++◌, length, map, Some, refl, sym, ap, ◌∙◌, arith}
 use Rattle.std.specs.Prelude.{if◌then◌else◌}
 use Rattle.scsi_cmd.specs.declared.Reply.{Reply}
 use Rattle.shared_machine.specs.declared.Step.{Step}
@@ -8,7 +8,7 @@ use Rattle.log_records.specs.Records.{records_text}
 use Rattle.log_text.specs.Kept.{with_client}
 use Rattle.kept_log.specs.declared.Entry.{Entry}
 use Rattle.kept_log.specs.declared.Entry.TheVariants.{Acted}
-use Rattle.kept_log.specs.Form.{entry_text, front_sum, front_text}
+use Rattle.kept_log.specs.Form.{entry_text, front_text}
 use Rattle.kept_log.proofs.Growing.{text_goes_on}
 use Rattle.log_keeper.proofs.Behind.{all_written, bare_head}
 use Rattle.log_keeper.specs.declared.Place.{Place}

@@ -1,16 +1,15 @@
 -- What the file of a log has that is kept, with the bytes that wait for it.
-use Rattle.std.proofs.Common.{◌≡◌, ℕ, ◌+◌, Bool, List, [], ◌++◌, length, Option, None, Some, IsTrue, sym, ap, ◌∙◌, subst}
+use Rattle.std.proofs.Common.{◌≡◌, ℕ, Bool, List, [], ◌++◌, Option, None, Some, IsTrue, sym, ap, subst}
 use Rattle.std.specs.Io.KnownBytes.{Appends}
 use Rattle.std.proofs.lemmas.List.{append-nil}
 use Rattle.uas_log.specs.declared.FirstUnit.{FirstUnit}
 use Rattle.uas_log.specs.declared.Log.{Log}
 use Rattle.kept_log.specs.declared.Why.{Why}
-use Rattle.kept_log.specs.Form.{end_text, head_sum, head_text}
-use Rattle.log_records.specs.Records.{record_text}
+use Rattle.kept_log.specs.Form.{head_sum, head_text}
 use Rattle.log_keeper.specs.declared.Place.{Place}
-use Rattle.log_keeper.specs.Beginnings.{IsBeginning}
-use Rattle.log_keeper.specs.Entries.{Added, entries_behind, records_behind, sum_behind}
-use Rattle.log_keeper.proofs.Begun.{begun, begun_more, whole}
+use Rattle.log_keeper.specs.Beginnings.{IsBeginning, IsWhole}
+use Rattle.log_keeper.specs.Entries.{Added}
+use Rattle.log_keeper.proofs.Begun.{begun, begun_more}
 use Rattle.work_run.specs.KeptEnds.{HasKept, HasWhole}
 
 -- known bytes that grew
@@ -52,14 +51,12 @@ has_written tells units place old new waiting left kept more none = record {
 }
 
 -- and the rest of a log, and its end
-pub has_whole : (tells : Bool) (log : Log) (why : Why) (old new : Place) (written held : Option (List ℕ)) (waiting : List ℕ)
-    → HasKept tells log.units old written waiting → new.steps ≡ old.steps + length (entries_behind log old)
-    → Appends written held ((waiting ++ records_behind log old) ++ record_text (sum_behind log old) (end_text new.steps why))
-    → IsTrue tells → HasWhole log why held
-has_whole tells log why old new written held waiting kept counted behind told =
-    let more : List ℕ = (waiting ++ records_behind log old) ++ record_text (sum_behind log old) (end_text new.steps why) in
-    record {
-      bytes = kept.given ++ more;
-      known = appended written held kept.given more (kept.known told) behind;
-      whole = whole log why old new kept.given waiting kept.begins counted;
-    }
+pub has_whole : (tells : Bool) (log : Log) (why : Why) (place : Place) (written held : Option (List ℕ)) (waiting more : List ℕ)
+    → HasKept tells log.units place written waiting
+    → ((given : List ℕ) → IsBeginning log.units place (given ++ waiting) → IsWhole log why (given ++ more))
+    → Appends written held more → IsTrue tells → HasWhole log why held
+has_whole tells log why place written held waiting more kept behind grew told = record {
+  bytes = kept.given ++ more;
+  known = appended written held kept.given more (kept.known told) grew;
+  whole = behind kept.given kept.begins;
+}

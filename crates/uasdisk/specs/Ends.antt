@@ -100,7 +100,8 @@ pub record SavedWorkEnds (clients rounds : ℕ) (file : Text) (host : Host) (old
   pub input : new.input ≡ old.input
 
 -- `work CLIENTS ROUNDS LOG --sync N`: standard output has got the lines of so many clients that worked in threads, and behind them whether
--- each of their audits is true; and the file of this name holds the whole text of a log, whose last steps are those of their bus.
+-- each of their audits is true; and the file of this name holds the whole text of a log, with all that the log of their bus has behind
+-- some place.
 pub record KeptWorkEnds (clients rounds : ℕ) (file : Text) (host : Host) (old new : World) (status : ℕ) : Type 0 where
   pub statuses : (status ≤ 1) ⊎ ((status ≡ 3) ⊎ (status ≡ 4))
   pub told : status ≤ 1 → KeptTold clients rounds host.tells_kept (new.kept file) old.output new.output status

@@ -24,7 +24,7 @@ pub record HasKept (tells : Bool) (units : List FirstUnit) (place : Place) (writ
 
 -- AT ITS END
 
--- a file has the whole text of a log, whose last steps are this log's, and which ended for this reason
+-- a file has the whole text of a log that ended for this reason, with all that this log has behind some place
 pub record HasWhole (log : Log) (why : Why) (held : Option (List ℕ)) : Type 0 where
   pub bytes : List ℕ
   pub known : held ≡ Some bytes

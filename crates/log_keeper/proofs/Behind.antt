@@ -4,11 +4,12 @@ use Rattle.std.specs.Prelude.{◌⊎◌, nat_lt}
 use Rattle.std.proofs.Math.Dec.{eqb-suc-zero}
 use Rattle.std.proofs.Math.Seq.{drop-cons}
 use Rattle.std.proofs.lemmas.Bool.{lt-ltb}
-use Rattle.std.proofs.lemmas.List.{append-nil, length-drop, nil_from_length}
+use Rattle.std.proofs.lemmas.List.{append-nil, length-append, length-drop, map-append, nil_from_length}
 use Rattle.scsi_cmd.specs.declared.Reply.{Reply}
 use Rattle.shared_machine.specs.declared.Step.{Step}
 use Rattle.uas_log.specs.declared.Log.{Log}
 use Rattle.log_records.specs.Records.{last_sum, record_text, records_text, sum_after}
+use Rattle.log_records.proofs.Growing.{last_sum-append, records-append}
 use Rattle.log_text.specs.declared.Version.TheVariants.{Second}
 use Rattle.log_text.specs.Kept.{with_client}
 use Rattle.log_text.specs.Text.{ReplyFits, StepFits}
@@ -16,38 +17,74 @@ use Rattle.kept_log.specs.declared.Entry.{Entry}
 use Rattle.kept_log.specs.declared.Entry.TheVariants.{Acted, Refused}
 use Rattle.kept_log.specs.Form.{EntryFits, entry_text, is_take}
 use Rattle.log_keeper.specs.declared.Place.{Place}
-use Rattle.log_keeper.specs.Entries.{Added, AllFit, FirstFits, OneMore, bare_entry, entries_behind, entries_of, gives, records_behind}
+use Rattle.log_keeper.specs.Entries.{Added, AllFit, FirstFits, OneMore, bare_entry, entries_behind, entries_of, gives, records_behind, sum_behind}
 
 -- ADDED
 
 pub added_same : (log : Log) (place : Place) (text : List ℕ) → Added log place text place text
-added_same log place text = record { text = refl; sum = refl }
+added_same log place text = record {
+  entries = [];
+  more = refl;
+  text = sym (append-nil text);
+  sum = refl;
+  steps = omega arith;
+  fit = tt;
+}
 
-pub added_then : (log : Log) (first next last : Place) (one two three : List ℕ) → Added log first one next two → Added log next two last three
+fit_more : (clients : ℕ) (entries : List Entry) (entry : Entry) → AllFit clients entries → EntryFits clients entry → AllFit clients (entries ++ entry ∷ [])
+fit_more clients [] entry all fits = (fits, tt)
+fit_more clients (first ∷ rest) entry all fits = (all.0, fit_more clients rest entry all.1 fits)
+
+-- one more behind those that were added
+pub added_then : (log : Log) (first next last : Place) (one two three : List ℕ) → Added log first one next two → OneMore log next two last three
     → Added log first one last three
-added_then log first next last one two three p q = record { text = q.text ∙ p.text; sum = q.sum ∙ p.sum }
-
-pub added_one : (log : Log) (old new : Place) (before after : List ℕ) → OneMore log old before new after → Added log old before new after
-added_one log old new before after one =
-    let entry : Entry = one.entry in
-    let more : entries_behind log old ≡ entry ∷ entries_behind log new = one.more in
-    let grown : after ≡ before ++ record_text old.sum (entry_text entry) = one.text in
-    let sum : new.sum ≡ sum_after old.sum (entry_text entry) = one.sum in
-    let body : List ℕ = entry_text entry in
-    let bodies : List (List ℕ) = map entry_text (entries_behind log new) in
-    let all : records_behind log old ≡ record_text old.sum body ++ records_behind log new =
-    ap (λ (entries : List Entry). records_text old.sum (map entry_text entries)) more
-    ∙ ap (λ n. record_text old.sum body ++ records_text n bodies) (sym sum) in
+added_then log first next last one two three p q =
+    let front : List Entry = p.entries in
+    let back : List Entry = q.entry ∷ [] in
+    let bodies : List (List ℕ) = map entry_text front in
+    let body : List ℕ = entry_text q.entry in
+    let sum : ℕ = last_sum first.sum bodies in
+    let both : map entry_text (front ++ back) ≡ bodies ++ body ∷ [] = map-append entry_text front back in
+    let records : records_text first.sum bodies ++ record_text sum body ≡ records_text first.sum (map entry_text (front ++ back)) =
+    ap (λ (text : List ℕ). records_text first.sum bodies ++ text) (sym (append-nil (record_text sum body)))
+    ∙ sym (records-append first.sum bodies (body ∷ [])) ∙ ap (records_text first.sum) (sym both) in
     record {
-      text = ap (λ (text : List ℕ). text ++ records_behind log new) grown ∙ append_assoc before (record_text old.sum body) (records_behind log new)
-          ∙ ap (λ (back : List ℕ). before ++ back) (sym all);
-      sum = ap (λ n. last_sum n bodies) sum ∙ ap (λ (entries : List Entry). last_sum old.sum (map entry_text entries)) (sym more);
+      entries = front ++ back;
+      more = p.more ∙ ap (λ (behind : List Entry). front ++ behind) q.more ∙ sym (append_assoc front back (entries_behind log last));
+      text = q.text ∙ ap (λ (text : List ℕ). text ++ record_text next.sum body) p.text
+          ∙ ap (λ n. (one ++ records_text first.sum bodies) ++ record_text n body) p.sum
+          ∙ append_assoc one (records_text first.sum bodies) (record_text sum body) ∙ ap (λ (text : List ℕ). one ++ text) records;
+      sum = q.sum ∙ ap (λ n. sum_after n body) p.sum ∙ sym (last_sum-append first.sum bodies (body ∷ []))
+          ∙ ap (last_sum first.sum) (sym both);
+      steps = omega (arith, p.steps, q.steps, length-append front back);
+      fit = fit_more (length log.units) front q.entry p.fit q.fits;
     }
 
--- all entries fit where the first does and those behind it do
-pub all_fit : (log : Log) (old new : Place) (before after : List ℕ) → OneMore log old before new after → AllFit (length log.units) (entries_behind log new)
+-- where nothing is left, all that was behind the place was added
+pub all_added : (log : Log) (old new : Place) (before after : List ℕ) (added : Added log old before new after) → entries_behind log new ≡ []
+    → entries_behind log old ≡ added.entries
+all_added log old new before after added none =
+    added.more ∙ ap (λ (behind : List Entry). added.entries ++ behind) none ∙ append-nil added.entries
+
+pub all_written : (log : Log) (old new : Place) (before after : List ℕ) → Added log old before new after → entries_behind log new ≡ []
+    → after ≡ before ++ records_behind log old
+all_written log old new before after added none =
+    added.text ∙ ap (λ (entries : List Entry). before ++ records_text old.sum (map entry_text entries)) (sym (all_added log old new before after added none))
+
+pub all_summed : (log : Log) (old new : Place) (before after : List ℕ) → Added log old before new after → entries_behind log new ≡ []
+    → new.sum ≡ sum_behind log old
+all_summed log old new before after added none =
+    added.sum ∙ ap (λ (entries : List Entry). last_sum old.sum (map entry_text entries)) (sym (all_added log old new before after added none))
+
+pub all_counted : (log : Log) (old new : Place) (before after : List ℕ) → Added log old before new after → entries_behind log new ≡ []
+    → new.steps ≡ old.steps + length (entries_behind log old)
+all_counted log old new before after added none =
+    added.steps ∙ ap (λ (entries : List Entry). old.steps + length entries) (sym (all_added log old new before after added none))
+
+pub all_fit : (log : Log) (old new : Place) (before after : List ℕ) → Added log old before new after → entries_behind log new ≡ []
     → AllFit (length log.units) (entries_behind log old)
-all_fit log old new before after one rest = subst (AllFit (length log.units)) (sym one.more) (one.fits, rest)
+all_fit log old new before after added none =
+    subst (AllFit (length log.units)) (sym (all_added log old new before after added none)) added.fit
 
 -- THE NEXT ENTRY
 
@@ -90,11 +127,11 @@ bare_behind log place step number sum within told is-step is-number bare =
     both_false (gives number step) (nat_lt place.replies (length log.replies)) bare
     (lt-ltb place.replies (length log.replies) (omega (arith, some, length-drop place.replies log.replies))))
 
-second_true : (a b : Bool) → (a && b) ≡ true → b ≡ true
+pub second_true : (a b : Bool) → (a && b) ≡ true → b ≡ true
 second_true true b e = e
 second_true false b e = absurd cc
 
-first_true : (a b : Bool) → (a && b) ≡ true → a ≡ true
+pub first_true : (a b : Bool) → (a && b) ≡ true → a ≡ true
 first_true true b e = refl
 first_true false b e = absurd cc
 
@@ -134,14 +171,6 @@ nothing_behind log place count all past =
           (dropped place.steps log.refusals (omega (arith, past, numbers))) ∙ no_numbers log.tags (drop place.steps log.steps) (drop place.replies log.replies)
     ]
 
-pub all_written : (log : Log) (old new : Place) (before after : List ℕ) → Added log old before new after → entries_behind log new ≡ []
-    → after ≡ before ++ records_behind log old
-all_written log old new before after added none =
-    sym (append-nil after) ∙ ap (λ (entries : List Entry). after ++ records_text new.sum (map entry_text entries)) (sym none) ∙ added.text
-
-pub none_fit : (log : Log) (place : Place) → entries_behind log place ≡ [] → AllFit (length log.units) (entries_behind log place)
-none_fit log place none = subst (AllFit (length log.units)) (sym none) tt
-
 -- WITH ITS RECORD
 
 bare_fits : (clients number : ℕ) (step : Step) → number < 2 ^ 8 → StepFits Second clients step → EntryFits clients (bare_entry number step)
@@ -167,6 +196,7 @@ bare_more log place step number sum before after within told is-step is-number s
   more = bare_behind log place step number sum within told (sym is-step) (sym is-number) bare;
   text = grown;
   sum = summed;
+  steps = refl;
   fits = bare_fits (length log.units) number step small fits;
 }
 
@@ -184,6 +214,7 @@ taken_more log place step number sum reply before after within told some is-step
   more = taken_behind log place step number sum reply within told some (sym is-step) (sym is-number) (sym is-reply) given;
   text = grown;
   sum = summed;
+  steps = refl;
   fits = (fits, (second_true (number == 0) (is_take step) (first_true (gives number step) (nat_lt place.replies (length log.replies)) given), reply-fits));
 }
 

@@ -1,7 +1,6 @@
 -- A text that has all records.
-use Rattle.std.proofs.Common.{◌≡◌, ℕ, zero, suc, ◌+◌, Bool, true, false, cond, List, [], ◌∷◌, ◌++◌, length, map, Some, refl, sym, ap, ◌∙◌, arith}
+use Rattle.std.proofs.Common.{◌≡◌, ℕ, suc, ◌+◌, Bool, true, false, cond, List, [], ◌∷◌, ◌++◌, length, map, Some, refl, sym, ap, ◌∙◌, arith}
 use Rattle.std.specs.Prelude.{if◌then◌else◌}
-use Rattle.std.proofs.lemmas.List.{append-nil}
 use Rattle.scsi_cmd.specs.declared.Reply.{Reply}
 use Rattle.shared_machine.specs.declared.Step.{Step}
 use Rattle.uas_log.specs.declared.Log.{Log}
@@ -9,9 +8,9 @@ use Rattle.log_records.specs.Records.{records_text}
 use Rattle.log_text.specs.Kept.{with_client}
 use Rattle.kept_log.specs.declared.Entry.{Entry}
 use Rattle.kept_log.specs.declared.Entry.TheVariants.{Acted}
-use Rattle.kept_log.specs.Form.{entry_text, front_sum, front_text}
+use Rattle.kept_log.specs.Form.{entry_text, front_text}
 use Rattle.kept_log.proofs.Growing.{text_goes_on}
-use Rattle.log_keeper.proofs.Behind.{bare_head}
+use Rattle.log_keeper.proofs.Behind.{all_written, bare_head}
 use Rattle.log_keeper.specs.declared.Place.{Place}
 use Rattle.log_keeper.specs.Entries.{Added, StandsAt, bare_entry, entries_before, entries_behind, entries_of, given_count, gives, log_entries}
 
@@ -21,7 +20,7 @@ pub whole_text : (log : Log) (place new : Place) (text after : List ℕ) → Sta
 whole_text log place new text after stand parts added none =
     let before : List Entry = entries_before log place in
     let behind : List Entry = entries_behind log place in
-    sym (append-nil after) ∙ ap (λ (entries : List Entry). after ++ records_text new.sum (map entry_text entries)) (sym none) ∙ added.text
+    all_written log place new text after added none
     ∙ ap (λ (front : List ℕ). front ++ records_text place.sum (map entry_text behind)) stand.text
     ∙ ap (λ n. front_text log.units before ++ records_text n (map entry_text behind)) stand.sum
     ∙ sym (text_goes_on log.units before behind) ∙ ap (front_text log.units) (sym parts)

@@ -1,11 +1,14 @@
 -- The records of a log's steps, and where a text stands that grows.
-use Rattle.std.specs.Prelude.{◌≡◌, ℕ, ◌+◌, ◌&&◌, ◌==◌, if◌then◌else◌, Bool, List, [], ◌∷◌, ◌++◌, drop, length, map, take, Some, None}
+use Rattle.std.specs.Prelude.{◌≡◌, ℕ, ◌+◌, ◌≤◌, ◌&&◌, ◌==◌, if◌then◌else◌, Bool, List, [], ◌∷◌, ◌++◌, drop, length, map, take, Some, None}
 use Rattle.std.specs.List.{AllByRecursion}
 use Rattle.scsi_cmd.specs.declared.Reply.{Reply}
 use Rattle.shared_machine.specs.declared.Step.{Step}
+use Rattle.uas_log.specs.declared.FirstUnit.{FirstUnit}
 use Rattle.uas_log.specs.declared.Log.{Log}
 use Rattle.log_records.specs.Records.{last_sum, record_text, records_text, sum_after}
+use Rattle.log_text.specs.declared.Version.TheVariants.{Second}
 use Rattle.log_text.specs.Kept.{with_client}
+use Rattle.log_text.specs.Text.{UnitFits, version_clients}
 use Rattle.kept_log.specs.declared.Entry.{Entry}
 use Rattle.kept_log.specs.declared.Entry.TheVariants.{Acted, Refused}
 use Rattle.kept_log.specs.Form.{EntryFits, entry_text, front_sum, front_text, is_take}
@@ -48,22 +51,11 @@ records_behind log place = records_text place.sum (map entry_text (entries_behin
 abbrev pub sum_behind : Log → Place → ℕ
 sum_behind log place = last_sum place.sum (map entry_text (entries_behind log place))
 
--- ADDING
+-- LIMITS
 
--- A text grew, and its place with it: together with the records behind the place it is what it was.
-pub record Added (log : Log) (old : Place) (before : List ℕ) (new : Place) (after : List ℕ) : Type 0 where
-  pub text : after ++ records_behind log new ≡ before ++ records_behind log old
-  pub sum : sum_behind log new ≡ sum_behind log old
-
--- ONE MORE
-
--- A text got the record of the entry at a place, which moved behind it.
-pub record OneMore (log : Log) (old : Place) (before : List ℕ) (new : Place) (after : List ℕ) : Type 0 where
-  pub entry : Entry
-  pub more : entries_behind log old ≡ entry ∷ entries_behind log new
-  pub text : after ≡ before ++ record_text old.sum (entry_text entry)
-  pub sum : new.sum ≡ sum_after old.sum (entry_text entry)
-  pub fits : EntryFits (length log.units) entry
+-- the logical units of a log are within the limits of its text
+abbrev pub AreUnits : List FirstUnit → Type 0
+AreUnits units = (1 ≤ length units) × (length units ≤ version_clients Second) × AllByRecursion UnitFits units
 
 -- all of these fit a log of so many clients
 abbrev pub AllFit : ℕ → List Entry → Type 0
@@ -73,6 +65,36 @@ AllFit clients entries = AllByRecursion (EntryFits clients) entries
 abbrev pub FirstFits : ℕ → List Entry → Type 0
 FirstFits clients [] = Unit {0}
 FirstFits clients (entry ∷ entries) = EntryFits clients entry
+
+-- The entry of a step that wasn't refused fits a log of so many clients; a refused one may be past the limits.
+abbrev pub ActedFits : ℕ → Entry → Type 0
+ActedFits clients (Acted step given) = EntryFits clients (Acted step given)
+ActedFits clients (Refused step number) = Unit {0}
+
+abbrev pub AllActedFit : ℕ → List Entry → Type 0
+AllActedFit clients entries = AllByRecursion (ActedFits clients) entries
+
+-- ADDING
+
+-- A text got the records of the first of the entries behind a place, each whole and within the limits, and the place moved behind them.
+pub record Added (log : Log) (old : Place) (before : List ℕ) (new : Place) (after : List ℕ) : Type 0 where
+  pub entries : List Entry
+  pub more : entries_behind log old ≡ entries ++ entries_behind log new
+  pub text : after ≡ before ++ records_text old.sum (map entry_text entries)
+  pub sum : new.sum ≡ last_sum old.sum (map entry_text entries)
+  pub steps : new.steps ≡ old.steps + length entries
+  pub fit : AllFit (length log.units) entries
+
+-- ONE MORE
+
+-- A text got the record of the entry at a place, which moved behind it.
+pub record OneMore (log : Log) (old : Place) (before : List ℕ) (new : Place) (after : List ℕ) : Type 0 where
+  pub entry : Entry
+  pub more : entries_behind log old ≡ entry ∷ entries_behind log new
+  pub text : after ≡ before ++ record_text old.sum (entry_text entry)
+  pub sum : new.sum ≡ sum_after old.sum (entry_text entry)
+  pub steps : new.steps ≡ old.steps + 1
+  pub fits : EntryFits (length log.units) entry
 
 -- STANDING
 

@@ -1,2 +1,4 @@
 pub mod Entries
 pub mod Syncing
+pub mod Stops
+pub mod Beginnings

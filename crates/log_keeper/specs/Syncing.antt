@@ -1,5 +1,5 @@
 -- When a text is synced.
-use Rattle.std.specs.Prelude.{ℕ, ◌+◌, ◌==◌, ◌&&◌, nat_le, not, if◌then◌else◌, Bool}
+use Rattle.std.specs.Prelude.{ℕ, ◌==◌, ◌&&◌, nat_le, not, if◌then◌else◌, Bool}
 
 -- after each so many steps; with 0 at the end alone
 abbrev pub is_due : ℕ → ℕ → Bool

@@ -1,5 +1,5 @@
 //! The records of the steps behind a place.
-ghost use Rattle.std.specs.Prelude.{◌≡◌, ◌+◌, ◌<◌, ◌≤◌, ◌++◌, ◌⊎◌, ◌&&◌, nat_lt, IfErr, IfOk, IsErr, Ok, OnErr, OnOk, Some, [], length};
+ghost use Rattle.std.specs.Prelude.{◌≡◌, ◌+◌, ◌<◌, ◌≤◌, ◌++◌, ◌⊎◌, ◌&&◌, ◌↔◌, nat_lt, IfErr, IfOk, IsErr, IsErrOf, Ok, OnErr, OnOk, Some, [], length};
 ghost use Rattle.log_records.specs.Records.{record_text, sum_after};
 ghost use Rattle.log_text.specs.declared.Version.TheVariants.{Second};
 ghost use Rattle.log_text.specs.Kept.{with_client};
@@ -7,7 +7,7 @@ ghost use Rattle.log_text.specs.Text.{ReplyFits, StepFits};
 ghost use Rattle.uas_profile.specs.declared.TheConstants.{MAX_CLIENTS};
 ghost use Rattle.kept_log.specs.declared.Entry.TheVariants.{Acted};
 ghost use Rattle.kept_log.specs.Form.{entry_text, head_sum, head_text};
-ghost use Rattle.log_keeper.specs.Entries.{Added, AllFit, FirstFits, OneMore, bare_entry, entries_behind, gives, records_behind};
+ghost use Rattle.log_keeper.specs.Entries.{Added, AllFit, AreUnits, FirstFits, OneMore, bare_entry, entries_behind, gives, records_behind, sum_behind};
 
 use crate::{KeepFault, Place};
 use kept_log::{is_take, write_head, write_refused, write_step, write_taken};
@@ -19,12 +19,13 @@ use shared_machine::Step;
 use std::alloc::Global;
 use uas_log::Log;
 
-/// Adds the head of a log to a text: the place behind it. `Limits` where a unit is past the limits of a log's text, or there are none, or too
-/// many; at a fault the text is as before.
+/// Adds the head of a log to a text: the place behind it. `Limits` exactly where a unit is past the limits of a log's text, or there are none,
+/// or too many; at a fault the text is as before.
 pub fn begin(alloc: Global, log: &Log, text: &mut Vec<u8>) -> Result<Place, KeepFault>
     ensures text { OnOk result (text.new.items ≡ text.old.items ++ head_text log.now.units) }
     ensures place { IfOk result (λ place. place ≡ record { steps = 0; replies = 0; sum = head_sum log.now.units }) }
     ensures same { OnErr result (text.new.items ≡ text.old.items) }
+    ensures limits { IsErrOf result KeepFault.Limits ↔ (AreUnits log.now.units → ⊥) }
 {
     let units = log.units.as_slice();
     if !are_units(Version::Second, units) {
@@ -53,6 +54,8 @@ pub fn add_records(
     ensures all { OnOk result (text.new.items ≡ text.old.items ++ records_behind log.now place.old) }
     ensures fit { OnOk result (AllFit (length log.now.units) (entries_behind log.now place.old)) }
     ensures none { OnOk result (entries_behind log.now place.new ≡ []) }
+    ensures sum { OnOk result (place.new.sum ≡ sum_behind log.now place.old) }
+    ensures steps { OnOk result (place.new.steps ≡ place.old.steps + length (entries_behind log.now place.old)) }
     ensures added { Added log.now place.old text.old.items place.new text.new.items }
     ensures limits { IfErr result (λ fault. fault ≡ KeepFault.Limits → FirstFits (length log.now.units) (entries_behind log.now place.new) → ⊥) }
 {

@@ -3,9 +3,11 @@ ghost use Rattle.std.specs.Prelude.{◌≡◌, ℕ, List, [], ◌++◌, length};
 ghost use Rattle.scsi_cmd.specs.declared.Reply.{Reply};
 ghost use Rattle.shared_machine.specs.declared.Step.{Step};
 ghost use Rattle.uas_log.specs.declared.Log.{Log};
+ghost use Rattle.uas_profile.specs.declared.TheConstants.{TAGS};
+ghost use Rattle.log_text.specs.Kept.{IsSavable};
 ghost use Rattle.kept_log.specs.Form.{front_text};
 ghost use Rattle.log_keeper.specs.declared.Place.{Place};
-ghost use Rattle.log_keeper.specs.Entries.{Added, StandsAt, entries_before, entries_behind, entries_of, given_count, log_entries};
+ghost use Rattle.log_keeper.specs.Entries.{Added, AllActedFit, StandsAt, entries_before, entries_behind, entries_of, given_count, log_entries};
 
 /// A text that stood at a place and got the records of all that was behind it is the head and the records of the whole log. Where a log was
 /// taken apart rightly is [`steps_go_on`].
@@ -20,4 +22,9 @@ pub fn steps_go_on()
     ensures { (tags : ℕ) (steps more : List Step) (numbers others : List ℕ) (replies next : List Reply) → length numbers ≡ length steps
         → length replies ≡ given_count steps numbers
         → entries_of tags (steps ++ more) (numbers ++ others) (replies ++ next) ≡ entries_of tags steps numbers replies ++ entries_of tags more others next }
+{}
+
+/// In a log that can be saved only a step that was refused can be past the limits of a kept log's text.
+pub fn acted_steps_fit()
+    ensures { (log : Log) → log.tags ≡ TAGS → IsSavable log → AllActedFit (length log.units) (log_entries log) }
 {}

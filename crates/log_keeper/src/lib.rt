@@ -20,11 +20,13 @@
 mod adding;
 mod keeper;
 mod laws;
+mod stops;
 mod writer;
 
 pub use adding::{add_records, begin};
-pub use keeper::{KeepStop, Keeper};
-pub use laws::{kept_texts_are_the_logs, steps_go_on};
+pub use keeper::Keeper;
+pub use laws::{acted_steps_fit, kept_texts_are_the_logs, steps_go_on};
+pub use stops::KeepStop;
 use thiserror::Error;
 pub use writer::{KeptFile, KeptFiles, KeptWriter};
 

@@ -1,5 +1,5 @@
 //! The file of a log that is kept: bytes behind those that it has, and syncs.
-ghost use Rattle.std.specs.Prelude.{◌≡◌, ◌+◌, ◌<◌, ◌^◌, ℕ, List, Bool, Option, if◌then◌else◌, [], Err, IfOk, IfSome, IsTrue, OnErr, OnOk};
+ghost use Rattle.std.specs.Prelude.{◌≡◌, ◌+◌, ◌<◌, ◌^◌, ℕ, List, Bool, Option, if◌then◌else◌, [], Err, IfOk, IsTrue, OnErr, OnOk, Some};
 ghost use Rattle.std.specs.Io.KnownBytes.{Appends};
 ghost use Rattle.log_keeper.specs.Syncing.{is_due, unsynced_after};
 
@@ -16,12 +16,16 @@ pub trait KeptFile {
     /// Whether it can fail other than for want of memory.
     ghost can_fail: { Self → Bool };
 
+    /// Whether it is the file of a name, as far as that is known.
+    ghost is_of: { Self → List ℕ → Bool };
+
     /// Takes all of the bytes.
     fn add(&mut self, bytes: &[u8]) -> Result<(), StreamFault>
         ensures bytes { OnOk result (Appends (written self.old) (written self.new) bytes.now) }
         ensures synced { synced self.new ≡ synced self.old }
         ensures fault { result ≡ Err StreamFault.File → IsTrue (can_fail self.old) }
-        ensures same { can_fail self.new ≡ can_fail self.old };
+        ensures same { can_fail self.new ≡ can_fail self.old }
+        ensures file { is_of self.new ≡ is_of self.old };
 
     /// Syncs what it has taken.
     fn sync(&mut self) -> Result<(), StreamFault>
@@ -29,7 +33,8 @@ pub trait KeptFile {
         ensures synced { OnOk result (synced self.new ≡ written self.old) }
         ensures lost { OnErr result (synced self.new ≡ synced self.old) }
         ensures fault { result ≡ Err StreamFault.File → IsTrue (can_fail self.old) }
-        ensures same { can_fail self.new ≡ can_fail self.old };
+        ensures same { can_fail self.new ≡ can_fail self.old }
+        ensures file { is_of self.new ≡ is_of self.old };
 }
 
 /// Begins the files of logs.
@@ -37,9 +42,27 @@ pub trait KeptFiles {
     /// A file of a log.
     type File: KeptFile + Drop + Send;
 
+    /// Whether it tells what its files hold.
+    ghost tells: { Self → Bool };
+
+    /// What was synced of the file of a name.
+    ghost holds: { Self → List ℕ → Option (List ℕ) };
+
+    /// Whether the file of a name can fail.
+    ghost can_fail: { Self → List ℕ → Bool };
+
     /// The file of a name, empty; what it had is gone.
     fn create(&mut self, name: &str) -> Result<Self::File, StreamFault>
-        ensures empty { IfOk result (λ file. IfSome (Self.File.written file) (λ bytes. bytes ≡ [])) };
+        ensures empty { IfOk result (λ file. IsTrue (tells self.old) → Self.File.written file ≡ Some []) }
+        ensures file { IfOk result (λ file. IsTrue (Self.File.is_of file name.now)) }
+        ensures fails { IfOk result (λ file. IsTrue (Self.File.can_fail file) → IsTrue (can_fail self.old name.now)) }
+        ensures fault { result ≡ Err StreamFault.File → IsTrue (can_fail self.old name.now) }
+        ensures same { tells self.new ≡ tells self.old };
+
+    /// Lets a file go: its name holds what was synced.
+    fn close(&mut self, file: Self::File)
+        ensures { (name : List ℕ) → IsTrue (tells self.old) → IsTrue (Self.File.is_of file name)
+            → holds self.new name ≡ Self.File.synced file };
 }
 
 /// The file of a log, and when it is synced.
@@ -62,6 +85,8 @@ impl<F: KeptFile> KeptWriter<F> {
         ensures count { OnOk result (self.new.unsynced ≡ unsynced_after self.old.every (self.old.unsynced + steps)) }
         ensures lost { OnErr result (F.synced self.new.file ≡ F.synced self.old.file) }
         ensures fault { result ≡ Err StreamFault.File → IsTrue (F.can_fail self.old.file) }
+        ensures same { F.can_fail self.new.file ≡ F.can_fail self.old.file }
+        ensures file { F.is_of self.new.file ≡ F.is_of self.old.file }
         ensures every { self.new.every ≡ self.old.every }
     {
         self.file.add(records)?;
@@ -80,6 +105,7 @@ impl<F: KeptFile> KeptWriter<F> {
         ensures synced { OnOk result (F.synced self.new.file ≡ F.written self.new.file) }
         ensures lost { OnErr result (F.synced self.new.file ≡ F.synced self.old.file) }
         ensures fault { result ≡ Err StreamFault.File → IsTrue (F.can_fail self.old.file) }
+        ensures file { F.is_of self.new.file ≡ F.is_of self.old.file }
     {
         self.file.add(last)?;
         self.file.sync()

@@ -15,6 +15,7 @@ use Rattle.uas_trace.specs.Traced.{Traces}
 use Rattle.uas_trace.specs.Texts.{TracesScript}
 use Rattle.work_run.specs.WorkEnds.{Told}
 use Rattle.work_run.specs.SavedEnds.{NotSaved, Saved, Unsaved}
+use Rattle.work_run.specs.KeptEnds.{KeptTold}
 use Rattle.uas_decode.specs.Runs.{Begins, Decodes}
 use Rattle.audit_run.specs.Ends.{IsRefused, Tells as AuditTells}
 use Rattle.draw_run.specs.Draws.{AppendsDrawn, DrawsScript}
@@ -23,20 +24,24 @@ use Rattle.draw_run.specs.declared.Form.TheVariants.{Picture, Page}
 use Rattle.capture_run.specs.Ends.{CapturesScript, IsCapture}
 
 -- What is known of a host: whether it tells what its files hold; of the file of a name, whether it can be opened, can
--- be created and can fail; whether standard input is there, and whether it and standard output can fail.
+-- be created and can fail; of the file of a log that is kept, whether it can fail, and whether what it holds is told; whether standard input
+-- is there, and whether it and standard output can fail.
 pub record Host : Type 0 where
   pub tells : Bool
   pub can_open : Text → Bool
   pub can_create : Text → Bool
   pub file_can_fail : Text → Bool
+  pub tells_kept : Bool
+  pub kept_can_fail : Text → Bool
   pub has_input : Bool
   pub input_can_fail : Bool
   pub output_can_fail : Bool
 
--- The bytes outside of the program, where they are known: what the file of a name holds, what standard input has left,
--- and what standard output has taken.
+-- The bytes outside of the program, where they are known: what the file of a name holds, and what was synced of one that is kept; what
+-- standard input has left, and what standard output has taken.
 pub record World : Type 0 where
   pub holds : Text → Option (List ℕ)
+  pub kept : Text → Option (List ℕ)
   pub input : Option (List ℕ)
   pub output : Option (List ℕ)
 
@@ -99,11 +104,12 @@ pub record SavedWorkEnds (clients rounds : ℕ) (file : Text) (host : Host) (old
   pub input : new.input ≡ old.input
 
 -- `work CLIENTS ROUNDS LOG --sync N`: standard output has got the lines of so many clients that worked in threads, and behind them whether
--- each of their audits is true. What the file of the log has then is what its keeper wrote.
-pub record KeptWorkEnds (clients rounds : ℕ) (host : Host) (old new : World) (status : ℕ) : Type 0 where
+-- each of their audits is true; and the file of this name holds the whole text of a log, with all that the log of their bus has behind
+-- some place.
+pub record KeptWorkEnds (clients rounds : ℕ) (file : Text) (host : Host) (old new : World) (status : ℕ) : Type 0 where
   pub statuses : (status ≤ 1) ⊎ ((status ≡ 3) ⊎ (status ≡ 4))
-  pub told : status ≤ 1 → Told clients rounds true old.output new.output status
-  pub fault : status ≡ 3 → IsTrue host.output_can_fail ⊎ Keeps old.output new.output
+  pub told : status ≤ 1 → KeptTold clients rounds host.tells_kept (new.kept file) old.output new.output status
+  pub fault : status ≡ 3 → IsTrue host.output_can_fail ⊎ (IsTrue (host.kept_can_fail file) × Keeps old.output new.output)
   pub memory : status ≡ 4 → Keeps old.output new.output
   pub input : new.input ≡ old.input
 
@@ -213,7 +219,7 @@ Ends (replay clients blocks bad) host old new status = ReplayEnds clients blocks
 Ends (trace clients blocks bad) host old new status = TraceEnds clients blocks bad host old new status
 Ends (work clients rounds None) host old new status = WorkEnds clients rounds host old new status
 Ends (work clients rounds (Some file)) host old new status = SavedWorkEnds clients rounds file host old new status
-Ends (keep clients rounds file every) host old new status = KeptWorkEnds clients rounds host old new status
+Ends (keep clients rounds file every) host old new status = KeptWorkEnds clients rounds file host old new status
 Ends decode host old new status = DecodeEnds host old new status
 Ends (make file blocks replaces) host old new status = MakeEnds file blocks host old new status
 Ends (info file) host old new status = InfoEnds file host old new status

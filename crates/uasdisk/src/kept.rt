@@ -1,6 +1,6 @@
 //! The files of the machine in which logs are kept.
 
-ghost use Rattle.std.specs.Prelude.{None, true};
+ghost use Rattle.std.specs.Prelude.{None, false, true};
 
 use byte_io::StreamFault;
 use log_keeper::{KeptFile, KeptFiles};
@@ -28,6 +28,12 @@ pub struct HostKeptFile<'a> {
 impl<'a> KeptFiles for HostKeptFiles<'a> {
     type File = HostKeptFile<'a>;
 
+    ghost tells = { λ _. false };
+
+    ghost holds = { λ _ _. None };
+
+    ghost can_fail = { λ _ _. true };
+
     fn create(&mut self, name: &str) -> Result<HostKeptFile<'a>, StreamFault> {
         let Ok(file) = fs::create(self.rt, name) else {
             return Err(StreamFault::File);
@@ -39,6 +45,10 @@ impl<'a> KeptFiles for HostKeptFiles<'a> {
             bytes: 0,
         })
     }
+
+    fn close(&mut self, file: HostKeptFile<'a>) {
+        drop(file);
+    }
 }
 
 impl KeptFile for HostKeptFile<'_> {
@@ -47,6 +57,8 @@ impl KeptFile for HostKeptFile<'_> {
     ghost synced = { λ _. None };
 
     ghost can_fail = { λ _. true };
+
+    ghost is_of = { λ _ _. true };
 
     fn add(&mut self, bytes: &[u8]) -> Result<(), StreamFault> {
         if self.file.write_all(bytes).is_err() {

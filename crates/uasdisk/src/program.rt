@@ -57,12 +57,15 @@ pub fn run_words<
           can_open = F.can_open files.old;
           can_create = F.can_create files.old;
           file_can_fail = F.can_fail files.old;
+          tells_kept = K.tells kept_files.old;
+          kept_can_fail = K.can_fail kept_files.old;
           has_input = S.is_there input.old;
           input_can_fail = S.can_fail input.old;
           output_can_fail = O.can_fail output.old;
         })
-        (record { holds = F.holds files.old; input = S.left input.old; output = O.written output.old })
-        (record { holds = F.holds files.new; input = S.left input.new; output = O.written output.new }) result) }
+        (record { holds = F.holds files.old; kept = K.holds kept_files.old; input = S.left input.old; output = O.written output.old })
+        (record { holds = F.holds files.new; kept = K.holds kept_files.new; input = S.left input.new; output = O.written output.new })
+        result) }
     ensures refused { refusals (map string_bytes words.now) ≢ [] → ((result ≡ 4) × Keeps (O.written output.old) (O.written output.new))
         ⊎ HoldsOfOne (λ kind. RefusalEnds kind (O.can_fail output.old) (O.written output.old) (O.written output.new) result)
         (refusals (map string_bytes words.now)) }

@@ -9,7 +9,8 @@ use Rattle.uas_replay.specs.declared.status.RunFault.TheVariants.{Image, ImageFi
 use Rattle.work_run.specs.declared.faults.WorkFault.{WorkFault}
 use Rattle.work_run.specs.declared.faults.WorkFault.TheVariants.{LogFull, LogFile, Run}
 use Rattle.work_run.specs.SavedEnds.{SavedGivesUp, SavingGivesUp, file_fault}
-use Rattle.work_run.specs.WorkEnds.{Audited, GivesUp, KeptGivesUp}
+use Rattle.work_run.specs.WorkEnds.{Audited, GivesUp}
+use Rattle.work_run.specs.KeptEnds.{KeptGivesUp}
 
 -- at a file that couldn't be begun
 pub gives_up_unbegun : (clients rounds : ℕ) (can_file_fail can_fail : Bool) (old : Option (List ℕ)) (fault : StreamFault)
@@ -43,11 +44,12 @@ gives_up_after clients rounds can_file_fail can_fail old new log status (Run NoM
     inr (record { log = log; status = status; audited = audited; reason = tt })
 
 -- a run that keeps its log, at its lines
-pub kept_gives_up : (can_fail : Bool) (old new : Option (List ℕ)) (fault : WorkFault) → GivesUp can_fail old new fault → KeptGivesUp can_fail old new fault
-kept_gives_up can_fail old new LogFull up = up
-kept_gives_up can_fail old new LogFile up = absurd up
-kept_gives_up can_fail old new (Run (Image fault)) up = up
-kept_gives_up can_fail old new (Run ImageFile) up = up
-kept_gives_up can_fail old new (Run (Script fault)) up = up
-kept_gives_up can_fail old new (Run ScriptFile) up = up
-kept_gives_up can_fail old new (Run NoMemory) up = up
+pub kept_gives_up : (can_file_fail can_fail : Bool) (old new : Option (List ℕ)) (fault : WorkFault) → GivesUp can_fail old new fault
+    → KeptGivesUp can_file_fail can_fail old new fault
+kept_gives_up can_file_fail can_fail old new LogFull up = up
+kept_gives_up can_file_fail can_fail old new LogFile up = absurd up
+kept_gives_up can_file_fail can_fail old new (Run (Image fault)) up = up
+kept_gives_up can_file_fail can_fail old new (Run ImageFile) up = up
+kept_gives_up can_file_fail can_fail old new (Run (Script fault)) up = up
+kept_gives_up can_file_fail can_fail old new (Run ScriptFile) up = up
+kept_gives_up can_file_fail can_fail old new (Run NoMemory) up = up

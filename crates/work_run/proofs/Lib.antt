@@ -1,3 +1,4 @@
 mod Units
 mod Accounts
 mod GivingUp
+mod KeptText

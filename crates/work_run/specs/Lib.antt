@@ -2,3 +2,4 @@ pub mod Tallies
 pub mod WorkEnds
 pub mod Audits
 pub mod SavedEnds
+pub mod KeptEnds

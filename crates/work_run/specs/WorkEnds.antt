@@ -89,13 +89,3 @@ GivesUp can_fail old new (Run ImageFile) = ⊥
 GivesUp can_fail old new (Run (Script fault)) = ⊥
 GivesUp can_fail old new (Run ScriptFile) = IsTrue can_fail
 GivesUp can_fail old new (Run NoMemory) = Keeps old new
-
--- a run that keeps its log gives up before its lines are printed, or at a fault of standard output
-abbrev pub KeptGivesUp : Bool → Option (List ℕ) → Option (List ℕ) → WorkFault → Type 0
-KeptGivesUp can_fail old new LogFull = Keeps old new
-KeptGivesUp can_fail old new LogFile = Keeps old new
-KeptGivesUp can_fail old new (Run (Image fault)) = ⊥
-KeptGivesUp can_fail old new (Run ImageFile) = ⊥
-KeptGivesUp can_fail old new (Run (Script fault)) = ⊥
-KeptGivesUp can_fail old new (Run ScriptFile) = IsTrue can_fail
-KeptGivesUp can_fail old new (Run NoMemory) = Keeps old new

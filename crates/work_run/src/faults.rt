@@ -10,7 +10,7 @@ use uas_replay::{FAULT, NO_MEMORY, RunFault};
 /// Why the run gave up.
 #[derive(Clone, Copy, Debug, PartialEq, Eq, Error)]
 pub(crate) enum WorkFault {
-    /// The log holds as many steps as it may.
+    /// The log holds as many steps as it may, or the next step is past the limits of its text.
     #[error("log full")]
     LogFull,
     /// The file of the log couldn't be created, written or closed.

@@ -1,6 +1,8 @@
 //! The gate of a run that keeps its log: it gathers records under the lock of the bus, and writes and syncs them outside of it.
+ghost use Rattle.std.specs.Prelude.{◌≡◌, ◌==◌, false, true, nat_lt, if◌then◌else◌};
 
-use log_keeper::{KeepStop, Keeper, KeptFile};
+use crate::locked_keeper::{KeptLog, LockedKeeper};
+use log_keeper::KeptFile;
 use shared_machine::Step;
 use std::alloc::Global;
 use std::rt::Clock;
@@ -20,55 +22,40 @@ const SHORT_PAUSE: u64 = 50;
 
 /// A log that is kept, and how far that is.
 #[derive(Drop)]
-pub(crate) struct Keeping<'a, R, F: KeptFile> {
+pub(crate) struct Keeping<'a, J: KeptLog, R, F: KeptFile> {
     rt: &'a R,
-    keeper: Mutex<Keeper<F>>,
+    keeper: Mutex<LockedKeeper<J, F>>,
     /// How many times records were gathered.
     gathered: AtomicU64,
     /// How many times what was gathered was written.
     settled: AtomicU64,
     /// Whether a reply waits until its record was synced.
     holds_replies: bool,
-    /// Why the log isn't kept any more, as a number; 0 while it is.
-    stop: AtomicU64,
 }
 
-impl<'a, R, F: KeptFile + Drop> Keeping<'a, R, F> {
+impl<'a, J: KeptLog, R, F: KeptFile + Drop> Keeping<'a, J, R, F> {
     /// Keeps a log; replies wait for their records where each step is synced.
-    pub(crate) fn new(rt: &'a R, keeper: Keeper<F>) -> Keeping<'a, R, F> {
-        let holds_replies = keeper.writer.every == 1;
+    pub(crate) fn new(rt: &'a R, keeper: LockedKeeper<J, F>) -> Keeping<'a, J, R, F>
+        ensures { result.holds_replies ≡ (keeper.keeper.writer.every == 1) }
+    {
+        let holds_replies = keeper.keeper.writer.every == 1;
         Keeping {
             rt,
             keeper: Mutex::new(keeper),
             gathered: AtomicU64::new(0),
             settled: AtomicU64::new(0),
             holds_replies,
-            stop: AtomicU64::new(0),
         }
     }
 
-    /// The keeper, or why it stopped.
-    pub(crate) fn into_keeper(self) -> Result<Keeper<F>, KeepStop> {
-        let Keeping { keeper, stop, .. } = self;
-        match stop.load(SeqCst) {
-            0 => Ok(keeper.into_inner()),
-            1 => Err(KeepStop::Limits),
-            2 => Err(KeepStop::NoMemory),
-            _ => Err(KeepStop::File),
-        }
-    }
-
-    fn note(&self, stop: KeepStop) {
-        let code = match stop {
-            KeepStop::Limits => 1,
-            KeepStop::NoMemory => 2,
-            KeepStop::File => 3,
-        };
-        self.stop.store(code, SeqCst);
+    /// The keeper, once nobody looks any more.
+    pub(crate) fn into_keeper(self) -> LockedKeeper<J, F> {
+        let Keeping { keeper, .. } = self;
+        keeper.into_inner()
     }
 }
 
-impl<R: Wait + Clock, F: KeptFile + Drop> Gate for Keeping<'_, R, F> {
+impl<J: KeptLog, R: Wait + Clock, F: KeptFile + Drop> Gate for Keeping<'_, J, R, F> {
     ghost use Rattle.std.specs.Prelude.{◌≡◌, true};
 
     ghost says = { λ gate step answer. answer ≡ true };
@@ -87,22 +74,13 @@ impl<R: Wait + Clock, F: KeptFile + Drop> Gate for Keeping<'_, R, F> {
 
     fn look(&self, alloc: Global, log: &Log) {
         self.gathered.fetch_add(1, SeqCst);
-        if let Err(fault) = self.keeper.lock(self.rt).gather(alloc, log) {
-            self.note(KeepStop::from(fault));
-        }
+        self.keeper.lock(self.rt).gather(alloc, log);
     }
 
     fn settle(&self) -> bool {
-        if self.stop.load(SeqCst) != 0 {
-            return false;
-        }
         let settled = self.keeper.lock(self.rt).settle();
-        let has_synced = match settled {
-            Ok(has_synced) => has_synced,
-            Err(fault) => {
-                self.note(KeepStop::from(fault));
-                return false;
-            }
+        let Some(has_synced) = settled else {
+            return false;
         };
         self.settled.fetch_add(1, SeqCst);
         if !(self.holds_replies && has_synced) {
@@ -115,9 +93,18 @@ impl<R: Wait + Clock, F: KeptFile + Drop> Gate for Keeping<'_, R, F> {
         self.gathered.load(SeqCst)
     }
 
-    fn may_tell(&self, look: u64) -> bool {
-        !self.holds_replies || look < self.settled.load(SeqCst)
+    fn may_tell(&self, look: u64) -> bool
+        ensures { self.now.holds_replies ≡ false → result ≡ true }
+    {
+        is_told(self.holds_replies, look, self.settled.load(SeqCst))
     }
+}
+
+/// Whether a client may have replies that were booked before the look of this number began, once so many looks were settled.
+fn is_told(holds_replies: bool, look: u64, settled: u64) -> bool
+    ensures { result ≡ (if holds_replies then nat_lt look settled else true) }
+{
+    !holds_replies || look < settled
 }
 
 /// Leaves the bus alone for a while, a short one where replies wait.

@@ -1,20 +1,23 @@
 //! The run `work` whose log is kept in a file while it grows: whatever ends the program, the file has a beginning of the log.
 
-ghost use Rattle.std.specs.Prelude.{◌≡◌, ℕ, ◌≤◌, ◌⊎◌, Bool, List, Option, None, IsTrue, false, true, map, IfErr, IfOk, IfSome};
+ghost use Rattle.std.specs.Prelude.{◌≡◌, ℕ, ◌≤◌, ◌⊎◌, Bool, List, Option, None, IsTrue, false, map, IfErr, IfOk};
 ghost use Rattle.std.specs.Io.KnownBytes.{Keeps};
 ghost use Rattle.byte_io.specs.Disks.{AreClients};
 ghost use Rattle.uas_work.specs.Booked.{first_unit};
-ghost use Rattle.work_run.specs.WorkEnds.{KeptGivesUp, Told, fault_of, why_of, work_units};
+ghost use Rattle.work_run.specs.WorkEnds.{fault_of, step_limit, why_of, work_units};
+ghost use Rattle.work_run.specs.KeptEnds.{HasWhole, KeptGivesUp, KeptTold, stop_fault};
 
 use crate::Load;
 use crate::faults::WorkFault;
 use crate::keeping::Keeping;
+use crate::locked_keeper::{KeptLog, LockedKeeper};
 use crate::run::{Worked, booked, fault_of, millis_since, ran_by, release, tell_work};
 use byte_io::Sink;
 use kept_log::Why;
 use log_keeper::{KeepStop, Keeper, KeptFile, KeptFiles};
 use std::alloc::Global;
 use std::io::Write;
+use std::marker::Brand;
 use std::rt::Clock;
 use std::sync::Wait;
 use std::thread::Threads;
@@ -46,8 +49,10 @@ pub fn run_kept_work<R: Threads + Wait + Clock + Sync, K: KeptFiles, O: Sink, W:
 ) -> u8
     requires { AreClients load.clients }
     ensures statuses { (result ≤ 1) ⊎ ((result ≡ 3) ⊎ (result ≡ 4)) }
-    ensures told { result ≤ 1 → Told load.clients load.rounds true (O.written output.old) (O.written output.new) result }
-    ensures fault { result ≡ 3 → IsTrue (O.can_fail output.old) ⊎ Keeps (O.written output.old) (O.written output.new) }
+    ensures told { result ≤ 1 → KeptTold load.clients load.rounds (K.tells files.old) (K.holds files.new kept.entry.file.now)
+        (O.written output.old) (O.written output.new) result }
+    ensures fault { result ≡ 3 → IsTrue (O.can_fail output.old)
+        ⊎ (IsTrue (K.can_fail files.old kept.entry.file.now) × Keeps (O.written output.old) (O.written output.new)) }
     ensures memory { result ≡ 4 → Keeps (O.written output.old) (O.written output.new) }
     ensures quiet { may_show_progress ≡ false → result ≤ 1 → faults.new ≡ faults.old }
 {
@@ -72,8 +77,10 @@ fn work<R: Threads + Wait + Clock + Sync, K: KeptFiles, O: Sink>(
 ) -> Result<Worked, WorkFault>
     requires { AreClients load.clients }
     ensures status { IfOk result (λ worked. worked.status ≤ 1) }
-    ensures told { IfOk result (λ worked. Told load.clients load.rounds true (O.written output.old) (O.written output.new) worked.status) }
-    ensures fault { IfErr result (KeptGivesUp (O.can_fail output.old) (O.written output.old) (O.written output.new)) }
+    ensures told { IfOk result (λ worked. KeptTold load.clients load.rounds (K.tells files.old) (K.holds files.new kept.entry.file.now)
+        (O.written output.old) (O.written output.new) worked.status) }
+    ensures fault { IfErr result (KeptGivesUp (K.can_fail files.old kept.entry.file.now) (O.can_fail output.old)
+        (O.written output.old) (O.written output.new)) }
 {
     let start = Instant::now(rt).ok();
     let finished = match ran_kept(rt, alloc, load, files, kept) {
@@ -100,48 +107,54 @@ fn ran_kept<R: Threads + Wait + Clock + Sync, K: KeptFiles>(
     requires { AreClients load.clients }
     ensures ended { IfOk result (λ finished. fault_of finished.ended ≡ None) }
     ensures units { IfOk result (λ finished. finished.booked.log.units ≡ map first_unit (work_units load.clients)) }
-    ensures fault { IfErr result (λ fault. (can_fail : Bool) → (text : Option (List ℕ)) → KeptGivesUp can_fail text text fault) }
+    ensures whole { IfOk result (λ finished. IsTrue (K.tells files.old)
+        → ∥ HasWhole finished.booked.log (why_of finished.ended) (K.holds files.new kept.entry.file.now) ∥₁) }
+    ensures fault { IfErr result (λ fault. (can_fail : Bool) → (text : Option (List ℕ))
+        → KeptGivesUp (K.can_fail files.old kept.entry.file.now) can_fail text text fault) }
 {
     let Ok(booked) = booked(alloc, load) else {
         return Err(WorkFault::Run(RunFault::NoMemory));
     };
-    match keeper_of(alloc, &booked, files, kept) {
-        Ok(keeper) => ran_with(rt, alloc, load, booked, keeper),
-        Err(stop) => Err(stopped(stop)),
-    }
-}
-
-/// The keeper of a bus's log, with its file.
-fn keeper_of<K: KeptFiles>(
-    alloc: Global,
-    booked: &Booked,
-    files: &mut K,
-    kept: Kept<'_>,
-) -> Result<Keeper<K::File>, KeepStop>
-    ensures { IfOk result (λ keeper. keeper.writer.every ≡ kept.entry.every) }
-{
-    let file = files.create(kept.file)?;
-    Ok(Keeper::new(alloc, booked.log(), kept.every, file)?)
+    ran_with::<Brand, R, K>(rt, alloc, load, booked, files, kept)
 }
 
 /// Lets the clients of a bus take their rounds while its log is kept, and ends it.
-fn ran_with<R: Threads + Wait + Clock + Sync, F: KeptFile + Drop + Send>(
+fn ran_with<J: KeptLog + Send + Sync, R: Threads + Wait + Clock + Sync, K: KeptFiles>(
     rt: &R,
     alloc: Global,
     load: Load,
     booked: Booked,
-    keeper: Keeper<F>,
+    files: &mut K,
+    kept: Kept<'_>,
 ) -> Result<Finished, WorkFault>
-    requires { booked.log.units ≡ map first_unit (work_units load.clients) }
+    requires units { booked.log.units ≡ J.units }
+    requires room { booked.limit ≡ step_limit load.clients load.rounds }
+    requires name { kept.file.now ≡ J.name }
+    requires tells { K.tells files.old ≡ J.tells }
+    requires fails { K.can_fail files.old kept.file.now ≡ J.can_fail }
     ensures ended { IfOk result (λ finished. fault_of finished.ended ≡ None) }
-    ensures units { IfOk result (λ finished. finished.booked.log.units ≡ map first_unit (work_units load.clients)) }
-    ensures fault { IfErr result (λ fault. (can_fail : Bool) → (text : Option (List ℕ)) → KeptGivesUp can_fail text text fault) }
+    ensures units { IfOk result (λ finished. finished.booked.log.units ≡ J.units) }
+    ensures whole { IfOk result (λ finished. IsTrue (K.tells files.old)
+        → ∥ HasWhole finished.booked.log (why_of finished.ended) (K.holds files.new kept.entry.file.now) ∥₁) }
+    ensures fault { IfErr result (λ fault. (can_fail : Bool) → (text : Option (List ℕ))
+        → KeptGivesUp (K.can_fail files.old kept.entry.file.now) can_fail text text fault) }
 {
+    let keeper = match keeper_of::<J, K>(alloc, &booked, files, kept) {
+        Ok(keeper) => keeper,
+        Err(stop) => return Err(stop_fault(stop)),
+    };
     let keeping = Keeping::new(rt, keeper);
     let Ok(finished) = ran_by(rt, alloc, load, booked, &keeping) else {
         return Err(WorkFault::Run(RunFault::NoMemory));
     };
-    match ended_fault(alloc, keeping, &finished) {
+    match end_log(alloc, keeping.into_keeper(), &finished) {
+        Ok(file) => files.close(file),
+        Err(stop) => {
+            release(finished);
+            return Err(stop_fault(stop));
+        }
+    }
+    match fault_of(finished.ended) {
         None => Ok(finished),
         Some(fault) => {
             release(finished);
@@ -150,28 +163,38 @@ fn ran_with<R: Threads + Wait + Clock + Sync, F: KeptFile + Drop + Send>(
     }
 }
 
-/// Ends the log of a run: the fault of that, or of the run.
-fn ended_fault<R, F: KeptFile + Drop>(
+/// The keeper of a bus's log, with its file.
+fn keeper_of<J: KeptLog, K: KeptFiles>(
     alloc: Global,
-    keeping: Keeping<'_, R, F>,
-    finished: &Finished,
-) -> Option<WorkFault>
-    ensures none { result ≡ None → fault_of finished.now.ended ≡ None }
-    ensures fault { IfSome result (λ fault. (can_fail : Bool) → (text : Option (List ℕ)) → KeptGivesUp can_fail text text fault) }
+    booked: &Booked,
+    files: &mut K,
+    kept: Kept<'_>,
+) -> Result<LockedKeeper<J, K::File>, KeepStop>
+    requires units { booked.now.log.units ≡ J.units }
+    requires name { kept.file.now ≡ J.name }
+    requires tells { K.tells files.old ≡ J.tells }
+    requires fails { K.can_fail files.old kept.file.now ≡ J.can_fail }
+    ensures every { IfOk result (λ keeper. keeper.keeper.writer.every ≡ kept.entry.every) }
+    ensures same { K.tells files.new ≡ K.tells files.old }
+    ensures fault { IfErr result (λ stop. stop ≡ KeepStop.File → IsTrue J.can_fail) }
 {
-    match end_log(alloc, keeping, finished) {
-        Ok(()) => fault_of(finished.ended),
-        Err(stop) => Some(stopped(stop)),
-    }
+    let file = files.create(kept.file)?;
+    let keeper = Keeper::new(alloc, booked.log(), kept.every, file)?;
+    Ok(LockedKeeper::new(keeper))
 }
 
-/// Writes what the file of a log doesn't have yet, and why the log ended.
-fn end_log<R, F: KeptFile + Drop>(
+/// Writes what the file of a log doesn't have yet, and why the log ended: the file.
+fn end_log<J: KeptLog, F: KeptFile + Drop>(
     alloc: Global,
-    keeping: Keeping<'_, R, F>,
+    keeper: LockedKeeper<J, F>,
     finished: &Finished,
-) -> Result<(), KeepStop> {
-    let mut keeper = keeping.into_keeper()?;
+) -> Result<F, KeepStop>
+    requires { finished.now.booked.log.units ≡ J.units }
+    ensures whole { IfOk result (λ file. IsTrue J.tells → ∥ HasWhole finished.now.booked.log (why_of finished.now.ended) (F.written file) ∥₁) }
+    ensures synced { IfOk result (λ file. F.synced file ≡ F.written file) }
+    ensures file { IfOk result (λ file. IsTrue (F.is_of file J.name)) }
+    ensures fault { IfErr result (λ stop. stop ≡ KeepStop.File → IsTrue J.can_fail) }
+{
     keeper.finish(alloc, finished.booked.log(), why_of(finished.ended))
 }
 
@@ -187,12 +210,15 @@ fn why_of(ended: Ended) -> Why
     }
 }
 
-/// The fault of a log that isn't kept any more.
-fn stopped(stop: KeepStop) -> WorkFault
-    ensures { (can_fail : Bool) → (text : Option (List ℕ)) → KeptGivesUp can_fail text text result }
+/// The fault of a log that isn't kept to its end.
+fn stop_fault(stop: KeepStop) -> WorkFault
+    ensures fault { result ≡ stop_fault stop }
+    ensures gives_up { (can_file_fail can_fail : Bool) → (text : Option (List ℕ)) → (stop ≡ KeepStop.File → IsTrue can_file_fail)
+        → KeptGivesUp can_file_fail can_fail text text result }
 {
     match stop {
-        KeepStop::Limits | KeepStop::File => WorkFault::LogFile,
+        KeepStop::Limits => WorkFault::LogFull,
         KeepStop::NoMemory => WorkFault::Run(RunFault::NoMemory),
+        KeepStop::File => WorkFault::LogFile,
     }
 }

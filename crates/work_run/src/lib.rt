@@ -18,13 +18,15 @@
 //! the text of that very log or what it had (specs/SavedEnds.antt). The log is its own replay, so whoever reads the file can audit again.
 //!
 //! [`run_kept_work`] keeps the log in the file while the threads work: a thread of its own gathers the records of the steps that were
-//! booked since, under the lock of the bus, and writes and syncs them outside of it. That the file has that log's records is tested.
+//! booked since, under the lock of the bus, and writes and syncs them outside of it. At the end the file has the whole text of a log, with all
+//! that the bus's log has behind the last look (specs/KeptEnds.antt); that what was written before is that log's too is tested.
 #![tactic(auto)]
 
 mod audits;
 mod faults;
 mod keeping;
 mod kept;
+mod locked_keeper;
 mod run;
 mod saved;
 mod tallies;

@@ -3,7 +3,8 @@
 ghost use Rattle.std.specs.Prelude.{◌≡◌, ℕ, ◌^◌, ◌<◌, ◌≤◌, Bool, List, Option, None, false, map, IfOk, IfErr, IfSome};
 ghost use Rattle.byte_io.specs.Disks.{AreClients};
 ghost use Rattle.uas_work.specs.Booked.{first_unit};
-ghost use Rattle.work_run.specs.WorkEnds.{GivesUp, KeptGivesUp, Told, WorkEnds, fault_of, step_limit, work_units};
+ghost use Rattle.work_run.specs.WorkEnds.{Audited, GivesUp, Told, WorkEnds, fault_of, step_limit, work_units};
+ghost use Rattle.work_run.specs.KeptEnds.{KeptGivesUp};
 
 use crate::Load;
 use crate::faults::WorkFault;
@@ -99,7 +100,8 @@ pub(crate) fn tell_work<O: Sink>(
     requires clients { AreClients load.clients }
     requires units { finished.now.booked.log.units ≡ map first_unit (work_units load.clients) }
     ensures status { IfOk result (λ worked. worked.status ≤ 1) }
-    ensures told { IfOk result (λ worked. Told load.clients load.rounds shows_audits (O.written output.old) (O.written output.new) worked.status) }
+    ensures told { IfOk result (λ worked. Audited load.clients load.rounds finished.now.booked.log shows_audits
+        (O.written output.old) (O.written output.new) worked.status) }
     ensures fault { IfErr result (GivesUp (O.can_fail output.old) (O.written output.old) (O.written output.new)) }
 {
     match tell(alloc, load, finished, shows_audits, output) {
@@ -147,7 +149,8 @@ pub(crate) fn ran<R: Threads + Wait + Sync>(
 pub(crate) fn fault_of(ended: Ended) -> Option<WorkFault>
     ensures fault { result ≡ fault_of ended }
     ensures gives_up { IfSome result (λ fault. (can_fail : Bool) → (text : Option (List ℕ)) → GivesUp can_fail text text fault) }
-    ensures kept { IfSome result (λ fault. (can_fail : Bool) → (text : Option (List ℕ)) → KeptGivesUp can_fail text text fault) }
+    ensures kept { IfSome result (λ fault. (can_file_fail can_fail : Bool) → (text : Option (List ℕ))
+        → KeptGivesUp can_file_fail can_fail text text fault) }
 {
     match ended {
         Ended::Done | Ended::Stopped => None,
@@ -156,7 +159,7 @@ pub(crate) fn fault_of(ended: Ended) -> Option<WorkFault>
     }
 }
 
-/// Lets the clients of a bus take their rounds, as far as a gate lets them.
+/// Lets the clients of a bus take the rounds for which its log has room, as far as a gate lets them.
 pub(crate) fn ran_by<R: Threads + Wait + Sync, G: Gate + Sync>(
     rt: &R,
     alloc: Global,
@@ -164,6 +167,7 @@ pub(crate) fn ran_by<R: Threads + Wait + Sync, G: Gate + Sync>(
     booked: Booked,
     gate: &G,
 ) -> Result<Finished, AllocError>
+    requires { booked.limit ≡ step_limit load.clients load.rounds }
     ensures { IfOk result (λ finished. finished.booked.log.units ≡ booked.log.units) }
 {
     spawn_all(rt, alloc, booked, gate, plan_of(load)).map_err(unstarted)

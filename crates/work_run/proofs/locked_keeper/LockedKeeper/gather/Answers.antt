@@ -1,0 +1,17 @@
+use Rattle.std.proofs.Math.Logic.{∥∥₁_map}
+use Rattle.work_run.specs.KeptEnds.{HasKept}
+use Rattle.work_run.proofs.KeptText.{has_more}
+use Rattle.work_run.proofs.locked_keeper.LockedKeeper.gather.Goals as goal
+
+-- the records that were gathered
+pub invariant_of-self-in_default : goal.invariant_of-self-in_default
+invariant_of-self-in_default g c =
+    let old = c.args.self.now in
+    record {
+      file = rw c.in_default.ensures.writer old.file;
+      fails = rw c.in_default.ensures.writer old.fails;
+      stopped = old.stopped;
+      text = λ is. ∥∥₁_map {B = HasKept g.J.KeptLog.tells g.J.KeptLog.units c.gather.new.self.place (g.F.KeptFile.written c.gather.new.self.writer.file)
+          c.gather.new.self.waiting.items} (old.text is) (λ kept.
+          rw c.in_default.ensures.writer (has_more _ _ c.args.log.now _ _ _ _ _ kept c.in_default.ensures.added));
+    }

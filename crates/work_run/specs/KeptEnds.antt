@@ -1,0 +1,57 @@
+-- How the run `work` ends that keeps its log: what is printed, what the file has, and the exit status.
+use Rattle.std.specs.Prelude.{◌≡◌, ℕ, Bool, true, IsTrue, List, ◌++◌, Option, None, Some}
+use Rattle.std.specs.Io.KnownBytes.{Keeps}
+use Rattle.uas_log.specs.declared.FirstUnit.{FirstUnit}
+use Rattle.uas_log.specs.declared.Log.{Log}
+use Rattle.kept_log.specs.declared.Why.{Why}
+use Rattle.log_keeper.specs.declared.Place.{Place}
+use Rattle.log_keeper.specs.Beginnings.{IsBeginning, IsWhole}
+use Rattle.log_keeper.specs.declared.stops.KeepStop.{KeepStop}
+use Rattle.log_keeper.specs.declared.stops.KeepStop.TheVariants as stop
+use Rattle.uas_work.specs.declared.Ended.{Ended}
+use Rattle.uas_replay.specs.declared.status.RunFault.TheVariants.{Image, ImageFile, Script, ScriptFile, NoMemory}
+use Rattle.work_run.specs.declared.faults.WorkFault.{WorkFault}
+use Rattle.work_run.specs.declared.faults.WorkFault.TheVariants.{LogFull, LogFile, Run}
+use Rattle.work_run.specs.WorkEnds.{Audited, fault_of, why_of}
+
+-- WHILE IT GROWS
+
+-- Of a file that tells its bytes: they and those that wait for it are the beginning of a log of these units, up to a place.
+pub record HasKept (tells : Bool) (units : List FirstUnit) (place : Place) (written : Option (List ℕ)) (waiting : List ℕ) : Type 0 where
+  pub given : List ℕ
+  pub known : IsTrue tells → written ≡ Some given
+  pub begins : IsBeginning units place (given ++ waiting)
+
+-- AT ITS END
+
+-- a file has the whole text of a log that ended for this reason, with all that this log has behind some place
+pub record HasWhole (log : Log) (why : Why) (held : Option (List ℕ)) : Type 0 where
+  pub bytes : List ℕ
+  pub known : held ≡ Some bytes
+  pub whole : IsWhole log why bytes
+
+-- The lines of clients and audits were printed, of a bus with a log whose threads met no fault; and the file holds the whole text of a log,
+-- where the host tells what its files hold.
+pub record KeptTold (clients rounds : ℕ) (tells : Bool) (held : Option (List ℕ)) (old new : Option (List ℕ)) (status : ℕ) : Type 0 where
+  pub log : Log
+  pub ended : Ended
+  pub audited : Audited clients rounds log true old new status
+  pub faultless : fault_of ended ≡ None
+  pub text : IsTrue tells → ∥ HasWhole log (why_of ended) held ∥₁
+
+-- the fault of a log that isn't kept to its end: a step past the limits of its text is one that it has no room for
+abbrev pub stop_fault : KeepStop → WorkFault
+stop_fault stop.Limits = LogFull
+stop_fault stop.NoMemory = Run NoMemory
+stop_fault stop.File = LogFile
+
+-- A run gives up before its lines are printed: for want of memory, at a full log, or at a fault of the log's file where that can fail; or at
+-- a fault of standard output, where that can fail.
+abbrev pub KeptGivesUp : Bool → Bool → Option (List ℕ) → Option (List ℕ) → WorkFault → Type 0
+KeptGivesUp can_file_fail can_fail old new LogFull = Keeps old new
+KeptGivesUp can_file_fail can_fail old new LogFile = IsTrue can_file_fail × Keeps old new
+KeptGivesUp can_file_fail can_fail old new (Run (Image fault)) = ⊥
+KeptGivesUp can_file_fail can_fail old new (Run ImageFile) = ⊥
+KeptGivesUp can_file_fail can_fail old new (Run (Script fault)) = ⊥
+KeptGivesUp can_file_fail can_fail old new (Run ScriptFile) = IsTrue can_fail
+KeptGivesUp can_file_fail can_fail old new (Run NoMemory) = Keeps old new

@@ -58,6 +58,7 @@ pub fn run_serve<B: Blocks, S: Source, O: Output, F: Output>(
         (F.written faults.old) (F.written faults.new))) }
     ensures absent { IsNone file.old → IsReported ServeFault.File result (F.can_fail faults.old) (F.written faults.old) (F.written faults.new)
         × (O.written output.new ≡ O.written output.old) }
+    ensures quiet { result ≡ 0 → F.written faults.new ≡ F.written faults.old }
     // Whatever ends the session, what a file holds that can't fail is safe in the end, or the file is as it was.
     ensures rescued { IfSome file.old (λ was. IfSome file.new (λ kept.
         IsTrue (B.tells was) → B.can_fail was ≡ false → (B.synced kept ≡ B.holds kept) ⊎ (kept ≡ was))) }

@@ -4,20 +4,20 @@ use std::env;
 use std::path::PathBuf;
 use std::process::exit;
 
+// Where the archive lies, from this folder, and who makes it: bindings/package writes its own in place of these.
+const FOLDER: &str = "../../crates/uas_c/out";
+const MAKER: &str = "bindings/archive proves and makes it, in some 10 minutes where the crates below are proved, else some 40";
+
 fn main() {
     println!("cargo:rerun-if-env-changed=UAS_ARCHIVE_DIR");
     let folder = match env::var_os("UAS_ARCHIVE_DIR") {
         Some(folder) => PathBuf::from(folder),
-        None => PathBuf::from(env::var_os("CARGO_MANIFEST_DIR").unwrap_or_default()).join("../../crates/uas_c/out"),
+        None => PathBuf::from(env::var_os("CARGO_MANIFEST_DIR").unwrap_or_default()).join(FOLDER),
     };
     let archive = folder.join("libuas.a");
     println!("cargo:rerun-if-changed={}", archive.display());
     if !archive.exists() {
-        eprintln!(
-            "{} isn't there. bindings/archive proves and makes it, in some 10 minutes where the crates below are proved and some 40 on a \
-             fresh clone and four processors; UAS_ARCHIVE_DIR names another folder that has it.",
-            archive.display()
-        );
+        eprintln!("{} isn't there. {MAKER}; UAS_ARCHIVE_DIR names another folder that has it.", archive.display());
         exit(1);
     }
     println!("cargo:rustc-link-search=native={}", folder.display());

@@ -345,6 +345,26 @@ static void stop_before_event_data(void)
     gather(&one, 1, 10 * ZONE, 512);
 }
 
+/* Endpoint 0 is stopped in a Data Stage, between its two TRBs: the second one is told with what is left of it, and goes on. */
+static void stop_data_stage(void)
+{
+    put(&control, 0x0012000001000680, 8, SETUP | IDT | 3 << 16);
+    put(&control, scratch, 8, DATA | DIR_IN | CH);
+    uint64_t second = put(&control, scratch + 8, 10, DATA | DIR_IN | IOC);
+    expect(CONTROL, 0, second, SUCCESS, 0, false);
+    expect(CONTROL, 0, put(&control, 0, 0, STATUS | IOC), SUCCESS, 0, false);
+    ring_doorbell(CONTROL, 0);
+    work(2);
+    stop(CONTROL);
+    SAME(stops, 1);
+    SAME(stopped.code, STOPPED);
+    SAME(stopped.pointer, second);
+    SAME(stopped.length, 10);
+    ring_doorbell(CONTROL, 0);
+    finish();
+    SAME(load(scratch + 8, 4), 0x000346f4); /* vendor, product */
+}
+
 /* A block that can't be read, in the second chunk; one that can't be written, in the first, whose TD waits until the driver takes it away. */
 static void bad_blocks(uint32_t chunk)
 {
@@ -638,6 +658,7 @@ int main(int words, char **word)
         stop_and_go(chunks[i], false);
         stop_and_go(chunks[i], true);
         stop_before_event_data();
+        stop_data_stage();
         printf("  No Ops, Stop Endpoint in a TRB, Set TR Dequeue Pointer\n");
         bad_blocks(chunks[i]);
         wrong_trbs();

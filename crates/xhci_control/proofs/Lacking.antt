@@ -13,7 +13,7 @@ use Rattle.guest_rings.specs.Ends.{cursor_in, fetched, looked, owned}
 use Rattle.guest_rings.specs.Wanted.{LacksIt, look_wanted, missing}
 use Rattle.guest_rings.specs.WantedLaws.{look_there, map_some, missing_lacks}
 use Rattle.guest_pipes.specs.declared.acted.Acted.{Acted}
-use Rattle.guest_pipes.specs.Gate.{gate, stop_looked, stop_told}
+use Rattle.guest_pipes.specs.Gate.{gate}
 use Rattle.guest_pipes.specs.Progress.{runs}
 use Rattle.guest_pipes.specs.Wanted.{wanted_through}
 use Rattle.guest_pipes.specs.WantedLaws.{gate_lacks}
@@ -21,7 +21,7 @@ use Rattle.xhci_control.specs.declared.pipe.ControlPipe.{ControlPipe}
 use Rattle.xhci_control.specs.declared.trb.ControlTrb.{ControlTrb}
 use Rattle.xhci_control.specs.declared.trb.ControlTrb.TheVariants.{SetupStage, DataStage, StatusStage, Other}
 use Rattle.xhci_control.specs.Stages.{is_data, stalls, takes}
-use Rattle.xhci_control.specs.Steps.{ControlWorld, after, cursor_at, is_in_data, ring_of, served_by, stepped, taken_by, through}
+use Rattle.xhci_control.specs.Steps.{ControlWorld, after, control_stop_told, control_stopped, cursor_at, is_in_data, served_by, stepped, taken_by, through}
 use Rattle.xhci_control.specs.Trbs.{control_in}
 use Rattle.xhci_control.specs.Wanted.{control_wanted, data_wanted, front_wanted, given_range, moved_wanted, other_wanted, trb_wanted, words_wanted}
 
@@ -43,8 +43,8 @@ control_there w none = by_gate (gate w.memory w.events w.pipe.consumer) none
     by_gate (Some None) none = by_cursor (cursor_at w.memory w.pipe.home) none
     by_gate (Some (Some acted)) none = refl
 
-pub stop_there : (w : ControlWorld) → look_wanted w.memory (Endpoint w.pipe.home) ≡ None → is_some (stop_looked (ring_of w) (Endpoint w.pipe.home)) ≡ true
-stop_there w none = map_some (stop_told (ring_of w)) (looked w.memory (Endpoint w.pipe.home)) ∙ look_there w.memory (Endpoint w.pipe.home) none
+pub stop_there : (w : ControlWorld) → look_wanted w.memory (Endpoint w.pipe.home) ≡ None → is_some (control_stopped w) ≡ true
+stop_there w none = map_some (control_stop_told w) (looked w.memory (Endpoint w.pipe.home)) ∙ look_there w.memory (Endpoint w.pipe.home) none
 
 moved_lacks : (memory : Memory) (pipe : ControlPipe) (pointer room : ℕ) → LacksIt memory (moved_wanted memory pipe pointer room)
 moved_lacks memory pipe pointer room = by_tests (runs pipe.consumer.progress.ending) (room == 0 || takes pipe.stage)

@@ -12,17 +12,17 @@ use Rattle.guest_rings.specs.declared.trb.Flags.{Flags}
 use Rattle.guest_rings.specs.declared.trb.PipeTrb.{PipeTrb}
 use Rattle.guest_rings.specs.declared.trb.PipeTrb.TheVariants.{Normal, Link, NoOp, EventData, Foreign}
 use Rattle.guest_rings.specs.declared.words.Words.{Words}
-use Rattle.guest_rings.specs.Ends.{cursor_in, fetched}
+use Rattle.guest_rings.specs.Ends.{cursor_in, fetched, looked}
 use Rattle.guest_rings.specs.Events.{EventEnd}
 use Rattle.guest_pipes.specs.declared.acted.Acted.{Acted}
 use Rattle.guest_pipes.specs.declared.acted.Acted.TheVariants.{Emptied, Worked}
 use Rattle.guest_pipes.specs.declared.consumer.Consumer.{Consumer}
 use Rattle.guest_pipes.specs.declared.consumer.EndpointState.{EndpointState}
 use Rattle.guest_pipes.specs.declared.consumer.EndpointState.TheVariants.{Disabled, Running, Halted, Stopped, Error}
-use Rattle.guest_pipes.specs.Progress.{fresh, runs}
+use Rattle.guest_pipes.specs.Progress.{code_of, fresh, runs}
 use Rattle.guest_pipes.specs.Pipe.{recovered}
-use Rattle.guest_pipes.specs.Step.{World, data_told, erred, failed, filled, in_state, posted, poured, shortened, skipped, used_up, with_progress}
-use Rattle.guest_pipes.specs.Gate.{gate, took_other as pipe_took_other}
+use Rattle.guest_pipes.specs.Step.{World, about, data_told, erred, failed, filled, in_state, posted, poured, shortened, skipped, used_up, with_progress}
+use Rattle.guest_pipes.specs.Gate.{gate, stop_event, took_other as pipe_took_other}
 use Rattle.usb_disk.specs.declared.Setup.{Setup as SetupPacket}
 use Rattle.usb_disk.specs.Answers.{controlled, reset_disk}
 use Rattle.xhci_control.specs.declared.pipe.ControlPipe.{ControlPipe}
@@ -85,6 +85,34 @@ forgotten pipe = record pipe { consumer = record pipe.consumer { state = recover
 abbrev pub halt_reset : Bool → ControlPipe → ControlPipe
 halt_reset true pipe = record pipe { consumer = record pipe.consumer { state = Stopped } }
 halt_reset false pipe = forgotten (record pipe { consumer = record pipe.consumer { state = Stopped } })
+
+-- STOP ENDPOINT
+
+-- what is left of a Data Stage TRB
+abbrev pub left_of : ControlTrb → ℕ → Option ℕ
+left_of (SetupStage setup flags) moved = None
+left_of (DataStage pointer room to_host flags) moved = Some (room - moved)
+left_of (StatusStage flags) moved = None
+left_of (Other trb) moved = None
+
+abbrev pub left_in : Consumer → Option (Option Words) → Option ℕ
+left_in consumer None = None
+left_in consumer (Some None) = None
+left_in consumer (Some (Some words)) = left_of (control_in words) consumer.progress.moved
+
+-- What is posted of the ring where its front TD was begun (4.6.9): as of any pipe, but that a Data Stage TRB is as a Normal one.
+abbrev pub stop_event_by : Consumer → Front → Option ℕ → Event
+stop_event_by consumer front None = stop_event consumer front
+stop_event_by consumer front (Some rest) =
+    if code_of consumer.progress.ending == 13 then stop_event consumer front else about consumer front.cursor.place rest 26
+
+abbrev pub control_stop_told : ControlWorld → Front → World
+control_stop_told w front =
+    posted (ring_of w) (stop_event_by w.pipe.consumer front (left_in w.pipe.consumer (fetched w.memory front.cursor))) false
+
+-- None where a byte of the ring's end or of the TRB there isn't there
+abbrev pub control_stopped : ControlWorld → Option World
+control_stopped w = option_map (control_stop_told w) (looked w.memory (Endpoint w.pipe.home))
 
 -- A TRB
 

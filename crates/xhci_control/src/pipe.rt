@@ -4,12 +4,11 @@ ghost use Rattle.std.specs.Result.{result_ok};
 ghost use Rattle.byteorder.specs.Endian.{little_number};
 ghost use Rattle.guest_memory.specs.Bytes.{bytes_from, is_there};
 ghost use Rattle.guest_pipes.specs.Step.{has_home, has_place};
-ghost use Rattle.guest_pipes.specs.Gate.{stop_looked};
 ghost use Rattle.guest_rings.specs.declared.context.Home.TheVariants.{Endpoint};
-ghost use Rattle.guest_rings.specs.Ends.{cursor_in, fetched};
+ghost use Rattle.guest_rings.specs.Ends.{cursor_in, fetched, looked};
 ghost use Rattle.xhci_control.specs.Stages.{is_restarted, left};
-ghost use Rattle.xhci_control.specs.Steps.{ControlWorld, asked, configured, consumer_in, cursor_at, data_ended, disabled, disk_reset, forgotten, front_at};
-ghost use Rattle.xhci_control.specs.Steps.{gave, gone_to, halt_reset, is_in_data, moved_by, moved_data, opened, rung_in, served_by, sets_address, stalled, stepped, stopped};
+ghost use Rattle.xhci_control.specs.Steps.{ControlWorld, asked, configured, consumer_in, control_stopped, cursor_at, data_ended, disabled, disk_reset, forgotten, front_at};
+ghost use Rattle.xhci_control.specs.Steps.{gave, gone_to, halt_reset, is_in_data, left_in, moved_by, moved_data, opened, rung_in, served_by, sets_address, stalled, stepped, stopped};
 ghost use Rattle.xhci_control.specs.Steps.{taken_by, taken_count, took, took_data, took_normal, took_other, took_setup, took_status, trb_ended, after, worked};
 
 use crate::stage::Stage;
@@ -17,11 +16,17 @@ use crate::trb::{ControlTrb, read_control};
 use byteorder::{ByteOrder, LittleEndian};
 use guest_memory::{GuestMemory, Outside};
 use guest_pipes::{Acted, Consumer, EndpointState, Progress};
-use guest_rings::{Cursor, EventRing, Found, Front, Home, Words, fetch};
+use guest_rings::{Cursor, Event, EventRing, Found, Front, Home, Words, fetch, look};
 use usb_disk::{Answer, Setup, UsbDisk};
 
 /// Stall Error (table 6-90).
 pub(crate) const STALL_ERROR: u8 = 6;
+
+/// Stopped (table 6-90).
+const STOPPED: u8 = 26;
+
+/// Short Packet (table 6-90).
+const SHORT_PACKET: u8 = 13;
 
 /// Endpoint 0's ID.
 pub(crate) const CONTROL_ENDPOINT: u8 = 1;
@@ -171,6 +176,7 @@ impl ControlPipe {
 
     /// Posts what Stop Endpoint posts of its ring where its front TD was begun (4.6.9). Refused where a byte of the ring's end or of the
     /// TRB there isn't there, and then nothing changes.
+    #[tactic(auto, unfolding(guest_pipes::specs::Step::posted))]
     pub fn tell_stopped<M: GuestMemory>(
         &self,
         memory: &mut M,
@@ -178,13 +184,44 @@ impl ControlPipe {
     ) -> Result<(), Outside>
         requires room { has_place (M.contents memory.old) events.old ≡ true }
         ensures step { record { memory = M.contents memory.new; events = events.new; consumer = self.now.consumer }
-            ≡ unwrap_or (stop_looked (record { memory = M.contents memory.old; events = events.old; consumer = self.now.consumer }) (Endpoint self.now.home))
+            ≡ unwrap_or (control_stopped (record { memory = M.contents memory.old; events = events.old; pipe = self.now }))
             (record { memory = M.contents memory.old; events = events.old; consumer = self.now.consumer }) }
-        ensures done { is_ok result ≡ is_some (stop_looked (record { memory = M.contents memory.old; events = events.old; consumer = self.now.consumer }) (Endpoint self.now.home)) }
+        ensures done { is_ok result ≡ is_some (control_stopped (record { memory = M.contents memory.old; events = events.old; pipe = self.now })) }
         ensures same_loan { M.loan memory.new ≡ M.loan memory.old }
     {
-        self.consumer
-            .tell_stopped(memory, events, Home::Endpoint { at: self.home })
+        let home = Home::Endpoint { at: self.home };
+        let front = look(memory, home)?;
+        match self.stage_left(memory, front.cursor) {
+            Some(residual) if self.consumer.progress.ending.code() != SHORT_PACKET => {
+                let event = Event::Transfer {
+                    pointer: front.cursor.place,
+                    residual,
+                    code: STOPPED,
+                    endpoint: self.consumer.endpoint,
+                    event_data: false,
+                };
+                events.post(memory, &event, false);
+                Ok(())
+            }
+            Some(_) | None => self.consumer.tell_stopped(memory, events, home),
+        }
+    }
+
+    /// What is left of the Data Stage TRB at a cursor; none where another stands there.
+    fn stage_left<M: GuestMemory>(&self, memory: &M, cursor: Cursor) -> Option<u32>
+        ensures { result ≡ left_in self.now.consumer (fetched (M.contents memory.now) cursor) }
+    {
+        match fetch(memory, cursor) {
+            Ok(Some(words)) => match read_control(words) {
+                ControlTrb::DataStage { length, .. } => {
+                    Some(length.saturating_sub(self.consumer.progress.moved))
+                }
+                ControlTrb::SetupStage { .. }
+                | ControlTrb::StatusStage { .. }
+                | ControlTrb::Other(_) => None,
+            },
+            Ok(None) | Err(Outside) => None,
+        }
     }
 
     /// Takes the TRB in front, where there is one. Refused where a byte of the event's place, of the ring's end or of the TRB isn't there,

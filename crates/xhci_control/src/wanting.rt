@@ -1,11 +1,11 @@
 //! What a step of endpoint 0 lacks, for a caller who copies in what is asked for.
 ghost use Rattle.std.specs.Prelude.{◌≡◌, ◌&&◌, None, is_some, true};
-ghost use Rattle.guest_pipes.specs.Gate.{is_running, stop_looked};
+ghost use Rattle.guest_pipes.specs.Gate.{is_running};
 ghost use Rattle.guest_pipes.specs.Step.{World};
 ghost use Rattle.guest_rings.specs.declared.context.Home.TheVariants.{Endpoint};
 ghost use Rattle.guest_rings.specs.Ends.{fetched};
 ghost use Rattle.guest_rings.specs.Wanted.{LacksIt, look_wanted, missing};
-ghost use Rattle.xhci_control.specs.Steps.{ControlWorld, cursor_at, ring_of, stepped};
+ghost use Rattle.xhci_control.specs.Steps.{ControlWorld, control_stopped, cursor_at, stepped};
 ghost use Rattle.xhci_control.specs.Wanted.{control_wanted, data_wanted, front_wanted, given_range, moved_wanted, normal_wanted, other_wanted, trb_wanted, words_wanted};
 
 use crate::pipe::{ControlPipe, cursor_at};
@@ -141,7 +141,7 @@ impl ControlPipe {
 /// Law: a step that lacks nothing isn't refused, and neither is what Stop Endpoint posts.
 pub fn what_lacks_nothing_is_taken()
     ensures of_step { (w : ControlWorld) → control_wanted w ≡ None → is_some (stepped w).1 ≡ true }
-    ensures of_stop { (w : ControlWorld) → look_wanted w.memory (Endpoint w.pipe.home) ≡ None → is_some (stop_looked (ring_of w) (Endpoint w.pipe.home)) ≡ true }
+    ensures of_stop { (w : ControlWorld) → look_wanted w.memory (Endpoint w.pipe.home) ≡ None → is_some (control_stopped w) ≡ true }
 {}
 
 /// Law: what a step lacks isn't empty, and not all of it is there.

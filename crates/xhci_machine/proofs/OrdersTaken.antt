@@ -23,6 +23,7 @@ use Rattle.guest_transfers.specs.declared.control.StreamPipe.TheVariants.{Status
 use Rattle.guest_transfers.specs.Orders.{dequeue_moved, pipe_of}
 use Rattle.xhci_control.specs.Steps.{forgotten as control_forgotten}
 use Rattle.guest_transfers.specs.Orders.{command_forgotten}
+use Rattle.xhci_control.specs.Steps.{control_stop_told}
 use Rattle.xhci_machine.specs.declared.Machine.{Machine}
 use Rattle.xhci_machine.specs.declared.command.Order.{Order}
 use Rattle.xhci_machine.specs.declared.command.Order.TheVariants.{Reset, Stop, SetDequeue}
@@ -31,7 +32,7 @@ use Rattle.xhci_machine.specs.declared.orders.Endpoint.TheVariants.{Control, Com
 use Rattle.xhci_machine.specs.declared.ring.Ended.{Ended}
 use Rattle.xhci_machine.specs.Lacking.{begun_or_none, begun_wanted, dequeue_wanted_in, moved_wanted, order_wanted, pointer_wanted, stop_wanted_by}
 use Rattle.xhci_machine.specs.Lacking.{stopping_wanted, stream_wanted}
-use Rattle.xhci_machine.specs.Orders.{begun_in, begun_told, dequeue_in, endpoint_of, home_in, moved, next_begun, order_coded, order_done, order_on, pointer_set}
+use Rattle.xhci_machine.specs.Orders.{begun_in, begun_told, dequeue_in, endpoint_of, home_in, moved, next_begun, order_coded, order_done, order_on, pointer_set, ring_stopped}
 use Rattle.xhci_machine.specs.Orders.{ring_of, state_in, stop_by, stop_done, stop_in, stop_told_from, stopped_on, stream_moved, stream_success, told_from}
 use Rattle.xhci_machine.specs.Orders.{told_or_not, with_dequeue, with_next, with_ring, with_slot, with_success}
 use Rattle.xhci_machine.specs.Ring.{ended, pointer_home}
@@ -78,7 +79,13 @@ tells_begun : (w : World) (endpoint : Endpoint) (stream : ℕ) → has_place w.m
     → begun_wanted w.memory w.machine endpoint stream ≡ None → is_some (begun_told w endpoint stream) ≡ true
 unfolding begun_told
 tells_begun w endpoint stream place none =
-    rw place (map_some (with_ring w) _ ∙ map_some (stop_told (ring_of w endpoint stream)) _ ∙ begun_found w endpoint stream none)
+    rw place (map_some (with_ring w) _ ∙ stops endpoint stream none)
+  where
+    stops : (of : Endpoint) (number : ℕ) → begun_wanted w.memory w.machine of number ≡ None → is_some (ring_stopped w of number) ≡ true
+    stops Control number lacks =
+        map_some (control_stop_told (record { memory = w.memory; events = w.events; pipe = w.machine.control })) _ ∙ begun_found w Control number lacks
+    stops Command number lacks = map_some (stop_told (ring_of w Command number)) _ ∙ begun_found w Command number lacks
+    stops (Streams name) number lacks = map_some (stop_told (ring_of w (Streams name) number)) _ ∙ begun_found w (Streams name) number lacks
 
 told_well : (w : World) (told : Option World) → is_some told ≡ true → EndsWell (told_or_not w told)
 told_well w None is = absurd (false≢true is)

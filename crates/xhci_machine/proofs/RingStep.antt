@@ -5,7 +5,7 @@ use Rattle.guest_memory.specs.Bytes.{Memory}
 use Rattle.guest_pipes.specs.declared.acted.Acted.{Acted}
 use Rattle.guest_pipes.specs.declared.consumer.EndpointState.{EndpointState}
 use Rattle.guest_pipes.specs.declared.consumer.EndpointState.TheVariants.{Disabled as IsDisabled, Running, Halted, Stopped, Error}
-use Rattle.guest_pipes.specs.Gate.{room_gate, stop_looked}
+use Rattle.guest_pipes.specs.Gate.{room_gate}
 use Rattle.guest_pipes.specs.Pipe.{has_stream}
 use Rattle.guest_pipes.specs.Step.{World as RingWorld, has_place}
 use Rattle.guest_rings.specs.declared.cursor.Cursor.{Cursor}
@@ -31,7 +31,7 @@ use Rattle.xhci_machine.specs.declared.orders.Endpoint.{Endpoint}
 use Rattle.xhci_machine.specs.declared.orders.Endpoint.TheVariants.{Control, Command, Streams}
 use Rattle.xhci_machine.specs.declared.ring.Ended.{Ended}
 use Rattle.xhci_machine.specs.Commands.{command_in}
-use Rattle.xhci_machine.specs.Orders.{begun_in, begun_told, dequeue_in, endpoint_of, halt_ended, home_in, moved, order_coded, order_done, order_on, pointer_set, reset_in, ring_of, state_in, stop_by, stop_done, stop_in, stop_told_from, stopped_on, stream_moved, stream_success, told_from, told_or_not, with_dequeue, with_next, with_ring, with_slot, with_success}
+use Rattle.xhci_machine.specs.Orders.{begun_in, begun_told, dequeue_in, endpoint_of, halt_ended, home_in, moved, order_coded, order_done, order_on, pointer_set, reset_in, ring_stopped, state_in, stop_by, stop_done, stop_in, stop_told_from, stopped_on, stream_moved, stream_success, told_from, told_or_not, with_dequeue, with_next, with_ring, with_slot, with_success}
 use Rattle.xhci_registers.specs.Writes.{has_slots}
 use Rattle.xhci_machine.specs.Ring.{changed, command_changed, command_cursor, commanded, control_changed, ended, is_enable, on_slot_done, pipe_changed}
 use Rattle.xhci_machine.specs.Steps.{command_ended, command_taken, commands_stepped, endpoint_command_taken, endpoint_ended, fetched_taken, front_taken, link_followed, slot_command_taken, slot_ended, stop_posted, taken_by, through, told_and_stood, with_done, worked_if}
@@ -130,7 +130,7 @@ module _ (P : GuestTasks → Type 0) where
   told : (w : World) (endpoint : Endpoint) (stream : ℕ) → Holds w → IfTold (begun_told w endpoint stream)
   unfolding begun_told
   told w endpoint stream p =
-      let ring : Option RingWorld = stop_looked (ring_of w endpoint stream) (home_in w.machine endpoint stream) in
+      let ring : Option RingWorld = ring_stopped w endpoint stream in
       either IfTold (has_place w.memory w.events) (option_map (with_ring w) ring) None (told_by w ring p) tt
 
   told_else : (w : World) (after : Option World) → Holds w → IfTold after → Holds (told_or_not w after).0

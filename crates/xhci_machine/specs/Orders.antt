@@ -16,7 +16,7 @@ use Rattle.guest_transfers.specs.declared.control.StreamPipe.{StreamPipe}
 use Rattle.guest_transfers.specs.declared.control.StreamPipe.TheVariants.{Status, DataOut, DataIn}
 use Rattle.guest_transfers.specs.Orders.{command_forgotten, command_stopped, dequeue_moved, pipe_of, pipe_reset, with_pipe}
 use Rattle.guest_transfers.specs.State.{TransfersState}
-use Rattle.xhci_control.specs.Steps.{forgotten as control_forgotten, halt_reset, stopped as control_stopped}
+use Rattle.xhci_control.specs.Steps.{control_stopped as control_stop, forgotten as control_forgotten, halt_reset, stopped as control_stopped}
 use Rattle.xhci_machine.specs.declared.Machine.{Machine}
 use Rattle.xhci_machine.specs.declared.command.Order.{Order}
 use Rattle.xhci_machine.specs.declared.command.Order.TheVariants.{Reset, Stop, SetDequeue}
@@ -85,11 +85,17 @@ ring_of w endpoint stream = record { memory = w.memory; events = w.events; consu
 abbrev pub with_ring : World → RingWorld → World
 with_ring w ring = record w { memory = ring.memory; events = ring.events }
 
+-- the ring once that is posted which Stop Endpoint posts of it; endpoint 0 has a Data Stage beside Normal TRBs
+abbrev pub ring_stopped : World → Endpoint → ℕ → Option RingWorld
+ring_stopped w Control stream = control_stop (record { memory = w.memory; events = w.events; pipe = w.machine.control })
+ring_stopped w Command stream = stop_looked (ring_of w Command stream) (home_in w.machine Command stream)
+ring_stopped w (Streams name) stream = stop_looked (ring_of w (Streams name) stream) (home_in w.machine (Streams name) stream)
+
 -- what is posted of a ring whose TD in front was begun
 unfoldable pub begun_told : World → Endpoint → ℕ → Option World
 begun_told w endpoint stream =
     if has_place w.memory w.events
-    then option_map (with_ring w) (stop_looked (ring_of w endpoint stream) (home_in w.machine endpoint stream)) else None
+    then option_map (with_ring w) (ring_stopped w endpoint stream) else None
 
 -- the stream that is looked at next
 abbrev pub with_next : World → Option ℕ → World

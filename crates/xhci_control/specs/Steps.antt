@@ -27,9 +27,8 @@ use Rattle.usb_disk.specs.declared.Setup.{Setup as SetupPacket}
 use Rattle.usb_disk.specs.Answers.{controlled, reset_disk}
 use Rattle.xhci_control.specs.declared.pipe.ControlPipe.{ControlPipe}
 use Rattle.xhci_control.specs.declared.pipe.Served.{Served}
-use Rattle.xhci_control.specs.declared.stage.Given.TheVariants.{Taken}
 use Rattle.xhci_control.specs.declared.stage.Stage.{Stage}
-use Rattle.xhci_control.specs.declared.stage.Stage.TheVariants.{Setup, Data, Status}
+use Rattle.xhci_control.specs.declared.stage.Stage.TheVariants.{Setup}
 use Rattle.xhci_control.specs.declared.trb.ControlTrb.{ControlTrb}
 use Rattle.xhci_control.specs.declared.trb.ControlTrb.TheVariants.{SetupStage, DataStage, StatusStage, Other}
 use Rattle.xhci_control.specs.Stages.{advanced, after_setup, behind_data, behind_data_if, directed, is_data, is_restarted, is_setup, left, stalls, takes}

@@ -1,6 +1,6 @@
 -- What a TRB in the ring of endpoint 0 is (xHCI 6.4.1.2): a Setup Stage with eight bytes of immediate data, a Data Stage of at most 65,536
 -- bytes whose DIR is bit 16, a Status Stage; any other is what it is in a pipe's ring.
-use Rattle.std.specs.Prelude.{ℕ, ◌%◌, ◌==◌, nat_lt, ◌||◌, not, false, if◌then◌else◌}
+use Rattle.std.specs.Prelude.{◌%◌, ◌==◌, nat_lt, ◌||◌, not, false, if◌then◌else◌}
 use Rattle.byteorder.specs.Endian.{little_bytes}
 use Rattle.guest_rings.specs.declared.words.Words.{Words}
 use Rattle.guest_rings.specs.declared.trb.Flags.{Flags}

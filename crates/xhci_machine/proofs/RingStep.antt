@@ -31,7 +31,7 @@ use Rattle.xhci_machine.specs.declared.orders.Endpoint.{Endpoint}
 use Rattle.xhci_machine.specs.declared.orders.Endpoint.TheVariants.{Control, Command, Streams}
 use Rattle.xhci_machine.specs.declared.ring.Ended.{Ended}
 use Rattle.xhci_machine.specs.Commands.{command_in}
-use Rattle.xhci_machine.specs.Orders.{begun_in, begun_told, dequeue_in, endpoint_of, halt_ended, home_in, moved, order_coded, order_done, order_on, pointer_set, reset_in, ring_stopped, state_in, stop_by, stop_done, stop_in, stop_told_from, stopped_on, stream_moved, stream_success, told_from, told_or_not, with_dequeue, with_next, with_ring, with_slot, with_success}
+use Rattle.xhci_machine.specs.Orders.{begun_in, begun_told, dequeue_in, endpoint_of, halt_ended, moved, order_coded, order_done, order_on, pointer_set, reset_in, ring_stopped, state_in, stop_by, stop_done, stop_in, stop_told_from, stopped_on, stream_moved, stream_success, told_from, told_or_not, with_dequeue, with_next, with_ring, with_slot, with_success}
 use Rattle.xhci_registers.specs.Writes.{has_slots}
 use Rattle.xhci_machine.specs.Ring.{changed, command_changed, command_cursor, commanded, control_changed, ended, is_enable, on_slot_done, pipe_changed}
 use Rattle.xhci_machine.specs.Steps.{command_ended, command_taken, commands_stepped, endpoint_command_taken, endpoint_ended, fetched_taken, front_taken, link_followed, slot_command_taken, slot_ended, stop_posted, taken_by, through, told_and_stood, with_done, worked_if}

@@ -1,1 +1,3 @@
 mod Digits
+pub mod Reading
+pub mod Parts

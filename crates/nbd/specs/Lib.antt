@@ -1,3 +1,2 @@
 pub mod Transmission
 pub mod Handshake
-pub mod Streams

@@ -3,7 +3,7 @@ use Rattle.std.proofs.Common.{◌≡◌, ℕ, zero, suc, ◌+◌, ◌-◌, ◌<�
 use Rattle.std.specs.Io.KnownBytes.{Consumes, Keeps}
 use Rattle.std.proofs.KnownBytes.{Consumes-kept, Consumes-nil, Consumes-trans}
 use Rattle.std.proofs.lemmas.List.{length-append, length-take-le, take-append-le}
-use Rattle.nbd.specs.Streams.{Gave, GaveFewer}
+use Rattle.byte_io.specs.Streams.{Gave, GaveFewer}
 use borrow.Rule.Slice.PartMut.{put_mid, post_of}
 
 front : (a c : ℕ) (xs ys rest : List ℕ) → a ≤ length xs → c ≤ length ys → take (a + c) (take a xs ++ (ys ++ rest)) ≡ take a xs ++ take c ys

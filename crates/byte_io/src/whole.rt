@@ -2,9 +2,9 @@
 
 ghost use Rattle.std.specs.Prelude.{◌≡◌, ◌-◌, ◌≤◌, ◌<◌, length, take, IsTrue, IfOk, OnErr};
 ghost use Rattle.std.specs.Io.KnownBytes.{Consumes, IsAtEnd};
-ghost use Rattle.nbd.specs.Streams.{Gave, GaveFewer};
+ghost use Rattle.byte_io.specs.Streams.{Gave, GaveFewer};
 
-use byte_io::{ReadFailed, Source};
+use crate::{ReadFailed, Source};
 
 /// How many bytes are dropped at once.
 const DROPPED_BYTES: usize = 4096;

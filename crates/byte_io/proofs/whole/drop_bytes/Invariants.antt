@@ -1,6 +1,6 @@
 use Rattle.std.proofs.Common.{◌≡◌, ◌-◌, ◌≤◌}
-use Rattle.nbd.specs.Streams.{Gave}
-use Rattle.nbd.proofs.streams.drop_bytes.Given as goal
+use Rattle.byte_io.specs.Streams.{Gave}
+use Rattle.byte_io.proofs.whole.drop_bytes.Given as goal
 
 abbrev pub invariant-loop-left : goal.invariant-loop-left
 invariant-loop-left g l = record {

@@ -1,6 +1,6 @@
 use Rattle.std.proofs.Common.{rules, ◌∙◌}
-use Rattle.nbd.proofs.Reading.{read_more}
-use Rattle.nbd.proofs.streams.read_whole.Goals as goal
+use Rattle.byte_io.proofs.Reading.{read_more}
+use Rattle.byte_io.proofs.whole.read_whole.Goals as goal
 
 pub loop-done-preserved : goal.loop-done-preserved
 loop-done-preserved g c =

@@ -1,7 +1,7 @@
 use Rattle.std.proofs.Common.{arith, rules, ℕ, ◌≤◌, ◌∙◌, length, take}
-use Rattle.nbd.proofs.Parts.{on_err_so}
-use Rattle.nbd.proofs.Reading.{fewer_more, gave_more}
-use Rattle.nbd.proofs.streams.drop_bytes.Goals as goal
+use Rattle.byte_io.proofs.Parts.{on_err_so}
+use Rattle.byte_io.proofs.Reading.{fewer_more, gave_more}
+use Rattle.byte_io.proofs.whole.drop_bytes.Goals as goal
 
 pub loop-left-preserved : goal.loop-left-preserved
 loop-left-preserved g c =

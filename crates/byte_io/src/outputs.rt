@@ -3,9 +3,9 @@
 ghost use Rattle.std.specs.Option.{option_map_or};
 ghost use Rattle.std.specs.Prelude.{◌≡◌, ℕ, ◌<◌, ◌≤◌, List, Bool, Option, option_and_then, length, true, IsTrue, IfOk, OnOk, OnErr};
 ghost use Rattle.std.specs.Io.KnownBytes.{Appends, WriteAppends};
-ghost use Rattle.nbd.specs.Streams.{Began};
+ghost use Rattle.byte_io.specs.Streams.{Began};
 
-use byte_io::Writer;
+use crate::Writer;
 use std::io::{ErrorKind, Write};
 
 /// A write failed.

@@ -1,6 +1,6 @@
 use Rattle.std.proofs.Common.{rules}
-use Rattle.nbd.proofs.Parts.{appends_more, began_at, on_err_so}
-use Rattle.nbd.proofs.writing.write_all.Goals as goal
+use Rattle.byte_io.proofs.Parts.{appends_more, began_at, on_err_so}
+use Rattle.byte_io.proofs.outputs.write_all.Goals as goal
 
 pub loop-done-preserved : goal.loop-done-preserved
 loop-done-preserved g c =

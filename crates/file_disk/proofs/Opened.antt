@@ -7,7 +7,7 @@ use Rattle.host_commands.specs.declared.BlockLength.TheVariants.{Bytes512}
 use Rattle.host_commands.specs.declared.CommandSet.{CommandSet}
 use Rattle.host_commands.specs.declared.CommandSet.TheVariants.{Host}
 use Rattle.host_commands.specs.declared.ShapeFault.{ShapeFault}
-use Rattle.host_commands.specs.Shapes.{Shape, host_set, serial_number, shape_of as shape_asked}
+use Rattle.host_commands.specs.Shapes.{Shape, host_set, plain_shape, serial_number, shape_of as shape_asked}
 use Rattle.uas_profile.specs.declared.TheConstants.{GREATEST_TAG}
 use Rattle.uas_tasks.specs.declared.LogicalUnit.{LogicalUnit}
 use Rattle.uas_tasks.specs.Machine.{Machine, greatest_block, made, no_slot, opening, quiet}
@@ -23,10 +23,10 @@ pub shape_made : (blocks serial : ℕ) (r : Result ℕ ShapeFault) (q : Result S
     → r ≡ Ok serial → r ≡ serial_number 1 → q ≡ Ok shape → q ≡ shape_asked blocks Bytes512 serial → shape ≡ shape_of blocks
 shape_made blocks serial r q shape some most serial_is made_serial shape_is made_shape =
     let number : serial ≡ 1 = one_ok serial 1 r serial_is made_serial in
-    let all : shape_asked blocks Bytes512 serial ≡ Ok (record { blocks = blocks; block_length = Bytes512; serial = serial }) =
+    let all : shape_asked blocks Bytes512 serial ≡ Ok (plain_shape blocks Bytes512 serial) =
     rw (ne_eqb blocks 0 (λ is. omega (arith, is)), le-ltb (2 ^ 48) blocks most) refl in
-    one_ok shape (record { blocks = blocks; block_length = Bytes512; serial = serial }) q shape_is (made_shape ∙ all)
-    ∙ ap (λ (n : ℕ). record { blocks = blocks; block_length = Bytes512; serial = n }) number
+    one_ok shape (plain_shape blocks Bytes512 serial) q shape_is (made_shape ∙ all)
+    ∙ ap (λ (n : ℕ). plain_shape blocks Bytes512 n) number
 
 pub set_made : (r : Result CommandSet ShapeFault) (set : CommandSet) → r ≡ Ok set → r ≡ host_set 128 → set ≡ Host 128
 set_made r set is made = one_ok set (Host 128) r is made

@@ -5,7 +5,7 @@ use Rattle.device_server.specs.declared.Answer.{Answer}
 use Rattle.device_server.specs.declared.Answer.TheVariants.{Good, Check}
 use Rattle.host_commands.specs.declared.BlockLength.TheVariants.{Bytes512}
 use Rattle.host_commands.specs.declared.CommandSet.TheVariants.{Host}
-use Rattle.host_commands.specs.Shapes.{Shape}
+use Rattle.host_commands.specs.Shapes.{Shape, plain_shape}
 use Rattle.uas_target.specs.declared.DeviceAnswer.TheVariants.{Status}
 use Rattle.uas_tasks.specs.declared.Job.{Job}
 use Rattle.uas_tasks.specs.declared.JobKind.{JobKind}
@@ -76,7 +76,7 @@ pub record IsWholeBlocks (bytes : List ℕ) : Type 0 where
 
 -- the logical unit: so many blocks of 512 bytes
 abbrev pub shape_of : ℕ → Shape
-shape_of blocks = record { blocks = blocks; block_length = Bytes512; serial = 1 }
+shape_of blocks = plain_shape blocks Bytes512 1
 
 -- The device has one logical unit of so many blocks, and tag 1 has this task, none of whose requests is out; nor is a stale one of another
 -- tag.

@@ -19,6 +19,9 @@ pub trait Blocks {
     /// Whether it can fail.
     ghost can_fail: { Self → Bool };
 
+    /// Whether a `sync` failed: what it was to make safe may be lost, and none after it succeeds.
+    ghost is_spoiled: { Self → Bool };
+
     /// How many bytes it has.
     fn size(&self) -> u64
         ensures { IsTrue (tells self.now) → result ≡ length (holds self.now) };
@@ -37,9 +40,11 @@ pub trait Blocks {
         ensures safe { synced self.new ≡ synced self.old }
         ensures fault { OnErr result (IsTrue (can_fail self.old)) }
         ensures told { tells self.new ≡ tells self.old }
-        ensures same { can_fail self.new ≡ can_fail self.old };
+        ensures same { can_fail self.new ≡ can_fail self.old }
+        ensures spoiled { is_spoiled self.new ≡ is_spoiled self.old };
 
-    /// Makes safe what it holds: it stays, whatever ends the program or the machine. A fault makes nothing safe.
+    /// Makes safe what it holds: it stays, whatever ends the program or the machine. A fault makes nothing safe, and spoils the file:
+    /// each later call is a fault too.
     fn sync(&mut self) -> Result<(), StreamFault>
         ensures safe { OnOk result (IsTrue (tells self.old) → synced self.new ≡ holds self.new) }
         ensures kept { OnErr result (IsTrue (tells self.old) → synced self.new ≡ synced self.old) }
@@ -47,7 +52,9 @@ pub trait Blocks {
         ensures len { IsTrue (tells self.old) → length (holds self.new) ≡ length (holds self.old) }
         ensures fault { OnErr result (IsTrue (can_fail self.old)) }
         ensures told { tells self.new ≡ tells self.old }
-        ensures same { can_fail self.new ≡ can_fail self.old };
+        ensures same { can_fail self.new ≡ can_fail self.old }
+        ensures sound { OnOk result ((is_spoiled self.old ≡ false) × (is_spoiled self.new ≡ false)) }
+        ensures spoiled { OnErr result (is_spoiled self.new ≡ true) };
 }
 
 /// A file in memory: the bytes that it holds, and those that are safe.
@@ -66,6 +73,8 @@ impl Blocks for BlocksHeld {
     ghost synced = { λ file. file.safe.items };
 
     ghost can_fail = { λ _. false };
+
+    ghost is_spoiled = { λ _. false };
 
     fn size(&self) -> u64 {
         self.held.len() as u64

@@ -1,6 +1,6 @@
 //! The device behind the disk, and one command of it from its beginning to its end.
 
-ghost use Rattle.std.specs.Prelude.{◌≡◌, ◌+◌, ◌*◌, ◌^◌, ◌<◌, ◌≤◌, Some, None, length, take, drop, IsTrue, IfOk, OnOk, OnErr, false};
+ghost use Rattle.std.specs.Prelude.{◌≡◌, ◌+◌, ◌*◌, ◌^◌, ◌<◌, ◌≤◌, Some, None, length, take, drop, IsTrue, IfOk, OnOk, OnErr, false, true};
 ghost use Rattle.device_server.specs.declared.Answer.{Answer};
 ghost use Rattle.device_server.specs.declared.Answer.TheVariants.{Good, Check};
 ghost use Rattle.file_disk.specs.Written.{written_over};
@@ -185,6 +185,7 @@ impl Device {
         ensures fault { OnErr result (IsTrue (B.can_fail file.old)) }
         ensures told { B.tells file.new ≡ B.tells file.old }
         ensures same { B.can_fail file.new ≡ B.can_fail file.old }
+        ensures spoiled { B.is_spoiled file.new ≡ B.is_spoiled file.old }
     {
         self.begin(Operation::Write, block, blocks_in(bytes));
         self.fill(block, bytes);
@@ -226,6 +227,7 @@ impl Device {
         ensures fault { OnErr result (IsTrue (B.can_fail file.old)) }
         ensures told { B.tells file.new ≡ B.tells file.old }
         ensures same { B.can_fail file.new ≡ B.can_fail file.old }
+        ensures spoiled { B.is_spoiled file.new ≡ B.is_spoiled file.old }
     {
         let Next::Asks { number, .. } = self.tasks.next(TAG) else {
             unreachable!()
@@ -258,6 +260,8 @@ impl Device {
         ensures fault { OnErr result (IsTrue (B.can_fail file.old)) }
         ensures told { B.tells file.new ≡ B.tells file.old }
         ensures same { B.can_fail file.new ≡ B.can_fail file.old }
+        ensures sound { OnOk result ((B.is_spoiled file.old ≡ false) × (B.is_spoiled file.new ≡ false)) }
+        ensures spoiled { OnErr result (B.is_spoiled file.new ≡ true) }
     {
         self.begin(Operation::Synchronize, 0, 0);
         match self.synchronize_asked(file) {
@@ -279,6 +283,8 @@ impl Device {
         ensures fault { OnErr result (IsTrue (B.can_fail file.old)) }
         ensures told { B.tells file.new ≡ B.tells file.old }
         ensures same { B.can_fail file.new ≡ B.can_fail file.old }
+        ensures sound { OnOk result ((B.is_spoiled file.old ≡ false) × (B.is_spoiled file.new ≡ false)) }
+        ensures spoiled { OnErr result (B.is_spoiled file.new ≡ true) }
     {
         let Next::Asks { number, .. } = self.tasks.next(TAG) else {
             unreachable!()

@@ -1,6 +1,6 @@
 //! The disk: reads, writes and flushes of any bytes.
 
-ghost use Rattle.std.specs.Prelude.{◌≡◌, ◌+◌, ◌*◌, ◌/◌, ◌%◌, ◌^◌, ◌<◌, ◌≤◌, length, take, drop, IsTrue, IfOk, OnOk, OnErr};
+ghost use Rattle.std.specs.Prelude.{◌≡◌, ◌+◌, ◌*◌, ◌/◌, ◌%◌, ◌^◌, ◌<◌, ◌≤◌, length, take, drop, IsTrue, IfOk, OnOk, OnErr, false, true};
 ghost use Rattle.file_disk.specs.Written.{written_over};
 ghost use Rattle.file_disk.specs.Device.{IsReady};
 ghost use Rattle.file_disk.specs.Pieces.{IsPiece};
@@ -79,6 +79,7 @@ impl FileDisk {
         ensures fault { OnErr result (IsTrue (B.can_fail file.old)) }
         ensures told { B.tells file.new ≡ B.tells file.old }
         ensures same { B.can_fail file.new ≡ B.can_fail file.old }
+        ensures spoiled { B.is_spoiled file.new ≡ B.is_spoiled file.old }
     {
         write_all(&mut self.device, file, offset, bytes)
     }
@@ -93,6 +94,8 @@ impl FileDisk {
         ensures fault { OnErr result (IsTrue (B.can_fail file.old)) }
         ensures told { B.tells file.new ≡ B.tells file.old }
         ensures same { B.can_fail file.new ≡ B.can_fail file.old }
+        ensures sound { OnOk result ((B.is_spoiled file.old ≡ false) × (B.is_spoiled file.new ≡ false)) }
+        ensures spoiled { OnErr result (B.is_spoiled file.new ≡ true) }
     {
         self.device.synchronize(file)
     }
@@ -141,6 +144,7 @@ fn write_all<B: Blocks>(
     ensures fault { OnErr result (IsTrue (B.can_fail file.old)) }
     ensures told { B.tells file.new ≡ B.tells file.old }
     ensures same { B.can_fail file.new ≡ B.can_fail file.old }
+    ensures spoiled { B.is_spoiled file.new ≡ B.is_spoiled file.old }
 {
     let mut done = 0;
     while done < bytes.len() {
@@ -212,6 +216,7 @@ fn write_piece<B: Blocks>(
     ensures fault { OnErr result (IsTrue (B.can_fail file.old)) }
     ensures told { B.tells file.new ≡ B.tells file.old }
     ensures same { B.can_fail file.new ≡ B.can_fail file.old }
+    ensures spoiled { B.is_spoiled file.new ≡ B.is_spoiled file.old }
 {
     let block = at / BLOCK_BYTES as u64;
     let skip = (at % BLOCK_BYTES as u64) as usize;

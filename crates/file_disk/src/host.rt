@@ -5,7 +5,7 @@ ghost use Rattle.std.specs.Prelude.{true, false, []};
 use crate::Blocks;
 use byte_io::StreamFault;
 use std::fs::{File, OpenOptions};
-use std::os::unix::fs::FileExt;
+use std::os::unix::fs::{FileExt, MetadataExt};
 
 /// The bytes of a block.
 const BLOCK_BYTES: u64 = 512;
@@ -15,26 +15,73 @@ const BLOCK_BYTES: u64 = 512;
 pub struct HostBlocks {
     file: File,
     size: u64,
+    // The number of the file in its file system.
+    inode: u64,
     // The block that can't be read or written, to see what a disk's users make of it.
     bad: Option<u64>,
     // Whether a sync failed: the machine may have dropped what it couldn't write, so none is done from then on.
     has_failed: bool,
 }
 
+/// How a file is opened.
+#[derive(Clone, Copy, Debug, PartialEq, Eq)]
+pub enum FileAccess {
+    /// To be read; others may read it too.
+    Read,
+    /// To be read and written, by this program alone.
+    Write,
+}
+
+/// Why a file isn't opened.
+#[derive(Clone, Copy, Debug, PartialEq, Eq)]
+pub enum OpenFault {
+    /// It isn't there, or may not be opened so.
+    File,
+    /// Another program has it, or the machine has no lock to give.
+    Locked,
+}
+
 impl HostBlocks {
     /// The file of a name, which is there and may be read and written; nothing of it is changed. Block `bad` fails where one is named.
     pub fn open(rt: &HostRuntime, name: &str, bad: Option<u64>) -> Option<HostBlocks> {
-        let mut options = OpenOptions::new();
-        options.read(true);
-        options.write(true);
-        let file = options.open(rt, name).ok()?;
-        let size = file.metadata().ok()?.len();
+        HostBlocks::of(opened(rt, name, FileAccess::Write)?, bad)
+    }
+
+    /// The same with the lock on it, which is shared where the file is only read. It is that of an open file, so it is given up where the
+    /// program ends, however it does.
+    pub fn open_locked(
+        rt: &HostRuntime,
+        name: &str,
+        access: FileAccess,
+        bad: Option<u64>,
+    ) -> Result<HostBlocks, OpenFault> {
+        let Some(file) = opened(rt, name, access) else {
+            return Err(OpenFault::File);
+        };
+        let locked = match access {
+            FileAccess::Read => file.try_lock_shared(),
+            FileAccess::Write => file.try_lock(),
+        };
+        if locked.is_err() {
+            return Err(OpenFault::Locked);
+        }
+        HostBlocks::of(file, bad).ok_or(OpenFault::File)
+    }
+
+    fn of(file: File, bad: Option<u64>) -> Option<HostBlocks> {
+        let metadata = file.metadata().ok()?;
         Some(HostBlocks {
             file,
-            size,
+            size: metadata.len(),
+            inode: metadata.ino(),
             bad,
             has_failed: false,
         })
+    }
+
+    /// The number of the file in its file system.
+    pub fn inode(&self) -> u64 {
+        self.inode
     }
 
     /// Whether the bad block is among those of so many bytes from this one on.
@@ -47,6 +94,14 @@ impl HostBlocks {
     }
 }
 
+/// An open file of a name.
+fn opened(rt: &HostRuntime, name: &str, access: FileAccess) -> Option<File> {
+    let mut options = OpenOptions::new();
+    options.read(true);
+    options.write(access == FileAccess::Write);
+    options.open(rt, name).ok()
+}
+
 impl Blocks for HostBlocks {
     ghost tells = { λ _. false };
 
@@ -55,6 +110,8 @@ impl Blocks for HostBlocks {
     ghost synced = { λ _. [] };
 
     ghost can_fail = { λ _. true };
+
+    ghost is_spoiled = { λ file. file.has_failed };
 
     fn size(&self) -> u64 {
         self.size

@@ -9,7 +9,7 @@
 //! What the device asks for is done on the file at once, by position ([`Blocks`]), so nothing of the file stays in memory.
 //!
 //! What is promised: a read that is done brings what the file holds there, a write that is done changes the file exactly there, and what
-//! the file holds is safe once a flush is done. None of them fails where the file can't fail.
+//! the file holds is safe once a flush is done. None of them fails where the file can't fail; once a flush has failed, each later one does.
 //!
 //! It stands on `uas_tasks` for the device, and on `uas_iu` and `host_commands` for the commands.
 #![tactic(auto)]
@@ -22,7 +22,7 @@ mod host;
 
 pub use blocks::{Blocks, BlocksHeld};
 pub use disk::FileDisk;
-pub use host::HostBlocks;
+pub use host::{FileAccess, HostBlocks, OpenFault};
 
 /// A command ended other than GOOD: the file failed.
 #[derive(Clone, Copy, Debug, PartialEq, Eq)]

@@ -1,5 +1,5 @@
 -- The profile's set is scsi_cmd's. Cited by the law `profile_is_kept`.
-use Rattle.std.proofs.Common.{◌≡◌, ℕ, ◌-◌, ◌^◌, ◌≤◌, ◌++◌, min, Bool, true, false, List, take, length, Result, Ok, Err, refl, arith, ap}
+use Rattle.std.proofs.Common.{◌≡◌, ℕ, ◌-◌, ◌^◌, ◌≤◌, ◌++◌, min, Bool, true, false, List, take, length, Result, Ok, Err, refl, sym, subst, arith, ap, ◌∙◌}
 use Rattle.std.proofs.lemmas.List.{take_all}
 use Rattle.scsi_cmd.specs.declared.Op.{Op}
 use Rattle.scsi_cmd.specs.declared.Op.TheVariants.{TestUnitReady, Inquiry, ReadCapacity, Read, Write, Sync, Read16, Write16, ReadCapacity16}
@@ -8,11 +8,13 @@ use Rattle.scsi_cmd.specs.Data.{inquiry_bytes}
 use Rattle.scsi_cmd.specs.Fields.{four_bytes, eight_bytes, zeros}
 use Rattle.scsi_cmd.specs.Meaning.{asked}
 use Rattle.scsi_cmd.specs.Work.{asked_without_unit, giving, work_asked, work_asked_without_unit, work_of, work_without_unit}
-use Rattle.host_commands.specs.declared.BlockLength.{BlockLength}
 use Rattle.host_commands.specs.declared.BlockLength.TheVariants.{Bytes512}
+use Rattle.host_commands.specs.Data.{named_inquiry}
 use Rattle.host_commands.specs.Laws.{ProfileIsKept, ProfileIsKeptOfNone, answer_in_profile, in_profile}
 use Rattle.host_commands.specs.Meaning.{asked_of, asked_of_none}
+use Rattle.host_commands.specs.Names.{usual_names}
 use Rattle.host_commands.specs.Profile.{profile_work, profile_work_of_none, profile_works, profile_works_of_none}
+use Rattle.host_commands.specs.Shapes.{IsPlain, Shape, plain_shape}
 
 -- the front of a list has at most all of it
 take-front : {T : Type 0} (xs : List T) (most n : ℕ) → length xs ≡ most → take n xs ≡ take (min n most) xs
@@ -23,14 +25,19 @@ unfolding inquiry_bytes
 inquiry_bytes-length true = refl
 inquiry_bytes-length false = refl
 
+-- the usual names are scsi_cmd's
+usual_inquiry : (present : Bool) → named_inquiry present usual_names ≡ inquiry_bytes present
+unfolding inquiry_bytes
+usual_inquiry present = refl
+
 last_fits : (blocks : ℕ) → blocks ≤ 2 ^ 32 → min (blocks - 1) (2 ^ 32 - 1) ≡ blocks - 1
 last_fits blocks most = omega arith
 
 work_kept : (op : Op) (blocks serial : ℕ) → blocks ≤ 2 ^ 32 →
-    in_profile (profile_work op (record { blocks = blocks; block_length = Bytes512; serial = serial })) ≡ work_of op blocks
+    in_profile (profile_work op (plain_shape blocks Bytes512 serial)) ≡ work_of op blocks
 work_kept TestUnitReady blocks serial most = refl
 work_kept (Inquiry allocation) blocks serial most =
-    ap giving (take-front (inquiry_bytes true) 36 allocation (inquiry_bytes-length true))
+    ap giving (ap (take allocation) (usual_inquiry true) ∙ take-front (inquiry_bytes true) 36 allocation (inquiry_bytes-length true))
 work_kept ReadCapacity blocks serial most = ap (λ last. giving (four_bytes last ++ four_bytes 512)) (last_fits blocks most)
 work_kept (Read lba count fua) blocks serial most = refl
 work_kept (Write lba count fua) blocks serial most = refl
@@ -40,20 +47,27 @@ work_kept (Write16 lba count fua) blocks serial most = refl
 work_kept (ReadCapacity16 allocation) blocks serial most =
     ap giving (take-front (eight_bytes (blocks - 1) ++ four_bytes 512 ++ zeros 20) 32 allocation refl)
 
-works_kept : (asks : Result Op Sense) (blocks serial : ℕ) (block_length : BlockLength) → block_length ≡ Bytes512 → blocks ≤ 2 ^ 32 →
-    answer_in_profile (profile_works (record { blocks = blocks; block_length = block_length; serial = serial }) asks) ≡ work_asked blocks asks
-works_kept (Ok op) blocks serial block_length is most = rw is (ap Ok (work_kept op blocks serial most))
-works_kept (Err sense) blocks serial block_length is most = refl
+works_kept : (asks : Result Op Sense) (blocks serial : ℕ) → blocks ≤ 2 ^ 32 →
+    answer_in_profile (profile_works (plain_shape blocks Bytes512 serial) asks) ≡ work_asked blocks asks
+works_kept (Ok op) blocks serial most = ap Ok (work_kept op blocks serial most)
+works_kept (Err sense) blocks serial most = refl
+
+-- a plain shape of short blocks has but its number of blocks and its serial number
+plain_is : (shape : Shape) → IsPlain shape → shape.block_length ≡ Bytes512 → shape ≡ plain_shape shape.blocks Bytes512 shape.serial
+plain_is shape plain short =
+    λ i. record { blocks = shape.blocks; block_length = short i; serial = shape.serial; read_only = plain.read_only i; names = plain.names i }
 
 pub profile_kept : ProfileIsKept
 unfolding asked_of
-profile_kept cdb shape count attention is most =
-    works_kept (asked cdb shape.blocks) shape.blocks shape.serial shape.block_length is most
+profile_kept cdb shape count attention plain short most =
+    subst (λ here. answer_in_profile (profile_works here (asked cdb shape.blocks)) ≡ work_asked shape.blocks (asked cdb shape.blocks))
+    (sym (plain_is shape plain short)) (works_kept (asked cdb shape.blocks) shape.blocks shape.serial most)
 
 work_kept_of_none : (op : Op) → answer_in_profile (profile_work_of_none op) ≡ work_without_unit op
 work_kept_of_none TestUnitReady = refl
 work_kept_of_none (Inquiry allocation) =
-    ap (λ bytes. Ok (giving bytes)) (take-front (inquiry_bytes false) 36 allocation (inquiry_bytes-length false))
+    ap (λ bytes. Ok (giving bytes))
+    (ap (take allocation) (usual_inquiry false) ∙ take-front (inquiry_bytes false) 36 allocation (inquiry_bytes-length false))
 work_kept_of_none ReadCapacity = refl
 work_kept_of_none (Read lba count fua) = refl
 work_kept_of_none (Write lba count fua) = refl

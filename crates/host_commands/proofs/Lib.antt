@@ -1,3 +1,5 @@
+pub mod Filled
 pub mod Kept
+pub mod ReadOnly
 pub mod Told
 mod Rows

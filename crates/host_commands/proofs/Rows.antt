@@ -1,8 +1,9 @@
 -- Worked rows of the host set: what the definitions give, byte by byte.
-use Rattle.std.proofs.Common.{◌≡◌, ℕ, false, List, [], ◌∷◌, ◌++◌, Some, None, Result, Ok, Err, refl}
+use Rattle.std.proofs.Common.{◌≡◌, ℕ, false, true, List, [], ◌∷◌, ◌++◌, codes, Some, None, Result, Ok, Err, refl}
 use Rattle.scsi_cmd.specs.declared.Sense.{Sense}
 use Rattle.scsi_cmd.specs.Fields.{zeros}
 use Rattle.scsi_cmd.specs.Sense.{invalid_field_in_cdb}
+use Rattle.host_commands.specs.Protection.{write_protected}
 use Rattle.host_commands.specs.declared.BlockLength.TheVariants.{Bytes512}
 use Rattle.host_commands.specs.declared.CommandSet.TheVariants.{Host}
 use Rattle.host_commands.specs.declared.UnitAttention.TheVariants.{Reset}
@@ -12,11 +13,18 @@ use Rattle.host_commands.specs.Data.{given_bytes}
 use Rattle.host_commands.specs.Meaning.{asked_of}
 use Rattle.host_commands.specs.ModeData.{mode_bytes}
 use Rattle.host_commands.specs.Pages.{page_bytes}
-use Rattle.host_commands.specs.Shapes.{Shape}
+use Rattle.host_commands.specs.Shapes.{Shape, plain_shape}
 
 -- a logical unit of 100 blocks of 512 bytes, of a device of three
 disk : Shape
-disk = record { blocks = 100; block_length = Bytes512; serial = 12 }
+disk = plain_shape 100 Bytes512 12
+
+-- the same, read only, and one with names
+read_only_disk : Shape
+read_only_disk = record disk { read_only = true }
+
+named_disk : Shape
+named_disk = record disk { names = record { vendor = codes "ACME    "; product = codes "VDISK           " } }
 
 -- the bytes that a command gives in the host set of at most 128 blocks
 abbrev bytes_told : Result Work Sense → List ℕ
@@ -108,3 +116,35 @@ stop = refl
 no_flush : asked_of ((0x1b ∷ 0 ∷ 0 ∷ 0 ∷ 4 ∷ 0 ∷ []) ++ zeros 10) (Host 128) disk 3 None ≡ Ok Nothing
 unfolding asked_of disk
 no_flush = refl
+
+-- A READ-ONLY LOGICAL UNIT, AND ONE WITH NAMES
+
+-- WP in the header
+protected_caching : bytes_told (asked_of ((0x1a ∷ 0 ∷ 8 ∷ 0 ∷ 255 ∷ []) ++ zeros 11) (Host 128) read_only_disk 3 None)
+    ≡ (0x1f ∷ 0 ∷ 0x90 ∷ 8 ∷ 0 ∷ 0 ∷ 0 ∷ 0x64 ∷ 0 ∷ 0 ∷ 2 ∷ 0 ∷ 8 ∷ 0x12 ∷ 4 ∷ []) ++ zeros 17
+unfolding asked_of mode_bytes read_only_disk disk
+protected_caching = refl
+
+-- WRITE(6) of block 1 and of block 200, which isn't there; of 256 blocks
+protected_write : asked_of ((0x0a ∷ 0 ∷ 0 ∷ 1 ∷ 1 ∷ 0 ∷ []) ++ zeros 10) (Host 128) read_only_disk 3 None ≡ Err write_protected
+unfolding asked_of read_only_disk disk
+protected_write = refl
+
+protected_behind : asked_of ((0x0a ∷ 0 ∷ 0 ∷ 200 ∷ 1 ∷ 0 ∷ []) ++ zeros 10) (Host 128) read_only_disk 3 None ≡ Err write_protected
+unfolding asked_of read_only_disk disk
+protected_behind = refl
+
+protected_field : asked_of ((0x0a ∷ 0 ∷ 0 ∷ 1 ∷ 0 ∷ 0 ∷ []) ++ zeros 10) (Host 128) read_only_disk 3 None ≡ Err invalid_field_in_cdb
+unfolding asked_of read_only_disk disk
+protected_field = refl
+
+-- standard INQUIRY data and page 83h
+named_standard : bytes_told (asked_of ((0x12 ∷ 0 ∷ 0 ∷ 0 ∷ 36 ∷ []) ++ zeros 11) (Host 128) named_disk 3 None)
+    ≡ (0 ∷ 0 ∷ 6 ∷ 2 ∷ 0x1f ∷ 0 ∷ 0 ∷ 2 ∷ []) ++ codes "ACME    VDISK           0001"
+unfolding asked_of named_disk disk
+named_standard = refl
+
+named_identification : bytes_told (asked_of ((0x12 ∷ 1 ∷ 0x83 ∷ 0 ∷ 36 ∷ []) ++ zeros 11) (Host 128) named_disk 3 None)
+    ≡ (0 ∷ 0x83 ∷ 0 ∷ 0x30 ∷ 2 ∷ 1 ∷ 0 ∷ 0x20 ∷ []) ++ codes "ACME    VDISK           0000"
+unfolding asked_of page_bytes named_disk disk
+named_identification = refl

@@ -1,5 +1,5 @@
 -- What a host is told. Cited by the law `lists_are_true`.
-use Rattle.std.proofs.Common.{◌≡◌, ℕ, ◌/◌, ◌^◌, ◌==◌, Bool, true, false, cond, ◌||◌, Option, Some, None, IfSome, is_some, refl}
+use Rattle.std.proofs.Common.{◌≡◌, ℕ, ◌/◌, ◌^◌, ◌==◌, Bool, true, false, cond, ◌||◌, Option, Some, None, IfSome, is_some, drop, length, refl, sym, arith, length-append}
 use Rattle.std.proofs.lemmas.Bool.{eqb-true}
 use Rattle.host_commands.specs.declared.HostCommand.{HostCommand}
 use Rattle.host_commands.specs.declared.HostCommand.TheVariants.{TestUnitReady, RequestSense, Read6, Write6, Inquiry, ModeSense6, StartStopUnit, ReadCapacity10}
@@ -10,6 +10,8 @@ use Rattle.host_commands.specs.declared.VitalPage.{VitalPage}
 use Rattle.host_commands.specs.declared.VitalPage.TheVariants.{SupportedPages, UnitSerialNumber, DeviceIdentification, BlockLimits}
 use Rattle.host_commands.specs.declared.VitalPage.TheVariants.{BlockDeviceCharacteristics, LogicalBlockProvisioning}
 use Rattle.host_commands.specs.Commands.{of_maintenance, of_six, of_sixteen, of_ten, of_twelve}
+use Rattle.host_commands.specs.declared.names.UnitNames.{UnitNames}
+use Rattle.host_commands.specs.Names.{AreNames}
 use Rattle.host_commands.specs.Pages.{page_bytes}
 use Rattle.host_commands.specs.Told.{IsTold, PagesAreListed, PagesTellThemselves, TakenAreTold, TellsItself, ToldAreTaken}
 
@@ -23,8 +25,8 @@ listed false page rest others same = same
 
 pub pages_listed : PagesAreListed
 unfolding page_bytes
-pages_listed code serial maximum present =
-    listed (code == 0x00) SupportedPages _ _ (listed (code == 0x80) (UnitSerialNumber serial) _ _ (listed (code == 0x83) (DeviceIdentification serial) _ _
+pages_listed code serial maximum names present =
+    listed (code == 0x00) SupportedPages _ _ (listed (code == 0x80) (UnitSerialNumber serial) _ _ (listed (code == 0x83) (DeviceIdentification serial names) _ _
     (listed (code == 0xb0) (BlockLimits maximum) _ _ (listed (code == 0xb1) BlockDeviceCharacteristics _ _ (listed (code == 0xb2) LogicalBlockProvisioning _ _ refl)))))
 
 tells : (code one : ℕ) (present : Bool) (page : VitalPage) (rest : Option VitalPage) → TellsItself one present page → IfSome rest (TellsItself code present)
@@ -35,11 +37,17 @@ tells code one present page rest so others =
       | false ↦ λ is. others
     ] refl
 
+-- behind the first four bytes: four, both names, eight digits and twelve
+named_length : (serial : ℕ) (names : UnitNames) (present : Bool) → AreNames names
+    → 0x30 ≡ length (drop 4 (page_bytes (DeviceIdentification serial names) present))
+unfolding page_bytes
+named_length serial names present are = sym (grind (arith, length-append, are.vendor, are.product))
+
 pub pages_tell : PagesTellThemselves
 unfolding page_bytes
-pages_tell code serial maximum present =
+pages_tell code serial maximum names present are =
     tells code 0x00 present SupportedPages _ (refl, refl) (tells code 0x80 present (UnitSerialNumber serial) _ (refl, refl)
-    (tells code 0x83 present (DeviceIdentification serial) _ (refl, refl) (tells code 0xb0 present (BlockLimits maximum) _ (refl, refl)
+    (tells code 0x83 present (DeviceIdentification serial names) _ (refl, named_length serial names present are) (tells code 0xb0 present (BlockLimits maximum) _ (refl, refl)
     (tells code 0xb1 present BlockDeviceCharacteristics _ (refl, refl) (tells code 0xb2 present LogicalBlockProvisioning _ (refl, refl) (tt {0}))))))
 
 -- COMMANDS

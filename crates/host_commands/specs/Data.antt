@@ -1,17 +1,23 @@
 -- The bytes of data, whole and cut to an allocation length (SPC, SBC).
-use Rattle.std.specs.Prelude.{ℕ, zero, suc, ◌+◌, ◌*◌, ◌≤◌, List, [], ◌∷◌, ◌++◌, take}
-use Rattle.scsi_cmd.specs.Data.{inquiry_bytes}
+use Rattle.std.specs.Prelude.{ℕ, zero, suc, ◌+◌, ◌*◌, ◌≤◌, List, [], ◌∷◌, ◌++◌, Bool, codes, take}
+use Rattle.scsi_cmd.specs.Data.{peripheral_byte}
 use Rattle.scsi_cmd.specs.Fields.{four_bytes, eight_bytes, zeros}
 use Rattle.scsi_cmd.specs.Sense.{sense_bytes}
 use Rattle.uas_profile.specs.declared.TheConstants.{MAX_CLIENTS}
 use Rattle.host_commands.specs.declared.Data.{Data}
 use Rattle.host_commands.specs.declared.Data.TheVariants.{Inquiry, VitalProductData, RequestSense, LogicalUnits, Mode, OperationCodes, OperationCode}
 use Rattle.host_commands.specs.declared.Data.TheVariants.{TaskManagementFunctions, Capacity, LongCapacity}
+use Rattle.host_commands.specs.declared.names.UnitNames.{UnitNames}
 use Rattle.host_commands.specs.Fields.{four_bytes_at_most}
 use Rattle.host_commands.specs.ModeData.{mode_bytes}
 use Rattle.host_commands.specs.OperationCodes.{all_commands_bytes, one_command, task_functions}
 use Rattle.host_commands.specs.Pages.{page_bytes}
 use Rattle.host_commands.specs.Shapes.{block_bytes}
+
+-- standard INQUIRY data: 8 bytes of header, 8 of vendor, 16 of product, 4 of revision
+abbrev pub named_inquiry : Bool → UnitNames → List ℕ
+named_inquiry present names =
+    (peripheral_byte present ∷ 0 ∷ 6 ∷ 2 ∷ 0x1f ∷ 0 ∷ 0 ∷ 2 ∷ []) ++ names.vendor ++ names.product ++ codes "0001"
 
 -- so many LUNs from this number on, each 00, the number and six zeros
 abbrev pub luns_from : ℕ → ℕ → List ℕ
@@ -26,7 +32,7 @@ report_luns count = four_bytes (8 * count) ++ zeros 4 ++ luns_from count 0
 -- Worked: RequestSense of 6/29/03 is 70 00 06 00 00 00 00 0a 00 00 00 00 29 03 and four zeros. READ CAPACITY(10) of last block
 -- 2^32 is ff ff ff ff 00 00 02 00.
 abbrev pub data_bytes : Data → List ℕ
-data_bytes (Inquiry present) = inquiry_bytes present
+data_bytes (Inquiry present names) = named_inquiry present names
 data_bytes (VitalProductData page present) = page_bytes page present
 data_bytes (RequestSense sense) = sense_bytes sense
 data_bytes (LogicalUnits count) = report_luns count
@@ -39,7 +45,7 @@ data_bytes (LongCapacity last_block block_length) = eight_bytes last_block ++ fo
 
 -- there are at most 15 logical units
 abbrev pub IsOfDevice : Data → Type 0
-IsOfDevice (Inquiry present) = Unit {0}
+IsOfDevice (Inquiry present names) = Unit {0}
 IsOfDevice (VitalProductData page present) = Unit {0}
 IsOfDevice (RequestSense sense) = Unit {0}
 IsOfDevice (LogicalUnits count) = count ≤ MAX_CLIENTS

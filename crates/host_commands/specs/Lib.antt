@@ -1,5 +1,8 @@
 -- What hosts ask of a disk, and the bytes that it gives.
+pub mod Printable
+pub mod Names
 pub mod Shapes
+pub mod Protection
 pub mod Fields
 pub mod Commands
 pub mod Pages

@@ -26,11 +26,14 @@ use Rattle.host_commands.specs.declared.Work.TheVariants.{Nothing, Gives, Reads,
 use Rattle.host_commands.specs.Commands.{has_service_actions, named_command}
 use Rattle.host_commands.specs.Data.{IsOfDevice}
 use Rattle.host_commands.specs.declared.fields.Extent.{Extent}
+use Rattle.host_commands.specs.declared.names.UnitNames.{UnitNames}
 use Rattle.host_commands.specs.Fields.{action_in, code_in, short_extent, sixteen_extent, ten_extent, twelve_extent}
 use Rattle.host_commands.specs.ModeData.{pages_of}
+use Rattle.host_commands.specs.Names.{usual_names}
 use Rattle.host_commands.specs.OperationCodes.{named_action, named_either}
 use Rattle.host_commands.specs.Pages.{page_of}
 use Rattle.host_commands.specs.Profile.{profile_asked, profile_asked_of_none}
+use Rattle.host_commands.specs.Protection.{write_protected}
 use Rattle.host_commands.specs.Shapes.{Shape}
 
 -- BLOCKS
@@ -52,10 +55,13 @@ abbrev pub reads : Bool → Extent → ℕ → ℕ → Result Work Sense
 reads invalid extent maximum blocks =
     transferred invalid maximum blocks extent.lba extent.count (Reads extent.lba extent.count)
 
--- WRITE: it goes through to the medium with FUA, which WRITE(6) hasn't
-abbrev pub writes : Bool → Extent → Bool → ℕ → ℕ → Result Work Sense
-writes invalid extent through maximum blocks =
-    transferred invalid maximum blocks extent.lba extent.count (Writes extent.lba extent.count through)
+-- WRITE: it goes through to the medium with FUA, which WRITE(6) hasn't. A read-only logical unit refuses it behind the fields and before
+-- the range. Worked: of a read-only one with 100 blocks and a maximum of 128, 129 blocks from block 100 on are 5/24/00, and 128 are 7/27/00.
+abbrev pub writes : Bool → Extent → Bool → ℕ → Shape → Result Work Sense
+writes invalid extent through maximum shape =
+    if invalid || nat_lt maximum extent.count then Err invalid_field_in_cdb
+    else (if shape.read_only then Err write_protected
+    else in_range shape.blocks extent.lba extent.count (Writes extent.lba extent.count through))
 
 -- VERIFY: BYTCHK, bits 2 and 1 of byte 1, is 0 or 1; with 1 it takes as many blocks as a WRITE may
 abbrev pub verifies : List ℕ → Extent → ℕ → ℕ → Result Work Sense
@@ -93,11 +99,11 @@ abbrev pub page_asked : Bool → ℕ → Option VitalPage → Result Work Sense
 page_asked present allocation None = Err invalid_field_in_cdb
 page_asked present allocation (Some page) = Ok (Gives (VitalProductData page present) allocation)
 
-abbrev pub inquiry_asked : List ℕ → Bool → ℕ → ℕ → Result Work Sense
-inquiry_asked cdb present serial maximum =
+abbrev pub inquiry_asked : List ℕ → Bool → ℕ → UnitNames → ℕ → Result Work Sense
+inquiry_asked cdb present serial names maximum =
     if is_bit_set (slice_index cdb 1) 0
-    then page_asked present (field_of_two cdb 3) (page_of (slice_index cdb 2) serial maximum)
-    else (if slice_index cdb 2 == 0 then Ok (Gives (InquiryData present) (field_of_two cdb 3)) else Err invalid_field_in_cdb)
+    then page_asked present (field_of_two cdb 3) (page_of (slice_index cdb 2) serial names maximum)
+    else (if slice_index cdb 2 == 0 then Ok (Gives (InquiryData present names) (field_of_two cdb 3)) else Err invalid_field_in_cdb)
 
 -- REPORT LUNS: SELECT REPORT 0 and 2 are all, 1 is none; an allocation length below 16 is a fault
 abbrev pub report_luns_asked : List ℕ → ℕ → Result Work Sense
@@ -113,16 +119,16 @@ abbrev pub descriptor_asked : Bool → Shape → Option BlockDescriptor
 descriptor_asked true shape = None
 descriptor_asked false shape = Some (record { blocks = shape.blocks; block_length = shape.block_length })
 
-abbrev pub pages_asked : ModeForm → ℕ → Bool → Option BlockDescriptor → Option ModePages → Result Work Sense
-pages_asked form allocation changeable descriptor None = Err invalid_field_in_cdb
-pages_asked form allocation changeable descriptor (Some pages) =
-    Ok (Gives (Mode (record { form = form; descriptor = descriptor; pages = pages; changeable = changeable })) allocation)
+abbrev pub pages_asked : ModeForm → ℕ → Bool → Bool → Option BlockDescriptor → Option ModePages → Result Work Sense
+pages_asked form allocation read_only changeable descriptor None = Err invalid_field_in_cdb
+pages_asked form allocation read_only changeable descriptor (Some pages) =
+    Ok (Gives (Mode (record { form = form; read_only = read_only; descriptor = descriptor; pages = pages; changeable = changeable })) allocation)
 
 abbrev pub mode_sense_asked : ModeForm → ℕ → List ℕ → Shape → Result Work Sense
 mode_sense_asked form allocation cdb shape =
     let control = slice_index cdb 2 / 2 ^ 6 in
     if control == 3 then Err saving_not_supported
-    else pages_asked form allocation (control == 1) (descriptor_asked (is_bit_set (slice_index cdb 1) 3) shape)
+    else pages_asked form allocation shape.read_only (control == 1) (descriptor_asked (is_bit_set (slice_index cdb 1) 3) shape)
     (pages_of (slice_index cdb 2 % 2 ^ 6) (slice_index cdb 3))
 
 -- START STOP UNIT: LOEJ, bit 1 of byte 4, and a power condition, bits 7 to 4, are faults; a stop without NO FLUSH, bit 2, brings
@@ -184,20 +190,20 @@ command_asked TestUnitReady cdb maximum shape count attention = Ok Nothing
 command_asked RequestSense cdb maximum shape count attention =
     request_sense_asked cdb (sense_told attention)
 command_asked Read6 cdb maximum shape count attention = reads false (short_extent cdb) maximum shape.blocks
-command_asked Write6 cdb maximum shape count attention = writes false (short_extent cdb) false maximum shape.blocks
-command_asked Inquiry cdb maximum shape count attention = inquiry_asked cdb true shape.serial maximum
+command_asked Write6 cdb maximum shape count attention = writes false (short_extent cdb) false maximum shape
+command_asked Inquiry cdb maximum shape count attention = inquiry_asked cdb true shape.serial shape.names maximum
 command_asked ModeSense6 cdb maximum shape count attention = mode_sense_asked Six (slice_index cdb 4) cdb shape
 command_asked StartStopUnit cdb maximum shape count attention = start_stop_asked cdb
 command_asked ReadCapacity10 cdb maximum shape count attention = Ok (Gives (Capacity (shape.blocks - 1) shape.block_length) 8)
 command_asked Read10 cdb maximum shape count attention = reads (asks_for_protection cdb) (ten_extent cdb) maximum shape.blocks
 command_asked Write10 cdb maximum shape count attention =
-    writes (asks_for_protection cdb) (ten_extent cdb) (goes_through cdb) maximum shape.blocks
+    writes (asks_for_protection cdb) (ten_extent cdb) (goes_through cdb) maximum shape
 command_asked Verify10 cdb maximum shape count attention = verifies cdb (ten_extent cdb) maximum shape.blocks
 command_asked SynchronizeCache10 cdb maximum shape count attention = synchronizes (ten_extent cdb) shape.blocks
 command_asked ModeSense10 cdb maximum shape count attention = mode_sense_asked Ten (field_of_two cdb 7) cdb shape
 command_asked Read16 cdb maximum shape count attention = reads (asks_for_protection cdb) (sixteen_extent cdb) maximum shape.blocks
 command_asked Write16 cdb maximum shape count attention =
-    writes (asks_for_protection cdb) (sixteen_extent cdb) (goes_through cdb) maximum shape.blocks
+    writes (asks_for_protection cdb) (sixteen_extent cdb) (goes_through cdb) maximum shape
 command_asked Verify16 cdb maximum shape count attention = verifies cdb (sixteen_extent cdb) maximum shape.blocks
 command_asked SynchronizeCache16 cdb maximum shape count attention = synchronizes (sixteen_extent cdb) shape.blocks
 command_asked ReadCapacity16 cdb maximum shape count attention = long_capacity_asked cdb shape
@@ -206,7 +212,7 @@ command_asked ReportSupportedOperationCodes cdb maximum shape count attention = 
 command_asked ReportSupportedTaskManagementFunctions cdb maximum shape count attention = task_functions_asked cdb
 command_asked Read12 cdb maximum shape count attention = reads (asks_for_protection cdb) (twelve_extent cdb) maximum shape.blocks
 command_asked Write12 cdb maximum shape count attention =
-    writes (asks_for_protection cdb) (twelve_extent cdb) (goes_through cdb) maximum shape.blocks
+    writes (asks_for_protection cdb) (twelve_extent cdb) (goes_through cdb) maximum shape
 command_asked Verify12 cdb maximum shape count attention = verifies cdb (twelve_extent cdb) maximum shape.blocks
 
 abbrev pub named_asked : Option HostCommand → List ℕ → ℕ → Shape → ℕ → Option UnitAttention → Result Work Sense
@@ -225,7 +231,7 @@ asked_of cdb (Host maximum) shape count attention =
 -- where no logical unit is: INQUIRY, REPORT LUNS and REQUEST SENSE are answered, and nothing else is
 abbrev pub host_asked_of_none : List ℕ → ℕ → ℕ → Result Work Sense
 host_asked_of_none cdb maximum count =
-    if code_in cdb == 0x12 then inquiry_asked cdb false 0 maximum
+    if code_in cdb == 0x12 then inquiry_asked cdb false 0 usual_names maximum
     else (if code_in cdb == 0xa0 then report_luns_asked cdb count
     else (if code_in cdb == 0x03 then request_sense_asked cdb unit_not_supported
     else Err unit_not_supported))

@@ -42,16 +42,22 @@ descriptor_bytes None = []
 descriptor_bytes (Some descriptor) =
     four_bytes_at_most descriptor.blocks ++ (0 ∷ 0 ∷ []) ++ two_bytes (block_bytes descriptor.block_length)
 
--- the bytes that follow the length, medium type 0, DPO and FUA are there (10h), the bytes of the descriptors
-abbrev pub mode_header : ModeForm → ℕ → ℕ → List ℕ
-mode_header Six descriptors rest = (3 + rest) ∷ 0 ∷ 0x10 ∷ descriptors ∷ []
-mode_header Ten descriptors rest = two_bytes (6 + rest) ++ (0 ∷ 0x10 ∷ 0 ∷ 0 ∷ []) ++ two_bytes descriptors
+-- the device-specific parameter of a disk: DPO and FUA are there (DPOFUA, 10h), and whether it is read only (WP, 80h)
+abbrev pub device_parameter : Bool → ℕ
+device_parameter false = 0x10
+device_parameter true = 0x90
+
+-- the bytes that follow the length, medium type 0, the device-specific parameter, the bytes of the descriptors
+abbrev pub mode_header : ModeForm → Bool → ℕ → ℕ → List ℕ
+mode_header Six read_only descriptors rest = (3 + rest) ∷ 0 ∷ device_parameter read_only ∷ descriptors ∷ []
+mode_header Ten read_only descriptors rest =
+    two_bytes (6 + rest) ++ (0 ∷ device_parameter read_only ∷ 0 ∷ 0 ∷ []) ++ two_bytes descriptors
 
 -- Header, block descriptor, pages. Worked: page 08h of 100 blocks of 512 bytes in the form of 6 is
--- 1f 00 10 08 00 00 00 64 00 00 02 00 08 12 04 and 17 zeros; all pages without a descriptor in that of 10 are
+-- 1f 00 10 08 00 00 00 64 00 00 02 00 08 12 04 and 17 zeros, and 90 for 10 where that is read only; all pages without a descriptor in that of 10 are
 -- 00 26 00 10 00 00 00 00 08 12 04, 17 zeros, 0a 0a 02 10 and eight zeros.
 unfoldable pub mode_bytes : ModeData → List ℕ
 mode_bytes mode =
-    mode_header mode.form (length (descriptor_bytes mode.descriptor))
+    mode_header mode.form mode.read_only (length (descriptor_bytes mode.descriptor))
     (length (descriptor_bytes mode.descriptor) + length (mode_pages mode.pages mode.changeable))
     ++ descriptor_bytes mode.descriptor ++ mode_pages mode.pages mode.changeable

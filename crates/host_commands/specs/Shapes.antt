@@ -1,11 +1,13 @@
 -- Logical units and command sets, and the numbers that they can't have.
-use Rattle.std.specs.Prelude.{ℕ, ◌%◌, ◌^◌, ◌==◌, nat_lt, not, ◌||◌, if◌then◌else◌, Result, Ok, Err}
+use Rattle.std.specs.Prelude.{◌≡◌, ℕ, ◌%◌, ◌^◌, ◌==◌, nat_lt, Bool, false, not, ◌||◌, if◌then◌else◌, Result, Ok, Err}
 use Rattle.host_commands.specs.declared.BlockLength.{BlockLength}
 use Rattle.host_commands.specs.declared.BlockLength.TheVariants.{Bytes512, Bytes4096}
 use Rattle.host_commands.specs.declared.CommandSet.{CommandSet}
 use Rattle.host_commands.specs.declared.CommandSet.TheVariants.{Host}
 use Rattle.host_commands.specs.declared.ShapeFault.{ShapeFault}
 use Rattle.host_commands.specs.declared.ShapeFault.TheVariants.{SerialNumber, NoBlock, TooManyBlocks, TransferLength}
+use Rattle.host_commands.specs.declared.names.UnitNames.{UnitNames}
+use Rattle.host_commands.specs.Names.{usual_names}
 
 -- the bytes of a block
 abbrev pub block_bytes : BlockLength → ℕ
@@ -16,18 +18,29 @@ block_bytes Bytes4096 = 4096
 abbrev pub serial_number : ℕ → Result ℕ ShapeFault
 serial_number number = if nat_lt number 100000000 then Ok number else Err SerialNumber
 
--- a logical unit: how many blocks of how many bytes, and its serial number
+-- a logical unit: how many blocks of how many bytes, its serial number, whether it refuses what changes blocks, and its names
 pub record Shape : Type 0 where
   pub blocks : ℕ
   pub block_length : BlockLength
   pub serial : ℕ
+  pub read_only : Bool
+  pub names : UnitNames
+
+-- one that may be written and has the usual names
+abbrev pub plain_shape : ℕ → BlockLength → ℕ → Shape
+plain_shape blocks block_length serial =
+    record { blocks = blocks; block_length = block_length; serial = serial; read_only = false; names = usual_names }
+
+pub record IsPlain (shape : Shape) : Type 0 where
+  pub read_only : shape.read_only ≡ false
+  pub names : shape.names ≡ usual_names
 
 -- it has 1 to 2^48 blocks
 abbrev pub shape_of : ℕ → BlockLength → ℕ → Result Shape ShapeFault
 shape_of blocks block_length serial =
     if blocks == 0 then Err NoBlock
     else (if nat_lt (2 ^ 48) blocks then Err TooManyBlocks
-    else Ok (record { blocks = blocks; block_length = block_length; serial = serial }))
+    else Ok (plain_shape blocks block_length serial))
 
 -- the host set: a maximum transfer length of two bytes is a multiple of 8 that isn't 0, so 8 to 65,528
 abbrev pub host_set : ℕ → Result CommandSet ShapeFault

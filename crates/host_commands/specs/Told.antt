@@ -4,15 +4,17 @@ use Rattle.std.specs.List.{list_any}
 use Rattle.host_commands.specs.declared.HostCommand.{HostCommand}
 use Rattle.host_commands.specs.declared.VitalPage.{VitalPage}
 use Rattle.host_commands.specs.declared.VitalPage.TheVariants.{SupportedPages}
+use Rattle.host_commands.specs.declared.names.UnitNames.{UnitNames}
 use Rattle.host_commands.specs.Commands.{all_commands, named_command, usage_of}
+use Rattle.host_commands.specs.Names.{AreNames}
 use Rattle.host_commands.specs.OperationCodes.{action_of}
 use Rattle.host_commands.specs.Pages.{page_bytes, page_of}
 
 -- Page 00h lists, behind its first four bytes, just the pages that are answered.
 abbrev pub PagesAreListed : Type 0
 PagesAreListed =
-    (code serial maximum : ℕ) (present : Bool)
-    → is_some (page_of code serial maximum) ≡ list_any (λ listed. code == listed) (drop 4 (page_bytes SupportedPages present))
+    (code serial maximum : ℕ) (names : UnitNames) (present : Bool)
+    → is_some (page_of code serial names maximum) ≡ list_any (λ listed. code == listed) (drop 4 (page_bytes SupportedPages present))
 
 -- a page says its code, and how many bytes follow the first four
 abbrev pub TellsItself : ℕ → Bool → VitalPage → Type 0
@@ -20,7 +22,8 @@ TellsItself code present page =
     (slice_index (page_bytes page present) 1 ≡ code) × (slice_index (page_bytes page present) 3 ≡ length (drop 4 (page_bytes page present)))
 
 abbrev pub PagesTellThemselves : Type 0
-PagesTellThemselves = (code serial maximum : ℕ) (present : Bool) → IfSome (page_of code serial maximum) (TellsItself code present)
+PagesTellThemselves =
+    (code serial maximum : ℕ) (names : UnitNames) (present : Bool) → AreNames names → IfSome (page_of code serial names maximum) (TellsItself code present)
 
 -- a command has this operation code, and is among all that are told
 abbrev pub code_of : HostCommand → ℕ

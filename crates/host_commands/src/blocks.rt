@@ -4,11 +4,18 @@ ghost use Rattle.scsi_cmd.specs.Meaning.{asks_for_protection};
 ghost use Rattle.host_commands.specs.Meaning.{IsWorkOn, goes_through, in_range, reads, synchronizes, transferred, verifies, writes};
 
 use crate::fields::{Extent, has_bit};
-use crate::{TransferLength, Work};
+use crate::{LogicalUnitShape, TransferLength, Work};
 use scsi_cmd::Sense;
 
 /// FUA in byte 1 of READ and WRITE is this bit.
 const FUA_BIT: u8 = 3;
+
+/// A read-only logical unit is to be changed (SPC, WRITE PROTECTED).
+pub(crate) const WRITE_PROTECTED: Sense = Sense {
+    key: 0x7,
+    asc: 0x27,
+    ascq: 0x00,
+};
 
 /// READ: `invalid` where its protect field isn't 0.
 pub(crate) fn reads(
@@ -24,22 +31,26 @@ pub(crate) fn reads(
     transferred(invalid, maximum, blocks, extent, Work::Reads { lba, count })
 }
 
-/// WRITE, `through` to the medium or not.
+/// WRITE, `through` to the medium or not; a read-only logical unit refuses it.
 pub(crate) fn writes(
     invalid: bool,
     extent: Extent,
     through: bool,
     maximum: TransferLength,
-    blocks: u64,
+    shape: &LogicalUnitShape,
 ) -> Result<Work, Sense>
-    ensures work { result ≡ writes invalid extent through maximum blocks }
-    ensures on { IfOk result (IsWorkOn blocks maximum) }
+    ensures work { result ≡ writes invalid extent through maximum shape.now }
+    ensures on { IfOk result (IsWorkOn shape.now.blocks maximum) }
 {
     let Extent { lba, count } = extent;
-    transferred(
-        invalid,
-        maximum,
-        blocks,
+    if invalid || count > u32::from(maximum.blocks()) {
+        return Err(Sense::INVALID_FIELD_IN_CDB);
+    }
+    if shape.is_read_only() {
+        return Err(WRITE_PROTECTED);
+    }
+    in_range(
+        shape.blocks(),
         extent,
         Work::Writes {
             lba,

@@ -14,7 +14,7 @@ use crate::commands::{
 use crate::fields::{action_in, four_at, has_bit, two_at};
 use crate::{
     BlockDescriptor, Data, HostCommand, LogicalUnitShape, ModeData, ModeForm, ModePages,
-    SerialNumber, TransferLength, UnitAttention, VitalPage, Work,
+    SerialNumber, TransferLength, UnitAttention, UnitNames, VitalPage, Work,
 };
 use scsi_cmd::Sense;
 
@@ -69,20 +69,21 @@ pub(crate) fn read_inquiry(
     cdb: &[u8; 16],
     present: bool,
     serial: SerialNumber,
+    names: UnitNames,
     maximum: TransferLength,
 ) -> Result<Work, Sense>
-    ensures work { result ≡ inquiry_asked cdb.now present serial maximum }
+    ensures work { result ≡ inquiry_asked cdb.now present serial names maximum }
     ensures on { (blocks most : ℕ) → IfOk result (IsWorkOn blocks most) }
 {
     let allocation = u32::from(two_at(cdb, 3));
     if has_bit(cdb[1], 0) {
-        return page_asked(present, allocation, page_of(cdb[2], serial, maximum));
+        return page_asked(present, allocation, page_of(cdb[2], serial, names, maximum));
     }
     if cdb[2] != 0 {
         return Err(Sense::INVALID_FIELD_IN_CDB);
     }
     Ok(Work::Gives {
-        given: Data::Inquiry { present },
+        given: Data::Inquiry { present, names },
         allocation,
     })
 }
@@ -100,13 +101,18 @@ fn page_asked(present: bool, allocation: u32, page: Option<VitalPage>) -> Result
 }
 
 /// The page of a page code.
-fn page_of(code: u8, serial: SerialNumber, maximum: TransferLength) -> Option<VitalPage>
-    ensures { result ≡ page_of code serial maximum }
+fn page_of(
+    code: u8,
+    serial: SerialNumber,
+    names: UnitNames,
+    maximum: TransferLength,
+) -> Option<VitalPage>
+    ensures { result ≡ page_of code serial names maximum }
 {
     match code {
         0x00 => Some(VitalPage::SupportedPages),
         0x80 => Some(VitalPage::UnitSerialNumber(serial)),
-        0x83 => Some(VitalPage::DeviceIdentification(serial)),
+        0x83 => Some(VitalPage::DeviceIdentification { serial, names }),
         0xb0 => Some(VitalPage::BlockLimits { maximum }),
         0xb1 => Some(VitalPage::BlockDeviceCharacteristics),
         0xb2 => Some(VitalPage::LogicalBlockProvisioning),
@@ -153,6 +159,7 @@ pub(crate) fn read_mode_sense(
         Some(pages) => Ok(Work::Gives {
             given: Data::Mode(ModeData {
                 form,
+                read_only: shape.is_read_only(),
                 descriptor: descriptor_asked(has_bit(cdb[1], 3), shape),
                 pages,
                 changeable: control == 1,

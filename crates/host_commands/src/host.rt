@@ -13,7 +13,7 @@ use crate::given::{
 use crate::profile::{read_profile, read_profile_of_none};
 use crate::{
     CommandSet, HostCommand, LogicalUnitShape, ModeForm, SerialNumber, TransferLength,
-    UnitAttention, Work,
+    UnitAttention, UnitNames, Work,
 };
 use scsi_cmd::Sense;
 
@@ -73,7 +73,13 @@ fn read_host_of_none(
     ensures on { IfOk result (IsWorkOn 0 0) }
 {
     match cdb[0] {
-        INQUIRY => read_inquiry(cdb, false, SerialNumber::zero(), maximum),
+        INQUIRY => read_inquiry(
+            cdb,
+            false,
+            SerialNumber::zero(),
+            UnitNames::usual(),
+            maximum,
+        ),
         REPORT_LUNS => read_report_luns(cdb, logical_units),
         REQUEST_SENSE => read_request_sense(cdb, Sense::UNIT_NOT_SUPPORTED),
         _ => Err(Sense::UNIT_NOT_SUPPORTED),
@@ -99,20 +105,14 @@ fn read_command(
         HostCommand::TestUnitReady => Ok(Work::Nothing),
         HostCommand::RequestSense => read_request_sense(cdb, sense_of(attention)),
         HostCommand::Read6 => reads(false, short_extent(cdb), maximum, blocks),
-        HostCommand::Write6 => writes(false, short_extent(cdb), false, maximum, blocks),
-        HostCommand::Inquiry => read_inquiry(cdb, true, shape.serial(), maximum),
+        HostCommand::Write6 => writes(false, short_extent(cdb), false, maximum, shape),
+        HostCommand::Inquiry => read_inquiry(cdb, true, shape.serial(), shape.names(), maximum),
         HostCommand::ModeSense6 => { read_mode_sense(ModeForm::Six, u32::from(cdb[4]), cdb, shape) }
         HostCommand::StartStopUnit => read_start_stop(cdb),
         HostCommand::ReadCapacity10 => Ok(read_capacity(shape)),
         HostCommand::Read10 => reads(protects, ten_extent(cdb), maximum, blocks),
         HostCommand::Write10 => {
-            writes(
-                protects,
-                ten_extent(cdb),
-                goes_through(cdb),
-                maximum,
-                blocks,
-            )
+            writes(protects, ten_extent(cdb), goes_through(cdb), maximum, shape)
         }
         HostCommand::Verify10 => verifies(cdb, ten_extent(cdb), maximum, blocks),
         HostCommand::SynchronizeCache10 => synchronizes(ten_extent(cdb), blocks),
@@ -126,7 +126,7 @@ fn read_command(
                 sixteen_extent(cdb),
                 goes_through(cdb),
                 maximum,
-                blocks,
+                shape,
             )
         }
         HostCommand::Verify16 => verifies(cdb, sixteen_extent(cdb), maximum, blocks),
@@ -142,7 +142,7 @@ fn read_command(
                 twelve_extent(cdb),
                 goes_through(cdb),
                 maximum,
-                blocks,
+                shape,
             )
         }
         HostCommand::Verify12 => verifies(cdb, twelve_extent(cdb), maximum, blocks),

@@ -1,8 +1,8 @@
 //! Laws of the command sets.
-ghost use Rattle.host_commands.specs.Laws.{ProfileIsKept, ProfileIsKeptOfNone};
+ghost use Rattle.host_commands.specs.Laws.{ProfileIsKept, ProfileIsKeptOfNone, ReadOnlyIsKept};
 ghost use Rattle.host_commands.specs.Told.{PagesAreListed, PagesTellThemselves, TakenAreTold, ToldAreTaken};
 
-/// Law: on a logical unit of at most 2^32 blocks of 512 bytes, and where no logical unit is, the profile's set asks for what
+/// Law: on a logical unit of at most 2^32 blocks of 512 bytes that may be written and has the usual names, and where no logical unit is, the profile's set asks for what
 /// `scsi_cmd` says, with the same first fault and the same bytes of data.
 #[tactic(auto, using(crate::proofs::Kept::kept))]
 pub fn profile_is_kept()
@@ -17,4 +17,10 @@ pub fn lists_are_true()
     ensures lengths { PagesTellThemselves }
     ensures taken { TakenAreTold }
     ensures told { ToldAreTaken }
+{}
+
+/// Law: nothing that a CDB asks of a read-only logical unit changes blocks.
+#[tactic(auto, using(crate::proofs::ReadOnly::kept))]
+pub fn read_only_is_kept()
+    ensures { ReadOnlyIsKept }
 {}

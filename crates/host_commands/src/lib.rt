@@ -15,6 +15,9 @@
 //! 3. a first block that isn't on the logical unit, for a count of 0 too, or blocks behind the last one: LOGICAL BLOCK ADDRESS
 //!    OUT OF RANGE.
 //!
+//! A WRITE on a read-only logical unit is WRITE PROTECTED: in the host set behind the fields and before the range, in the profile's
+//! behind the range. MODE SENSE tells it (WP).
+//!
 //! DPO, immediate bits, LLBAA and every bit without a field are ignored. Where no logical unit is, INQUIRY tells so in its
 //! data, REPORT LUNS is answered as ever, REQUEST SENSE gives LOGICAL UNIT NOT SUPPORTED, and that is the fault of all else.
 //!
@@ -32,7 +35,9 @@ mod given;
 mod host;
 mod laws;
 mod mode;
+mod names;
 mod operation_codes;
+mod padding;
 mod pages;
 mod profile;
 mod shapes;
@@ -40,7 +45,8 @@ mod writer;
 
 pub use commands::{attention_of, named_command};
 pub use host::{read, read_without_logical_unit};
-pub use laws::profile_is_kept;
+pub use laws::{profile_is_kept, read_only_is_kept};
+pub use names::{NameFault, Product, UnitNames, Vendor};
 use scsi_cmd::Sense;
 use std::marker::Model;
 use thiserror::Error;
@@ -71,12 +77,15 @@ impl Model for SerialNumber {
     ghost inverse = { λ number. record { number = number } };
 }
 
-/// A logical unit as its commands see it: 1 to 2^48 blocks (`MOST_BLOCKS`) of one length, and its serial number.
+/// A logical unit as its commands see it: 1 to 2^48 blocks (`MOST_BLOCKS`) of one length, its serial number, whether it is read only,
+/// and its names.
 #[derive(Clone, Copy, Debug, PartialEq, Eq)]
 pub struct LogicalUnitShape {
     blocks: u64,
     block_length: BlockLength,
     serial: SerialNumber,
+    read_only: bool,
+    names: UnitNames,
 }
 
 impl Model for LogicalUnitShape {
@@ -85,11 +94,11 @@ impl Model for LogicalUnitShape {
 
     ghost Value = { Shape };
 
-    ghost view = { λ unit. record { blocks = unit.blocks; block_length = unit.block_length; serial = unit.serial } };
+    ghost view = { λ unit. record { blocks = unit.blocks; block_length = unit.block_length; serial = unit.serial; read_only = unit.read_only; names = unit.names } };
 
     ghost invariant = { λ unit. (1 ≤ unit.blocks) × (unit.blocks ≤ 2 ^ 48) };
 
-    ghost inverse = { λ shape. record { blocks = shape.blocks; block_length = shape.block_length; serial = shape.serial } };
+    ghost inverse = { λ shape. record { blocks = shape.blocks; block_length = shape.block_length; serial = shape.serial; read_only = shape.read_only; names = shape.names } };
 }
 
 /// The most blocks that one READ or WRITE of the host set moves: a multiple of 8 from 8 to 65,528. Contracts see the number.
@@ -216,8 +225,13 @@ impl UnitAttention {
 pub enum VitalPage {
     SupportedPages,
     UnitSerialNumber(SerialNumber),
-    DeviceIdentification(SerialNumber),
-    BlockLimits { maximum: TransferLength },
+    DeviceIdentification {
+        serial: SerialNumber,
+        names: UnitNames,
+    },
+    BlockLimits {
+        maximum: TransferLength,
+    },
     BlockDeviceCharacteristics,
     LogicalBlockProvisioning,
 }
@@ -248,6 +262,8 @@ pub struct BlockDescriptor {
 #[derive(Clone, Copy, Debug, PartialEq, Eq)]
 pub struct ModeData {
     pub form: ModeForm,
+    /// Whether the logical unit is read only.
+    pub read_only: bool,
     pub descriptor: Option<BlockDescriptor>,
     pub pages: ModePages,
     pub changeable: bool,
@@ -259,6 +275,7 @@ pub enum Data {
     /// Standard INQUIRY data, of a logical unit that is there or isn't.
     Inquiry {
         present: bool,
+        names: UnitNames,
     },
     /// A page of vital product data, of a logical unit that is there or isn't.
     VitalProductData {

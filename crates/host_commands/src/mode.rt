@@ -1,7 +1,7 @@
 //! The bytes of mode data (SPC, SBC).
 ghost use Rattle.std.specs.Prelude.{◌≡◌, ◌+◌, ◌≤◌, ◌++◌, Bool, length};
 ghost use Rattle.arrayvec.specs.ArrayVec.{array_vec_len};
-ghost use Rattle.host_commands.specs.ModeData.{caching_page, control_page, descriptor_bytes, in_effect, mode_bytes, mode_header, mode_pages};
+ghost use Rattle.host_commands.specs.ModeData.{caching_page, control_page, descriptor_bytes, device_parameter, in_effect, mode_bytes, mode_header, mode_pages};
 ghost use Rattle.host_commands.specs.declared.TheConstants.{MOST_DATA_BYTES};
 
 use crate::fields::{four_bytes_at_most, put};
@@ -10,6 +10,9 @@ use arrayvec::ArrayVec;
 
 /// The device-specific parameter of a disk that knows DPO and FUA (SBC, DPOFUA).
 const DPO_AND_FUA: u8 = 0x10;
+
+/// The same of one that is read only (SBC, WP).
+const WRITE_PROTECTED: u8 = 0x80;
 
 /// Writes cached (SBC, WCE).
 const WRITES_CACHED: u8 = 0x04;
@@ -28,7 +31,13 @@ pub(crate) fn write_mode(mode: &ModeData, into: &mut ArrayVec<u8, MOST_DATA_BYTE
 {
     let descriptors = descriptors_len(&mode.descriptor);
     let pages = pages_len(mode.pages, mode.changeable);
-    write_header(mode.form, descriptors, descriptors + pages, into);
+    write_header(
+        mode.form,
+        mode.read_only,
+        descriptors,
+        descriptors + pages,
+        into,
+    );
     write_descriptor(&mode.descriptor, into);
     write_pages(mode.pages, mode.changeable, into);
 }
@@ -54,15 +63,33 @@ fn pages_len(pages: ModePages, changeable: bool) -> u8
     }
 }
 
-fn write_header(form: ModeForm, descriptors: u8, rest: u8, into: &mut ArrayVec<u8, MOST_DATA_BYTES>)
+fn write_header(
+    form: ModeForm,
+    read_only: bool,
+    descriptors: u8,
+    rest: u8,
+    into: &mut ArrayVec<u8, MOST_DATA_BYTES>,
+)
     requires empty { array_vec_len into.old ≡ 0 }
     requires short { rest ≤ 40 }
-    ensures bytes { into.new.items ≡ mode_header form descriptors rest }
+    ensures bytes { into.new.items ≡ mode_header form read_only descriptors rest }
     ensures len { array_vec_len into.new ≤ 8 }
 {
+    let parameter = device_parameter(read_only);
     match form {
-        ModeForm::Six => put(into, &[3 + rest, 0, DPO_AND_FUA, descriptors]),
-        ModeForm::Ten => put(into, &[0, 6 + rest, 0, DPO_AND_FUA, 0, 0, 0, descriptors]),
+        ModeForm::Six => put(into, &[3 + rest, 0, parameter, descriptors]),
+        ModeForm::Ten => put(into, &[0, 6 + rest, 0, parameter, 0, 0, 0, descriptors]),
+    }
+}
+
+/// The device-specific parameter.
+fn device_parameter(read_only: bool) -> u8
+    ensures { result ≡ device_parameter read_only }
+{
+    if read_only {
+        DPO_AND_FUA | WRITE_PROTECTED
+    } else {
+        DPO_AND_FUA
     }
 }
 

@@ -2,10 +2,12 @@
 ghost use Rattle.std.specs.Prelude.{◌≡◌, IfOk};
 ghost use Rattle.scsi_cmd.specs.Meaning.{has_invalid_field, named_op, op_fault, range_fault, transfer_fault};
 ghost use Rattle.host_commands.specs.Meaning.{IsWorkOn};
+ghost use Rattle.host_commands.specs.Protection.{allowed};
 ghost use Rattle.host_commands.specs.Profile.{profile_asked, profile_asked_of_none, profile_work, profile_work_of_none};
 
+use crate::blocks::WRITE_PROTECTED;
 use crate::fields::{action_in, eight_at, four_at, has_bit, two_at};
-use crate::{Data, LogicalUnitShape, Work};
+use crate::{Data, LogicalUnitShape, UnitNames, Work};
 use scsi_cmd::{Op, Sense, parse_without_unit};
 use uas_profile::MOST_BLOCKS_MOVED;
 
@@ -32,7 +34,7 @@ pub(crate) fn read_profile(cdb: &[u8; 16], shape: &LogicalUnitShape) -> Result<W
     }
     match fault(&op, shape.blocks()) {
         Some(sense) => Err(sense),
-        None => Ok(work_of(&op, shape)),
+        None => allowed(shape.is_read_only(), work_of(&op, shape)),
     }
 }
 
@@ -127,6 +129,16 @@ fn range_fault(lba: u64, count: u32, blocks: u64) -> Option<Sense>
     }
 }
 
+/// A read-only logical unit refuses a work that changes blocks.
+fn allowed(read_only: bool, work: Work) -> Result<Work, Sense>
+    ensures { result ≡ allowed read_only work }
+{
+    match work {
+        Work::Writes { .. } if read_only => Err(WRITE_PROTECTED),
+        _ => Ok(work),
+    }
+}
+
 /// The work of an operation of which there is no fault.
 fn work_of(op: &Op, shape: &LogicalUnitShape) -> Work
     ensures { result ≡ profile_work op.now shape.now }
@@ -136,7 +148,10 @@ fn work_of(op: &Op, shape: &LogicalUnitShape) -> Work
     match *op {
         Op::TestUnitReady => Work::Nothing,
         Op::Inquiry { allocation } => Work::Gives {
-            given: Data::Inquiry { present: true },
+            given: Data::Inquiry {
+                present: true,
+                names: shape.names(),
+            },
             allocation: u32::from(allocation),
         },
         Op::ReadCapacity => Work::Gives {
@@ -180,7 +195,10 @@ fn work_of_none(op: &Op) -> Result<Work, Sense>
 {
     match *op {
         Op::Inquiry { allocation } => Ok(Work::Gives {
-            given: Data::Inquiry { present: false },
+            given: Data::Inquiry {
+                present: false,
+                names: UnitNames::usual(),
+            },
             allocation: u32::from(allocation),
         }),
         Op::TestUnitReady

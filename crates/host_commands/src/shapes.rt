@@ -1,10 +1,10 @@
 //! Logical units and command sets, made of numbers that are tested once.
 ghost use Rattle.std.specs.Prelude.{◌≡◌, ◌^◌, ◌<◌, ◌≤◌};
-ghost use Rattle.host_commands.specs.Shapes.{block_bytes, host_set, serial_number, shape_of};
+ghost use Rattle.host_commands.specs.Shapes.{Shape, block_bytes, host_set, serial_number, shape_of};
 
 use crate::{
-    BlockLength, CommandSet, LogicalUnitShape, MOST_BLOCKS, SERIAL_NUMBERS, SerialNumber,
-    ShapeFault, TransferLength,
+    BlockLength, CommandSet, LogicalUnitShape, MOST_BLOCKS, Product, SERIAL_NUMBERS, SerialNumber,
+    ShapeFault, TransferLength, UnitNames, Vendor,
 };
 
 impl BlockLength {
@@ -51,7 +51,7 @@ impl SerialNumber {
 }
 
 impl LogicalUnitShape {
-    /// A logical unit of so many blocks. Refused with `NoBlock` for 0 blocks, and with `TooManyBlocks` above 2^48.
+    /// A logical unit of so many blocks, that may be written and has the usual names. Refused with `NoBlock` for 0 blocks, and with `TooManyBlocks` above 2^48.
     pub fn new(
         blocks: u64,
         block_length: BlockLength,
@@ -68,7 +68,26 @@ impl LogicalUnitShape {
                 blocks,
                 block_length,
                 serial,
+                read_only: false,
+                names: UnitNames::usual(),
             })
+        }
+    }
+
+    /// The same, read only or not: one that is refuses what changes blocks, and tells so.
+    pub fn read_only(self, read_only: bool) -> LogicalUnitShape
+        ensures { result ≡ record self { read_only = read_only } }
+    {
+        LogicalUnitShape { read_only, ..self }
+    }
+
+    /// The same, of this vendor and product.
+    pub fn named(self, vendor: Vendor, product: Product) -> LogicalUnitShape
+        ensures { result ≡ record self { names = record { vendor = vendor; product = product } } }
+    {
+        LogicalUnitShape {
+            names: UnitNames { vendor, product },
+            ..self
         }
     }
 
@@ -93,6 +112,20 @@ impl LogicalUnitShape {
         ensures { result ≡ self.now.serial }
     {
         self.serial
+    }
+
+    /// Whether it refuses what changes blocks.
+    pub fn is_read_only(&self) -> bool
+        ensures { result ≡ self.now.read_only }
+    {
+        self.read_only
+    }
+
+    /// Its vendor and product.
+    pub fn names(&self) -> UnitNames
+        ensures { result ≡ self.now.names }
+    {
+        self.names
     }
 }
 

@@ -1,7 +1,7 @@
 //! From data to their bytes.
 ghost use Rattle.std.specs.Prelude.{◌≡◌, ◌+◌, ◌≤◌, ◌++◌, length};
 ghost use Rattle.arrayvec.specs.ArrayVec.{array_vec_len};
-ghost use Rattle.host_commands.specs.Data.{IsOfDevice, data_bytes, given_bytes, report_luns};
+ghost use Rattle.host_commands.specs.Data.{IsOfDevice, data_bytes, given_bytes, named_inquiry, report_luns};
 ghost use Rattle.host_commands.specs.OperationCodes.{task_functions};
 ghost use Rattle.host_commands.specs.declared.TheConstants.{MOST_DATA_BYTES};
 ghost use Rattle.uas_profile.specs.declared.TheConstants.{MAX_CLIENTS};
@@ -9,10 +9,9 @@ ghost use Rattle.uas_profile.specs.declared.TheConstants.{MAX_CLIENTS};
 use crate::fields::{eight_bytes, four_bytes, four_bytes_at_most, put};
 use crate::mode::write_mode;
 use crate::operation_codes::{write_all_commands, write_one_command};
-use crate::pages::write_page;
-use crate::{Data, MOST_DATA_BYTES};
+use crate::pages::{peripheral_byte, write_page};
+use crate::{Data, MOST_DATA_BYTES, UnitNames};
 use arrayvec::ArrayVec;
-use scsi_cmd::inquiry_data;
 use uas_profile::MAX_CLIENTS;
 
 /// The task management functions of the device: ABORT TASK, LOGICAL UNIT RESET, QUERY TASK.
@@ -34,7 +33,7 @@ fn write_whole(given: &Data, into: &mut ArrayVec<u8, MOST_DATA_BYTES>)
     ensures { into.new.items ≡ data_bytes given.now }
 {
     match given {
-        Data::Inquiry { present } => put(into, &inquiry_data(*present)),
+        Data::Inquiry { present, names } => write_inquiry(*present, names, into),
         Data::VitalProductData { page, present } => write_page(page, *present, into),
         Data::RequestSense(sense) => put(into, &sense.bytes()),
         Data::LogicalUnits { count } => write_luns(*count, into),
@@ -60,6 +59,17 @@ fn write_whole(given: &Data, into: &mut ArrayVec<u8, MOST_DATA_BYTES>)
             put(into, &[0; 20]);
         }
     }
+}
+
+/// Standard INQUIRY data: header, vendor, product, revision.
+fn write_inquiry(present: bool, names: &UnitNames, into: &mut ArrayVec<u8, MOST_DATA_BYTES>)
+    requires empty { array_vec_len into.old ≡ 0 }
+    ensures { into.new.items ≡ named_inquiry present names.now }
+{
+    put(into, &[peripheral_byte(present), 0, 6, 2, 0x1f, 0, 0, 2]);
+    put(into, &names.vendor.bytes());
+    put(into, &names.product.bytes());
+    put(into, b"0001");
 }
 
 /// REPORT LUNS: the length of the list, then each LUN.

@@ -4,6 +4,7 @@ use Rattle.uas_profile.specs.declared.Pipe.{Pipe}
 use Rattle.uas_profile.specs.declared.Pipe.TheVariants.{Command, Status, DataIn, DataOut}
 use Rattle.usb_disk.specs.declared.Setup.{Setup}
 use Rattle.usb_disk.specs.declared.UsbDisk.{UsbDisk}
+use Rattle.usb_disk.specs.declared.UsbStrings.{UsbStrings}
 use Rattle.usb_disk.specs.declared.Halts.{Halts}
 use Rattle.usb_disk.specs.declared.Answer.{Answer}
 use Rattle.usb_disk.specs.declared.Answer.TheVariants.{Data, Done, Restarted, Stall}
@@ -12,6 +13,7 @@ use Rattle.usb_disk.specs.declared.requests.Request.TheVariants.{DeviceStatus, I
 use Rattle.usb_disk.specs.declared.requests.Request.TheVariants.{GetDescriptor, GetConfiguration, SetConfiguration, GetInterface, SetInterface, SetExitLatency, SetIsochDelay}
 use Rattle.usb_disk.specs.Descriptors.{descriptor_of}
 use Rattle.usb_disk.specs.Requests.{request_in}
+use Rattle.usb_disk.specs.Strings.{usual_strings}
 
 -- no endpoint is halted
 abbrev pub no_halts : Halts
@@ -30,9 +32,13 @@ with_halt halts Status on = record halts { status = on }
 with_halt halts DataIn on = record halts { data_in = on }
 with_halt halts DataOut on = record halts { data_out = on }
 
--- as a reset of the device leaves it: not configured
+-- as a reset of the device leaves it: not configured, with the strings it has
+abbrev pub reset_with : UsbStrings → UsbDisk
+reset_with strings = record { configured = false; u1 = false; u2 = false; halts = no_halts; strings = strings }
+
+-- the same of a disk with the usual strings
 abbrev pub reset_disk : UsbDisk
-reset_disk = record { configured = false; u1 = false; u2 = false; halts = no_halts }
+reset_disk = reset_with usual_strings
 
 -- configured or not; either way no endpoint is halted
 abbrev pub configured_disk : UsbDisk → Bool → UsbDisk
@@ -68,7 +74,7 @@ done disk setup (SetU1 on) = if_configured disk (record disk { u1 = on }, Done)
 done disk setup (SetU2 on) = if_configured disk (record disk { u2 = on }, Done)
 done disk setup SuspendFunction = if_configured disk (disk, Done)
 done disk setup (SetHalt pipe on) = if_configured disk (record disk { halts = with_halt disk.halts pipe on }, Done)
-done disk setup (GetDescriptor kind index) = (disk, front_or_stall setup (descriptor_of kind index))
+done disk setup (GetDescriptor kind index) = (disk, front_or_stall setup (descriptor_of disk.strings kind index))
 done disk setup GetConfiguration = (disk, front setup (bit_of disk.configured 1 ∷ []))
 done disk setup (SetConfiguration on) = (configured_disk disk on, Restarted)
 done disk setup GetInterface = if_configured disk (disk, front setup (0 ∷ []))

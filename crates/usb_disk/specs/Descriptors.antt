@@ -2,6 +2,8 @@
 use Rattle.std.specs.Prelude.{ℕ, ◌==◌, if◌then◌else◌, List, [], ◌∷◌, ◌++◌, Option, None, Some}
 use Rattle.uas_profile.specs.declared.Pipe.{Pipe}
 use Rattle.uas_profile.specs.declared.Pipe.TheVariants.{Command, Status, DataIn, DataOut}
+use Rattle.usb_disk.specs.declared.UsbStrings.{UsbStrings}
+use Rattle.usb_disk.specs.Strings.{string_of}
 
 -- 9.6.1: USB 3.0, each class is told by its interface, packets of 2^9 bytes on endpoint 0, 46f4:0003, strings 1 to 3, one configuration
 abbrev pub device_descriptor : List ℕ
@@ -49,36 +51,25 @@ bos_descriptor = 5 ∷ 15 ∷ 22 ∷ 0 ∷ 2 ∷ 7 ∷ 16 ∷ 2 ∷ 2 ∷ 0 ∷ 
 abbrev pub language_descriptor : List ℕ
 language_descriptor = 4 ∷ 3 ∷ 9 ∷ 4 ∷ []
 
--- "SIMDISK", in UTF-16
-abbrev pub vendor_descriptor : List ℕ
-vendor_descriptor = 16 ∷ 3 ∷ 0x53 ∷ 0 ∷ 0x49 ∷ 0 ∷ 0x4d ∷ 0 ∷ 0x44 ∷ 0 ∷ 0x49 ∷ 0 ∷ 0x53 ∷ 0 ∷ 0x4b ∷ 0 ∷ []
-
--- "UAS SIM DISK"
-abbrev pub product_descriptor : List ℕ
-product_descriptor =
-    26 ∷ 3 ∷ 0x55 ∷ 0 ∷ 0x41 ∷ 0 ∷ 0x53 ∷ 0 ∷ 0x20 ∷ 0 ∷ 0x53 ∷ 0 ∷ 0x49 ∷ 0 ∷ 0x4d ∷ 0 ∷ 0x20 ∷ 0 ∷ 0x44 ∷ 0 ∷ 0x49 ∷ 0 ∷ 0x53 ∷ 0 ∷ 0x4b ∷ 0 ∷ []
-
--- "0001"
-abbrev pub serial_descriptor : List ℕ
-serial_descriptor = 10 ∷ 3 ∷ 0x30 ∷ 0 ∷ 0x30 ∷ 0 ∷ 0x30 ∷ 0 ∷ 0x31 ∷ 0 ∷ []
-
-abbrev pub string_descriptor : ℕ → Option (List ℕ)
-string_descriptor index =
+-- the manufacturer is string 1, the product 2, the serial number 3
+abbrev pub string_descriptor : UsbStrings → ℕ → Option (List ℕ)
+string_descriptor strings index =
     if index == 0 then Some language_descriptor
-    else (if index == 1 then Some vendor_descriptor
-    else (if index == 2 then Some product_descriptor
-    else (if index == 3 then Some serial_descriptor
+    else (if index == 1 then Some (string_of strings.manufacturer)
+    else (if index == 2 then Some (string_of strings.product)
+    else (if index == 3 then Some (string_of strings.serial)
     else None)))
 
--- The descriptor of a type (table 9-6) and an index: device 1, configuration 2, string 3, BOS 15. Of all but strings there is index 0 alone.
-abbrev pub descriptor_of : ℕ → ℕ → Option (List ℕ)
-descriptor_of kind index =
-    if kind == 3 then string_descriptor index
+-- the descriptors of which there is index 0 alone: device 1, configuration 2, BOS 15
+abbrev pub single_descriptor : ℕ → Option (List ℕ)
+single_descriptor kind =
+    if kind == 1 then Some device_descriptor
+    else (if kind == 2 then Some configuration_descriptor
+    else (if kind == 15 then Some bos_descriptor
+    else None))
+
+-- the descriptor of a type (table 9-6) and an index; type 3 is strings
+abbrev pub descriptor_of : UsbStrings → ℕ → ℕ → Option (List ℕ)
+descriptor_of strings kind index =
+    if kind == 3 then string_descriptor strings index
     else (if index == 0 then single_descriptor kind else None)
-  where
-    single_descriptor : ℕ → Option (List ℕ)
-    single_descriptor kind =
-        if kind == 1 then Some device_descriptor
-        else (if kind == 2 then Some configuration_descriptor
-        else (if kind == 15 then Some bos_descriptor
-        else None))

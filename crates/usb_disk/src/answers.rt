@@ -2,25 +2,39 @@
 ghost use Rattle.std.specs.Prelude.{◌≡◌, ◌≤◌, length, take};
 ghost use Rattle.usb_disk.specs.declared.Answer.{Answer};
 ghost use Rattle.usb_disk.specs.declared.TheConstants.{MOST_ANSWER_BYTES};
-ghost use Rattle.usb_disk.specs.Answers.{bit_of, configured_disk, controlled, device_status, done, front, front_or_stall, reset_disk};
-ghost use Rattle.usb_disk.specs.Descriptors.{descriptor_of};
+ghost use Rattle.usb_disk.specs.Answers.{bit_of, configured_disk, controlled, device_status, done, front, reset_disk, reset_with};
 
-use crate::descriptors::descriptor_of;
+use crate::descriptors::described;
 use crate::requests::request_in;
-use crate::{Answer, Halts, Request, Setup, UsbDisk};
+use crate::{Answer, Halts, Request, Setup, UsbDisk, UsbStrings};
 use arrayvec::ArrayVec;
 
 impl UsbDisk {
-    /// As a reset of the device leaves it: not configured.
+    /// A disk with the usual strings, as a reset of the device leaves it: not configured.
     pub fn new() -> UsbDisk
         ensures { result ≡ reset_disk }
+    {
+        UsbDisk::named(UsbStrings::usual())
+    }
+
+    /// The same with these strings.
+    pub fn named(strings: UsbStrings) -> UsbDisk
+        ensures { result ≡ reset_with strings }
     {
         UsbDisk {
             configured: false,
             u1: false,
             u2: false,
             halts: Halts::none(),
+            strings,
         }
+    }
+
+    /// A reset of the device: it isn't configured now, and keeps its strings.
+    pub fn reset(&mut self)
+        ensures { self.new ≡ reset_with self.old.strings }
+    {
+        *self = UsbDisk::named(self.strings);
     }
 
     /// Does what a Setup packet asks and answers it. A request that isn't of this disk, and one of interface or endpoints before the
@@ -42,10 +56,7 @@ impl UsbDisk {
         match request {
             Request::DeviceStatus => front(setup, &self.device_status()),
             Request::DefaultPipeStatus => front(setup, &[0, 0]),
-            Request::GetDescriptor(kind, index) => match descriptor_of(kind, index) {
-                Some(bytes) => front(setup, bytes),
-                None => Answer::Stall,
-            },
+            Request::GetDescriptor(kind, index) => described(&self.strings, setup, kind, index),
             Request::GetConfiguration => front(setup, &[u8::from(self.configured)]),
             Request::SetConfiguration(on) => self.restart(on),
             Request::SetExitLatency | Request::SetIsochDelay => Answer::Done,
@@ -88,7 +99,7 @@ impl UsbDisk {
 }
 
 /// The front of these bytes, as long as was asked for.
-fn front(setup: &Setup, bytes: &[u8]) -> Answer
+pub(crate) fn front(setup: &Setup, bytes: &[u8]) -> Answer
     requires { length bytes.now ≤ MOST_ANSWER_BYTES }
     ensures { result ≡ front setup.now bytes.now }
 {

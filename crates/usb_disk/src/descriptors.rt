@@ -1,6 +1,11 @@
 //! The descriptors of the disk (USB 3.2, 9.6; INCITS 471, pipe usage).
-ghost use Rattle.std.specs.Prelude.{◌≡◌, IfSome, Some, None, OnOk, length, ◌≤◌, option_map};
-ghost use Rattle.usb_disk.specs.Descriptors.{descriptor_of, string_descriptor};
+ghost use Rattle.std.specs.Prelude.{◌≡◌, ◌≤◌, IfSome, length, option_map};
+ghost use Rattle.usb_disk.specs.Answers.{front_or_stall};
+ghost use Rattle.usb_disk.specs.Descriptors.{descriptor_of, single_descriptor, string_descriptor};
+
+use crate::answers::front;
+use crate::strings::string_of;
+use crate::{Answer, Setup, UsbStrings};
 
 /// The device descriptor.
 const DEVICE: [u8; 18] = [18, 1, 0, 3, 0, 0, 0, 9, 0xf4, 0x46, 3, 0, 0, 0, 1, 2, 3, 1];
@@ -22,12 +27,6 @@ const BOS: [u8; 22] = [
 /// String 0, the languages: English (United States).
 const LANGUAGES: [u8; 4] = [4, 3, 9, 4];
 
-const VENDOR: [u8; 16] = *b"\x10\x03S\0I\0M\0D\0I\0S\0K\0";
-
-const PRODUCT: [u8; 26] = *b"\x1a\x03U\0A\0S\0 \0S\0I\0M\0 \0D\0I\0S\0K\0";
-
-const SERIAL: [u8; 10] = *b"\x0a\x030\x000\x000\x001\x00";
-
 /// Types of descriptors (table 9-6).
 const DEVICE_TYPE: u8 = 1;
 
@@ -37,27 +36,42 @@ const STRING_TYPE: u8 = 3;
 
 const BOS_TYPE: u8 = 15;
 
-/// The descriptor of a type and an index.
-pub(crate) fn descriptor_of(kind: u8, index: u8) -> Option<&'static [u8]>
-    ensures { option_map (λ bytes. bytes.now) result ≡ descriptor_of kind index }
+/// What is answered to GET_DESCRIPTOR of a type and an index.
+pub(crate) fn described(strings: &UsbStrings, setup: &Setup, kind: u8, index: u8) -> Answer
+    ensures { result ≡ front_or_stall setup.now (descriptor_of strings.now kind index) }
 {
-    match (kind, index) {
-        (STRING_TYPE, _) => string_descriptor(index),
-        (DEVICE_TYPE, 0) => Some(&DEVICE),
-        (CONFIGURATION_TYPE, 0) => Some(&CONFIGURATION),
-        (BOS_TYPE, 0) => Some(&BOS),
-        _ => None,
+    if kind == STRING_TYPE {
+        return text_described(strings, setup, index);
+    }
+    if index != 0 {
+        return Answer::Stall;
+    }
+    match single_descriptor(kind) {
+        Some(bytes) => front(setup, bytes),
+        None => Answer::Stall,
     }
 }
 
-fn string_descriptor(index: u8) -> Option<&'static [u8]>
-    ensures { option_map (λ bytes. bytes.now) result ≡ string_descriptor index }
+fn text_described(strings: &UsbStrings, setup: &Setup, index: u8) -> Answer
+    ensures { result ≡ front_or_stall setup.now (string_descriptor strings.now index) }
 {
     match index {
-        0 => Some(&LANGUAGES),
-        1 => Some(&VENDOR),
-        2 => Some(&PRODUCT),
-        3 => Some(&SERIAL),
+        0 => front(setup, &LANGUAGES),
+        1 => front(setup, &string_of(&strings.manufacturer)),
+        2 => front(setup, &string_of(&strings.product)),
+        3 => front(setup, &string_of(&strings.serial)),
+        _ => Answer::Stall,
+    }
+}
+
+fn single_descriptor(kind: u8) -> Option<&'static [u8]>
+    ensures bytes { option_map (λ bytes. bytes.now) result ≡ single_descriptor kind }
+    ensures most { IfSome result (λ bytes. length bytes.now ≤ 86) }
+{
+    match kind {
+        DEVICE_TYPE => Some(&DEVICE),
+        CONFIGURATION_TYPE => Some(&CONFIGURATION),
+        BOS_TYPE => Some(&BOS),
         _ => None,
     }
 }

@@ -19,6 +19,7 @@
 mod answers;
 mod descriptors;
 mod requests;
+mod strings;
 
 use arrayvec::ArrayVec;
 pub use requests::Request;
@@ -63,13 +64,23 @@ pub struct Halts {
     pub data_out: bool,
 }
 
-/// What endpoint 0 keeps: whether the device is configured, whether it may go to the link states U1 and U2, and its halted endpoints.
+/// The strings of the disk, of characters of one byte; spaces at the end aren't told.
+#[derive(Clone, Copy, Debug, PartialEq, Eq)]
+pub struct UsbStrings {
+    pub manufacturer: [u8; 8],
+    pub product: [u8; 16],
+    pub serial: [u8; 8],
+}
+
+/// What endpoint 0 keeps: whether the device is configured, whether it may go to the link states U1 and U2, its halted endpoints, and
+/// its strings, which nothing changes.
 #[derive(Clone, Copy, Debug, PartialEq, Eq)]
 pub struct UsbDisk {
     pub configured: bool,
     pub u1: bool,
     pub u2: bool,
     pub halts: Halts,
+    pub strings: UsbStrings,
 }
 
 impl Setup {

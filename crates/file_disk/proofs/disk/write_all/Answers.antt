@@ -16,6 +16,7 @@ loop-done-init g c = record {
   safe = refl;
   told = refl;
   same = refl;
+  spoiled = refl;
 }
 
 pub loop-done-preserved : goal.loop-done-preserved
@@ -43,4 +44,5 @@ loop-done-preserved g c =
       safe = c.in_ok-write_piece.ensures.safe ∙ l.invariant.safe;
       told = c.in_ok-write_piece.ensures.told ∙ l.invariant.told;
       same = c.in_ok-write_piece.ensures.same ∙ l.invariant.same;
+      spoiled = c.in_ok-write_piece.ensures.spoiled ∙ l.invariant.spoiled;
     }

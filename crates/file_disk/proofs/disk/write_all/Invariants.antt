@@ -14,6 +14,7 @@ invariant-loop-done g l = record {
   safe : g.B.Blocks.synced l.file ≡ g.B.Blocks.synced l.fn.file;
   told : g.B.Blocks.tells l.file ≡ g.B.Blocks.tells l.fn.file;
   same : g.B.Blocks.can_fail l.file ≡ g.B.Blocks.can_fail l.fn.file;
+  spoiled : g.B.Blocks.is_spoiled l.file ≡ g.B.Blocks.is_spoiled l.fn.file;
 }
 
 abbrev pub decreases-loop-done : goal.decreases-loop-done

@@ -13,3 +13,9 @@ returns-in-Err-clause-bytes g c = rw (c.finish-in-Err.ensures.told (Check write_
 
 pub returns-in-Ok-clause-kept : goal.returns-in-Ok-clause-kept
 returns-in-Ok-clause-kept g c = rw (c.finish.ensures.told Good c.in-Ok.ensures.done) tt
+
+pub returns-in-Ok-clause-spoiled : goal.returns-in-Ok-clause-spoiled
+returns-in-Ok-clause-spoiled g c = rw (c.finish.ensures.told Good c.in-Ok.ensures.done) tt
+
+pub returns-in-Err-clause-sound : goal.returns-in-Err-clause-sound
+returns-in-Err-clause-sound g c = rw (c.finish-in-Err.ensures.told (Check write_error) c.in-Err.ensures.failed) tt

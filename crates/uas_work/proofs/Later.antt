@@ -1,5 +1,5 @@
 -- A bus with more steps stays one, whatever is booked.
-use Rattle.std.proofs.Common.{◌≡◌, ℕ, Bool, true, false, List, [], ◌∷◌, ◌++◌, length, take, drop, get_or, Result, Ok, Err, MatchResult, refl, sym, ap, subst, ⊎_elim}
+use Rattle.std.proofs.Common.{◌≡◌, ℕ, zero, suc, Bool, true, false, List, [], ◌∷◌, ◌++◌, length, take, drop, get_or, Result, Ok, Err, IfOk, IfErr, MatchResult, refl, sym, ap, subst, ⊎_elim}
 use Rattle.std.specs.Prelude.{if◌then◌else◌}
 use Rattle.shared_machine.specs.declared.Step.{Step}
 use Rattle.shared_machine.specs.declared.Step.TheVariants.{Take}
@@ -9,6 +9,7 @@ use Rattle.uas_log.specs.Booking.{with_entry}
 use Rattle.uas_work.specs.declared.Booking.{Booking}
 use Rattle.uas_work.specs.Booked.{BookedState, IsLater, booked_step}
 use Rattle.uas_work.specs.Control.{TookOrLeft, WantsOne}
+use Rattle.uas_work.specs.Sweep.{IsSwept, WasSwept}
 use Rattle.uas_work.specs.Pumps.{Entered, EnteredOrLeft, Served, TakenOrLeft, asked}
 
 -- a list begins with itself
@@ -61,8 +62,21 @@ later_taken first old new client says true taken it = later_step first old new (
 later_taken first old new client says false left it = later_as first old new it left.1
 
 -- and a pump
-pub later_served : (first old new : BookedState) (client : ℕ) (says : Step → Bool → Type 0) (result : Result Bool Booking)
+pub later_served : {A : Type 0} (first old new : BookedState) (client : ℕ) (says : Step → Bool → Type 0) (result : Result A Booking)
     → MatchResult result (λ served. Served says client old new) (λ booking. EnteredOrLeft client old new) → IsLater first old → IsLater first new
 later_served first old new client says (Ok booked) served it =
     later_taken first served.between new client says served.took served.taken (later_entered first old served.between client served.entered it)
 later_served first old new client says (Err booking) came it = later_entered first old new client came it
+
+-- and whoever sweeps
+later_steps : (first old : BookedState) (says : Step → Bool → Type 0) (count : ℕ) (new : BookedState) → IsSwept says old count new
+    → IsLater first old → IsLater first new
+unfolding IsSwept
+later_steps first old says zero new same it = later_as first old new it same
+later_steps first old says (suc count) new more it =
+    later_step first more.between new more.one.step (later_steps first old says count more.between more.before it) more.one.booked
+
+pub later_swept : (first old new : BookedState) (says : Step → Bool → Type 0) (result : Result ℕ Booking)
+    → IfOk result (λ taken. IsSwept says old taken new) → IfErr result (λ booking. WasSwept says old new) → IsLater first old → IsLater first new
+later_swept first old new says (Ok taken) swept some it = later_steps first old says taken new swept it
+later_swept first old new says (Err booking) swept some it = later_steps first old says some.count new some.swept it

@@ -6,5 +6,6 @@ pub mod Taking
 pub mod Numbers
 pub mod Rows
 pub mod Later
+pub mod Sweeps
 pub mod Homes
 pub mod Closing

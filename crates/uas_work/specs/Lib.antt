@@ -4,3 +4,4 @@ pub mod Held
 pub mod Parts
 pub mod Pumps
 pub mod Rounds
+pub mod Sweep

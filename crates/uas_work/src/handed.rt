@@ -1,14 +1,16 @@
 //! The bus under its lock: the one that the workers were handed, with what was booked since.
-ghost use Rattle.std.specs.Prelude.{◌≡◌, MatchResult};
+ghost use Rattle.std.specs.Prelude.{◌≡◌, IfOk, IfErr, MatchResult};
 ghost use Rattle.uas_work.specs.Booked.{BookedState, IsBooked, IsLater};
 ghost use Rattle.uas_work.specs.Control.{IsControl, IsDispatch, TookOrLeft, WantsOne};
 ghost use Rattle.uas_work.specs.Held.{ServesClient};
 ghost use Rattle.uas_work.specs.Parts.{IsPumpPart};
 ghost use Rattle.uas_work.specs.Pumps.{EnteredOrLeft, Served};
+ghost use Rattle.uas_work.specs.Sweep.{IsSwept, WasSwept};
 
 use crate::desk_and_board::DeskAndBoard;
 use crate::parts::PumpPart;
-use crate::{Booked, Booking, Gate, control, dispatch};
+use crate::pump_part::Turn;
+use crate::{Booked, Booking, Gate, control, dispatch, sweep};
 use std::alloc::Global;
 use std::marker::{Brand, PhantomData};
 
@@ -74,6 +76,19 @@ impl<J: Origin> Handed<J> {
         dispatch(alloc, &mut self.booked, gate)
     }
 
+    /// Takes all turns of those who have no client, at most so many steps: `sweep`.
+    pub(crate) fn sweep<G: Gate>(
+        &mut self,
+        alloc: Global,
+        gate: &G,
+        most: u32,
+    ) -> Result<u32, Booking>
+        ensures swept { IfOk result (λ taken. IsSwept (G.says gate.now) self.old.booked taken self.new.booked) }
+        ensures some { IfErr result (λ booking. WasSwept (G.says gate.now) self.old.booked self.new.booked) }
+    {
+        sweep(alloc, &mut self.booked, gate, most)
+    }
+
     /// Lets a pump serve a client: `PumpPart::served`.
     pub(crate) fn serve<G: Gate>(
         &mut self,
@@ -82,7 +97,7 @@ impl<J: Origin> Handed<J> {
         shared: &DeskAndBoard,
         gate: &G,
         client: usize,
-    ) -> Result<bool, Booking>
+    ) -> Result<Turn, Booking>
         requires part { IsPumpPart shared.now.desk shared.now.board pump.old }
         requires client { ServesClient shared.now.desk pump.old.seat client }
         ensures part { IsPumpPart shared.now.desk shared.now.board pump.new }

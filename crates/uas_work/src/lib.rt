@@ -38,6 +38,7 @@ mod reasons;
 mod rounds;
 mod serving;
 mod stepping;
+mod sweeping;
 mod turns;
 mod workers;
 
@@ -46,6 +47,7 @@ pub use gates::{Gate, Unhindered};
 pub use pumps::{control, dispatch};
 pub use serving::{pump_in, pump_out};
 use std::marker::Model;
+pub use sweeping::sweep;
 use tag_desk::{Claim, Left};
 use thiserror::Error;
 use uas_log::{Log, Replies};

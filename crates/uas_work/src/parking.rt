@@ -75,6 +75,15 @@ impl Parkers {
         }
     }
 
+    /// Unparks the clients that have a reply.
+    pub(crate) fn unpark_replied(&self, replied: &[bool; MAX_CLIENTS]) {
+        for (parker, has_reply) in self.clients.iter().zip(replied) {
+            if *has_reply {
+                parker.unpark();
+            }
+        }
+    }
+
     pub(crate) fn unpark_pumps(&self) {
         for parker in &self.pumps {
             parker.unpark();

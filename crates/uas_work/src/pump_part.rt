@@ -8,7 +8,7 @@ ghost use Rattle.uas_work.specs.Held.{ServesClient};
 ghost use Rattle.uas_work.specs.Parts.{IsPumpPart, IsSeatOfPump};
 
 use crate::desk_and_board::DeskAndBoard;
-use crate::handed::Origin;
+use crate::handed::{Handed, Origin};
 use crate::locked_bus::LockedBus;
 use crate::parking::Worker;
 use crate::parts::PumpPart;
@@ -19,6 +19,22 @@ use door_board::WORDS;
 use std::alloc::Global;
 use std::sync::Wait;
 use tag_desk::WorkSeat;
+use uas_profile::MAX_CLIENTS;
+
+/// The most rounds that a pump takes in one hold of the lock: what its clients post meanwhile is served with it.
+const MOST_ROUNDS: u32 = 8;
+
+/// The most steps of those who have no client in a round.
+const MOST_SWEPT: u32 = 4096;
+
+/// What a pump did of a client.
+#[derive(Clone, Copy)]
+pub(crate) struct Turn {
+    /// It booked what the client posted.
+    pub(crate) has_posted: bool,
+    /// It brought the client a reply.
+    pub(crate) has_reply: bool,
+}
 
 impl PumpPart {
     /// Serves its clients until the workers end, and gives back every claim that it holds then.
@@ -65,23 +81,12 @@ impl PumpPart {
             if !self.is_called(shared) && !is_busy {
                 locked.park(rt, Worker::Pump(self.pump));
             }
-            match self.served_all(rt, locked, shared, gate) {
+            let mut replied = [false; MAX_CLIENTS];
+            match self.served_all(rt, locked, shared, gate, &mut replied) {
                 Ok(served) => is_busy = served,
                 Err(booking) => locked.end(Ended::from_booking(booking)),
             }
-            if is_busy {
-                self.unpark_others(locked, shared);
-            }
-        }
-    }
-
-    /// Unparks those who go on with what the pump did: the controllers, and its clients.
-    fn unpark_others<J: Origin>(&self, locked: &LockedBus<J>, shared: &DeskAndBoard) {
-        locked.parkers().unpark_controllers();
-        for client in 0..shared.clients {
-            if client % shared.pumps == self.pump {
-                locked.parkers().unpark_client(client);
-            }
+            locked.parkers().unpark_replied(&replied);
         }
     }
 
@@ -100,13 +105,14 @@ impl PumpPart {
         called
     }
 
-    /// Serves each of its clients once, under the lock: whether a step was booked.
+    /// Serves its clients under the lock, and takes the steps of those who have no client, until nothing is left or so many rounds were taken.
     fn served_all<J: Origin, R: Wait, G: Gate>(
         &mut self,
         rt: &R,
         locked: &LockedBus<J>,
         shared: &DeskAndBoard,
         gate: &G,
+        replied: &mut [bool; MAX_CLIENTS],
     ) -> Result<bool, Booking>
         requires part { IsPumpPart shared.now.desk shared.now.board self.old }
         ensures part { IsPumpPart shared.now.desk shared.now.board self.new }
@@ -114,13 +120,37 @@ impl PumpPart {
     {
         let mut guard = locked.lock(rt);
         let handed = &mut *guard;
-        let mut served = false;
-        for client in 0..shared.clients {
-            if client % shared.pumps == self.pump {
-                served |= handed.serve(locked.alloc, self, shared, gate, client)?;
+        for round in 0..MOST_ROUNDS {
+            if !self.took_round(locked.alloc, handed, shared, gate, replied)? {
+                return Ok(round > 0);
             }
         }
-        Ok(served)
+        Ok(true)
+    }
+
+    /// Serves each of its clients once and sweeps: whether a step was booked. Notes who has a reply.
+    fn took_round<J: Origin, G: Gate>(
+        &mut self,
+        alloc: Global,
+        handed: &mut Handed<J>,
+        shared: &DeskAndBoard,
+        gate: &G,
+        replied: &mut [bool; MAX_CLIENTS],
+    ) -> Result<bool, Booking>
+        requires part { IsPumpPart shared.now.desk shared.now.board self.old }
+        ensures part { IsPumpPart shared.now.desk shared.now.board self.new }
+        ensures same { self.new.pump ≡ self.old.pump }
+    {
+        let mut has_booked = false;
+        for client in 0..shared.clients {
+            if client % shared.pumps == self.pump {
+                let turn = handed.serve(alloc, self, shared, gate, client)?;
+                has_booked |= turn.has_posted || turn.has_reply;
+                replied[client] |= turn.has_reply;
+            }
+        }
+        let taken = handed.sweep(alloc, gate, MOST_SWEPT)?;
+        Ok(has_booked || taken > 0)
     }
 
     /// Books what a client posted, and takes a reply of it that is ready and that the gate allows: whether a step was booked.
@@ -131,7 +161,7 @@ impl PumpPart {
         gate: &G,
         booked: &mut Booked,
         client: usize,
-    ) -> Result<bool, Booking>
+    ) -> Result<Turn, Booking>
         requires part { IsPumpPart shared.now.desk shared.now.board self.old }
         requires client { ServesClient shared.now.desk self.old.seat client }
         ensures part { IsPumpPart shared.now.desk shared.now.board self.new }
@@ -139,9 +169,12 @@ impl PumpPart {
         ensures served { MatchResult result (λ served. Served (G.says gate.now) client booked.old booked.new)
             (λ booking. EnteredOrLeft client booked.old booked.new) }
     {
-        let posted = self.took_in(alloc, shared, booked, client)?;
-        let took = self.brought_out(alloc, shared, gate, booked, client)?;
-        Ok(posted || took)
+        let has_posted = self.took_in(alloc, shared, booked, client)?;
+        let has_reply = self.brought_out(alloc, shared, gate, booked, client)?;
+        Ok(Turn {
+            has_posted,
+            has_reply,
+        })
     }
 
     /// Books what a client posted, where it did: `pump_in`.

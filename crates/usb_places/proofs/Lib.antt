@@ -1,0 +1,3 @@
+mod Holders
+pub mod Cancels
+pub mod ToldOnce

@@ -1,0 +1,4 @@
+mod Counts
+mod Steps
+mod Packets
+mod Endings

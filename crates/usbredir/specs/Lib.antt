@@ -1,0 +1,5 @@
+pub mod Kinds
+pub mod Guest
+pub mod Device
+pub mod Hello
+pub mod Rows

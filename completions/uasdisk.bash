@@ -4,12 +4,16 @@ _uasdisk() {
     COMPREPLY=()
     case $before in
         --bad) return ;;
+        --block-size) return ;;
         --color) COMPREPLY=($(compgen -W 'always auto never' -- "$word")); return ;;
         --head) return ;;
+        --product) return ;;
+        --serial) return ;;
         --sync) return ;;
+        --vendor) return ;;
     esac
     if [ "$COMP_CWORD" = 1 ]; then
-        COMPREPLY=($(compgen -W 'replay trace work decode make info dump fill audit draw capture help serve prove many completions --help --version' -- "$word"))
+        COMPREPLY=($(compgen -W 'replay trace work decode make info dump fill audit draw capture help serve usb prove many completions --help --version' -- "$word"))
         return
     fi
     case ${COMP_WORDS[1]} in
@@ -24,9 +28,10 @@ _uasdisk() {
         audit) words='--head -h --help' files=1 ;;
         draw) words='--bad --page -h --help' ;;
         capture) words='--bad -h --help' files=1 ;;
-        help) words='replay trace work decode make info dump fill audit draw capture serve prove many completions' ;;
+        help) words='replay trace work decode make info dump fill audit draw capture serve usb prove many completions' ;;
         serve) words='--bad --file -h --help' files=1 ;;
-        prove) words='-h --help decode serve' ;;
+        usb) words='--read-only --serial --vendor --product --block-size --bad -h --help' files=1 ;;
+        prove) words='-h --help decode serve usb' ;;
         many) words='-h --help replay trace work decode make info dump fill audit draw capture' files=1 ;;
         completions) words='-h --help bash zsh fish' ;;
     esac

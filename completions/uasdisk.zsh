@@ -16,6 +16,7 @@ _uasdisk() {
     'capture:Runs a script as replay does, and writes the run to a file that Wireshark reads'
     'help:Print this message or the help of the given subcommand(s)'
     'serve:Serves an image as a disk over standard input and output, to any client of NBD'
+    'usb:Is a USB disk for QEMU’s usb-redir over standard input and output'
     'prove:Builds the proved program, which later calls take'
     'many:Runs a command on each file of a folder as standard input'
     'completions:Prints what completes these words in a shell'
@@ -39,9 +40,10 @@ _uasdisk() {
     audit) _arguments '--head[Tell at which step of a log that was kept this checksum stands: 1 to 8 hexadecimal digits]:HEX:' '(-h --help)'{-h,--help}'[Print help]' ':LOG:_files' ;;
     draw) _arguments '--bad[A block that is bad in every unit: 0 to 65535]:LBA:' '--page[Write a page (HTML) that shows the run step by step, in place of the picture]' '(-h --help)'{-h,--help}'[Print help]' ':CLIENTS:' ':BLOCKS:' ;;
     capture) _arguments '--bad[A block that is bad in every unit: 0 to 65535]:LBA:' '(-h --help)'{-h,--help}'[Print help]' ':CLIENTS:' ':BLOCKS:' ':FILE:_files' ;;
-    help) _arguments ':COMMAND:(replay trace work decode make info dump fill audit draw capture serve prove many completions)' ;;
+    help) _arguments ':COMMAND:(replay trace work decode make info dump fill audit draw capture serve usb prove many completions)' ;;
     serve) _arguments '--bad[A block that is bad: 0 to 4294967295]:LBA:' '--file[Changes nothing: blocks always stay in the file]' '(-h --help)'{-h,--help}'[Print help]' ':FILE:_files' ;;
-    prove) _arguments '(-h --help)'{-h,--help}'[Print help]' ':PROGRAM:(decode serve)' ;;
+    usb) _arguments '--read-only[Writes nothing, and says so to the guest]' '--serial[The first unit’s serial number, from which the others count on; else the files’ inodes: 0 to 99999999]:N:' '--vendor[Who made it, as the guest is told: 1 to 8 printable characters]:NAME:' '--product[What it is, as the guest is told: 1 to 16 printable characters]:NAME:' '--block-size[The bytes of a block [possible values: 512, 4096]]:BYTES:' '--bad[A block that is bad, of each unit: 0 to 4294967295]:LBA:' '(-h --help)'{-h,--help}'[Print help]' ':FILE:_files' ;;
+    prove) _arguments '(-h --help)'{-h,--help}'[Print help]' ':PROGRAM:(decode serve usb)' ;;
     many) _arguments '(-h --help)'{-h,--help}'[Print help]' ':FOLDER:_files' ':WORDS:(replay trace work decode make info dump fill audit draw capture)' ;;
     completions) _arguments '(-h --help)'{-h,--help}'[Print help]' ':SHELL:(bash zsh fish)' ;;
   esac

@@ -116,14 +116,14 @@ build() { # NAME
     if [ -x "$found" ]; then rm -rf "$room"; room=; else found=$room/program; fi
 }
 
-# Builds the proved program, or that of decode or serve, and puts it into the cache.
-prove() { # [decode | serve]
+# Builds the proved program, or that of decode or of serve and usb, and puts it into the cache.
+prove() { # [decode | serve | usb]
     local name of words watched=()
     case $#:${1:-} in
         0:) name=uasdisk of='' words=(-- --version) ;;
         1:decode) name=decode_program of=' of decode' words=() ;;
-        1:serve) name=serve_program of=' of serve' words=(-- --help) ;;
-        *) refuse "prove takes no word, or decode or serve: './uasdisk help prove' tells more" ;;
+        1:serve | 1:usb) name=serve_program of=' of serve and usb' words=(-- --help) ;;
+        *) refuse "prove takes no word, or decode, serve or usb: './uasdisk help prove' tells more" ;;
     esac
     find_program "$name"
     if [ "$is_proved" = 1 ]; then say "proved: $found"; exit; fi

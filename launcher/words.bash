@@ -58,7 +58,7 @@ answer() { # WORDS..
     local LC_ALL=C
     if [ $# = 0 ]; then cat "$top/help/uasdisk" "$top/help/launcher" >&2; exit 2; fi
     case ${2:-} in -h | --help) ! is_command "$1" || print "$top/help/commands/$1" ;; esac
-    case $1 in prove | serve | many | completions) return ;; esac
+    case $1 in prove | serve | usb | many | completions) return ;; esac
     case $* in *[!\ -~]*) return ;; esac
     case $1 in
         -h | --help) print "$top/help/uasdisk" "$top/help/launcher" ;;

@@ -1,6 +1,6 @@
 /* A disk whose cache is lost with its process: what a program wrote to a file by pwrite is in the file only once fdatasync was called.
  *
- *   cc -D_GNU_SOURCE -shared -fPIC -O2 lossy.c -o lossy.so && LD_PRELOAD=./lossy.so uas_usbredir ..
+ *   cc -D_GNU_SOURCE -shared -fPIC -O2 lossy.c -o lossy.so && LD_PRELOAD=./lossy.so serve_program usb ..
  *
  * The cache is a private mapping of the one file that the program writes. With LIE=1 in the environment fdatasync does nothing, as a disk that
  * tells its host a lie. */

@@ -5,7 +5,7 @@ use Rattle.host_commands.specs.declared.BlockLength.{BlockLength}
 use Rattle.host_commands.specs.declared.BlockLength.TheVariants.{Bytes512, Bytes4096}
 use Rattle.host_commands.specs.declared.CommandSet.{CommandSet}
 use Rattle.host_commands.specs.declared.CommandSet.TheVariants.{Profile, Host}
-use Rattle.host_commands.specs.Shapes.{Shape}
+use Rattle.host_commands.specs.Shapes.{Shape, plain_shape}
 use Rattle.c_faults.specs.declared.TheConstants.{BLOCKS, NO_MEMORY, TASKS_BLOCK_BYTES, TASKS_CHUNK, TASKS_SERIAL, TASKS_SET, UNITS}
 use Rattle.uas_profile.specs.declared.TheConstants.{MAX_CLIENTS}
 use Rattle.uas_tasks.specs.declared.LogicalUnit.{LogicalUnit}
@@ -53,7 +53,7 @@ abbrev pub block_length_of : ℕ → BlockLength
 block_length_of bytes = if bytes == 4096 then Bytes4096 else Bytes512
 
 abbrev pub shape_of : UasTasksUnit → Shape
-shape_of unit = record { blocks = unit.blocks; block_length = block_length_of unit.block_bytes; serial = unit.serial }
+shape_of unit = plain_shape unit.blocks (block_length_of unit.block_bytes) unit.serial
 
 abbrev pub set_of : ℕ → ℕ → CommandSet
 set_of number most = if number == 0 then Profile else Host most

@@ -1,26 +1,28 @@
-//! The program `serve`: an image as a disk for any client of NBD, over standard input and output.
+//! The program of `serve` and `usb`: images as disks for others, over standard input and output.
 //!
 //! ```text
-//! uasdisk serve FILE [--bad LBA]
+//! uasdisk serve FILE [--bad LBA]     a disk for any client of NBD
+//! uasdisk usb FILE.. [OPTIONS]       a USB disk for QEMU's usb-redir
 //! ```
 //!
-//! It is `serve_run`'s run over the standard streams and a file of the machine, and the words of the command line. While the file is served
-//! this program has the lock on it. The exit status is 2 where the words are refused, 3 at a fault, 4 for want of memory, else 0.
+//! It is the runs of `serve_run` and `usb_serve` over the standard streams and files of the machine, and the words of the command line. While
+//! a file is served this program has the lock on it. The exit status is 2 where the words are refused, 3 at a fault, 4 for want of memory,
+//! else 0.
 #![tactic(auto)]
 
-mod lock;
+mod usb;
+mod usb_words;
 mod words;
 
-use byte_io::{Reader, Writer};
-use file_disk::HostBlocks;
-use lock::{ImageLock, Locked};
-use nbd::Output;
+use byte_io::{Output, Reader, Writer};
+use file_disk::{FileAccess, HostBlocks, OpenFault};
 use serve_run::run_serve;
 use std::io::Write;
 use std::process::ExitCode;
 use std::{env, io};
 use uas_replay::{FAULT, RunFault, WORDS_REFUSED};
-use words::{Asked, asked_of};
+use usb::serve_usb;
+use words::{Asked, ServeAsked, asked_of};
 
 fn main(rt: HostRuntime) -> ExitCode {
     let words: io::Result<Vec<String>> = env::args(&rt).and_then(|words| Ok(words.collect(
@@ -45,25 +47,29 @@ fn start(rt: &HostRuntime, words: &[String]) -> u8 {
     let is_output_open = rt.stdout().write(b"").is_ok();
     let mut output = is_output_open.then(|| Writer(rt.stdout()));
     match asked_of(rt.alloc(), words) {
-        Ok(asked) => serve_locked(rt, asked, &mut output),
+        Ok(Asked::Serve(asked)) => serve_locked(rt, asked, &mut output),
+        Ok(Asked::Usb(asked)) => serve_usb(rt, &asked, &mut output),
         Err(error) => words::refuse(rt.alloc(), &error, &mut output, &mut rt.stderr()),
     }
 }
 
 /// Serves an image with the lock on it, and answers the exit status.
-fn serve_locked<O: Output>(rt: &HostRuntime, asked: Asked, output: &mut O) -> u8 {
-    match ImageLock::take(rt, asked.file) {
-        // the lock is held until the run has ended
-        Ok(_lock) => run_serve(
-            rt.alloc(),
-            &mut HostBlocks::open(rt, asked.file, asked.bad.map(u64::from)),
-            &mut Reader(rt.reader()),
-            output,
-            &mut Writer(rt.stderr()),
-        ),
-        Err(Locked) => {
+fn serve_locked<O: Output>(rt: &HostRuntime, asked: ServeAsked, output: &mut O) -> u8 {
+    let bad = asked.bad.map(u64::from);
+    // the lock is held until the run has ended; of an image that can't be opened the run tells
+    let mut file = match HostBlocks::open_locked(rt, asked.file, FileAccess::Write, bad) {
+        Ok(file) => Some(file),
+        Err(OpenFault::File) => None,
+        Err(OpenFault::Locked) => {
             let _ = writeln!(rt.stderr(), "image: locked");
-            FAULT
+            return FAULT;
         }
-    }
+    };
+    run_serve(
+        rt.alloc(),
+        &mut file,
+        &mut Reader(rt.reader()),
+        output,
+        &mut Writer(rt.stderr()),
+    )
 }

@@ -1,5 +1,6 @@
 //! The words of the command line.
 
+use crate::usb_words::{UsbAsked, WordFault, usb_asked, usb_command};
 use byte_io::Sink;
 use clap::error::ErrorKind;
 use clap::{Arg, ArgAction, ArgMatches, Command, Error};
@@ -15,9 +16,16 @@ else 0.
 Example:
   nbdinfo -- [ examples/activated ./uasdisk serve disk.img ]";
 
+/// What is asked for.
+#[derive(Debug, Drop)]
+pub enum Asked<'a> {
+    Serve(ServeAsked<'a>),
+    Usb(UsbAsked<'a>),
+}
+
 /// What is asked to be served.
 #[derive(Clone, Copy, Debug)]
-pub struct Asked<'a> {
+pub struct ServeAsked<'a> {
     pub file: &'a str,
     /// The block that is bad, where the disk has it.
     pub bad: Option<u32>,
@@ -28,8 +36,8 @@ pub fn asked_of<'a>(alloc: Global, words: &'a [String]) -> Result<Asked<'a>, Err
     let mut command = command(alloc)?;
     let matches = command.try_get_matches_from_mut(words)?;
     match found(&matches) {
-        Some(asked) => Ok(asked),
-        None => Err(command.error(ErrorKind::ValueValidation, "a word is missing")?),
+        Ok(asked) => Ok(asked),
+        Err(fault) => Err(command.error(ErrorKind::ValueValidation, fault.text())?),
     }
 }
 
@@ -39,7 +47,8 @@ fn command<'a>(alloc: Global) -> Result<Command<'a>, AllocError> {
         .about("Runs disks of many clients over USB Attached SCSI, simulated and verified")
         .subcommand_required(true)
         .arg_required_else_help(true)
-        .subcommand(serve_command(alloc)?)
+        .subcommand(serve_command(alloc)?)?
+        .subcommand(usb_command(alloc)?)
 }
 
 fn serve_command<'a>(alloc: Global) -> Result<Command<'a>, AllocError> {
@@ -69,10 +78,19 @@ fn serve_command<'a>(alloc: Global) -> Result<Command<'a>, AllocError> {
 }
 
 /// What was found for the subcommand; the parsers have refused every other word before.
-fn found<'a>(matches: &ArgMatches<'a>) -> Option<Asked<'a>> {
-    let (_, words) = matches.subcommand()?;
-    let file = words.get_str("FILE")?;
-    Some(Asked {
+fn found<'a>(matches: &ArgMatches<'a>) -> Result<Asked<'a>, WordFault> {
+    match matches.subcommand() {
+        Some(("usb", words)) => usb_asked(words).map(Asked::Usb),
+        Some((_, words)) => serve_asked(words).map(Asked::Serve),
+        None => Err(WordFault::Missing),
+    }
+}
+
+fn serve_asked<'a>(words: &ArgMatches<'a>) -> Result<ServeAsked<'a>, WordFault> {
+    let Some(file) = words.get_str("FILE") else {
+        return Err(WordFault::Missing);
+    };
+    Ok(ServeAsked {
         file,
         bad: words.get_one::<u32>("bad"),
     })

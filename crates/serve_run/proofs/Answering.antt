@@ -11,7 +11,7 @@ use Rattle.nbd.specs.declared.transmission.Command.TheVariants.{Read, Write, Flu
 use Rattle.nbd.specs.declared.transmission.ErrorNumber.{ErrorNumber}
 use Rattle.nbd.specs.declared.transmission.ErrorNumber.TheVariants as error
 use Rattle.nbd.specs.declared.transmission.Request.{Request}
-use Rattle.nbd.specs.Streams.{Gave}
+use Rattle.byte_io.specs.Streams.{Gave}
 use Rattle.nbd.specs.Transmission.{reply_text}
 use Rattle.serve_run.specs.declared.fault.ServeFault.{ServeFault}
 use Rattle.serve_run.specs.declared.fault.ServeFault.TheVariants as fault

@@ -9,7 +9,7 @@ use Rattle.std.specs.Io.KnownBytes.{Consumes}
 use Rattle.std.proofs.KnownBytes.{Consumes-trans}
 use Rattle.byteorder.specs.Endian.{big_number}
 use Rattle.byteorder.specs.Numbers.{big_from-take}
-use Rattle.nbd.specs.Streams.{Gave}
+use Rattle.byte_io.specs.Streams.{Gave}
 use Rattle.serve_run.specs.Handshake.{Tested, is_whole_ask}
 
 -- a number is read of its own bytes

@@ -5,7 +5,7 @@ use Rattle.std.proofs.KnownBytes.{Consumes-nil, Consumes-trans}
 use Rattle.nbd.specs.declared.transmission.Request.{Request}
 use Rattle.nbd.specs.Handshake.{greeting_text}
 use Rattle.nbd.specs.Transmission.{IsCommand, request_text}
-use Rattle.nbd.specs.Streams.{Began}
+use Rattle.byte_io.specs.Streams.{Began}
 use Rattle.serve_run.specs.declared.fault.ServeFault.{ServeFault}
 use Rattle.serve_run.specs.declared.fault.ServeFault.TheVariants as fault
 use Rattle.serve_run.specs.Beginnings.{AreAsked, Begins, BrokenBegins}

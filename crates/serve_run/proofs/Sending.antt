@@ -4,7 +4,7 @@ use Rattle.std.specs.Prelude.{IsTrue}
 use Rattle.std.proofs.lemmas.List.{length-append}
 use Rattle.std.specs.Io.KnownBytes.{Appends, Consumes}
 use Rattle.std.proofs.KnownBytes.{Appends-trans, Consumes-trans}
-use Rattle.nbd.specs.Streams.{Began}
+use Rattle.byte_io.specs.Streams.{Began}
 use Rattle.serve_run.specs.declared.fault.ServeFault.{ServeFault}
 use Rattle.serve_run.specs.Faults.{EndsReading, IsCut, Sends}
 

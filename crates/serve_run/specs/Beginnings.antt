@@ -2,7 +2,7 @@
 use Rattle.std.specs.Prelude.{ℕ, Bool, List, [], ◌∷◌, ◌++◌, Option, ⊤}
 use Rattle.std.specs.Io.KnownBytes.{Consumes}
 use Rattle.nbd.specs.Handshake.{greeting_text}
-use Rattle.nbd.specs.Streams.{Began}
+use Rattle.byte_io.specs.Streams.{Began}
 use Rattle.serve_run.specs.declared.fault.ServeFault.{ServeFault}
 use Rattle.serve_run.specs.Broken.{TalkBroken}
 use Rattle.serve_run.specs.Filed.{Exports, Filed}

@@ -6,7 +6,7 @@ use Rattle.nbd.specs.declared.transmission.Command.TheVariants.{Read, Write}
 use Rattle.nbd.specs.declared.transmission.Request.{Request}
 use Rattle.nbd.specs.Handshake.{greeting_text, option_in}
 use Rattle.nbd.specs.Transmission.{IsCommand, request_in, request_text}
-use Rattle.nbd.specs.Streams.{Began}
+use Rattle.byte_io.specs.Streams.{Began}
 use Rattle.serve_run.specs.declared.fault.ServeFault.{ServeFault}
 use Rattle.serve_run.specs.declared.fault.ServeFault.TheVariants as fault
 use Rattle.serve_run.specs.declared.handshake.Next.{Next}

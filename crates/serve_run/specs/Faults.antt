@@ -3,7 +3,7 @@ use Rattle.std.specs.Prelude.{◌≡◌, ℕ, ◌≤◌, ◌⊎◌, Bool, IsTrue
 use Rattle.std.specs.Io.KnownBytes.{Appends, Consumes, IsAtEnd}
 use Rattle.block_unit.specs.declared.ImageFault.{ImageFault}
 use Rattle.block_unit.specs.declared.ImageFault.TheVariants as image
-use Rattle.nbd.specs.Streams.{Began, GaveFewer}
+use Rattle.byte_io.specs.Streams.{Began, GaveFewer}
 use Rattle.serve_run.specs.declared.fault.ServeFault.{ServeFault}
 use Rattle.serve_run.specs.declared.fault.ServeFault.TheVariants as fault
 

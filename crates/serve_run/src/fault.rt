@@ -5,7 +5,7 @@ ghost use Rattle.serve_run.specs.Broken.{IsReported};
 ghost use Rattle.serve_run.specs.Faults.{image_line, line_of, status_of};
 
 use block_unit::ImageFault;
-use nbd::Output;
+use byte_io::Output;
 use uas_replay::{FAULT, NO_MEMORY};
 
 /// Why a serving run gave up.

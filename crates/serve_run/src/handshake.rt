@@ -11,12 +11,12 @@ ghost use Rattle.serve_run.specs.Handshake.{next_of, replied, sizes_information,
 
 use crate::fault::ServeFault;
 use crate::link::{drop_rest, read_message, read_rest, send};
-use byte_io::Source;
+use byte_io::{Output, Source};
 use byteorder::{BigEndian, ByteOrder};
 use nbd::flags::{ExportFlags, ServerFlags};
 use nbd::{
-    BlockSizes, Export, NotNbd, OptionHead, OptionKind, OptionReply, Output, ReplyKind,
-    client_flags, greeting,
+    BlockSizes, Export, NotNbd, OptionHead, OptionKind, OptionReply, ReplyKind, client_flags,
+    greeting,
 };
 
 /// What is offered: the fixed newstyle, and to leave out the zeros behind an export.

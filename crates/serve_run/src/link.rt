@@ -2,12 +2,11 @@
 
 ghost use Rattle.std.specs.Prelude.{◌≡◌, ◌<◌, List, [], true, false, length, Ok, OnOk, IfErr};
 ghost use Rattle.std.specs.Io.KnownBytes.{Consumes, IsAtEnd};
-ghost use Rattle.nbd.specs.Streams.{Gave};
+ghost use Rattle.byte_io.specs.Streams.{Gave};
 ghost use Rattle.serve_run.specs.Faults.{IsCut, Sends};
 
 use crate::fault::ServeFault;
-use byte_io::{ReadFailed, Source};
-use nbd::{Output, WriteFailed, drop_bytes, read_whole};
+use byte_io::{Output, ReadFailed, Source, WriteFailed, drop_bytes, read_whole};
 
 /// Fills `buffer` with the next message; `false` where the input ended before it.
 pub(crate) fn read_message<S: Source>(input: &mut S, buffer: &mut [u8]) -> Result<bool, ServeFault>

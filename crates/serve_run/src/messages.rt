@@ -2,7 +2,7 @@
 
 ghost use Rattle.std.specs.Prelude.{◌≡◌, ◌≤◌, ◌⊎◌, ◌++◌, false, length, take, drop, Ok, None, IfErr, IfOk, IfSome, OnOk, IsOkUnless};
 ghost use Rattle.std.specs.Io.KnownBytes.{Consumes};
-ghost use Rattle.nbd.specs.Streams.{Gave};
+ghost use Rattle.byte_io.specs.Streams.{Gave};
 ghost use Rattle.nbd.specs.Transmission.{IsCommand, reply_text, request_text};
 ghost use Rattle.serve_run.specs.Broken.{IsNoRequest, LacksBytes, Undone};
 ghost use Rattle.serve_run.specs.Faults.{IsCut, Misses, Sends};
@@ -13,11 +13,10 @@ ghost use Rattle.serve_run.specs.Transcript.{brought_bytes};
 use crate::fault::ServeFault;
 use crate::handshake::MOST_BYTES;
 use crate::link::{drop_rest, read_message, read_rest, send};
-use byte_io::Source;
+use byte_io::{Output, Source};
 use file_disk::DiskFault;
 use nbd::{
-    Command, ErrorNumber, NotNbd, Output, REPLY_BYTES, REQUEST_BYTES, Reply, Request,
-    request_writes_back,
+    Command, ErrorNumber, NotNbd, REPLY_BYTES, REQUEST_BYTES, Reply, Request, request_writes_back,
 };
 
 /// The flag FUA, the one that is offered.

@@ -12,9 +12,8 @@ use crate::fault::ServeFault;
 use crate::handshake::shake;
 use crate::transmission::transmit;
 use block_unit::ImageFault;
-use byte_io::Source;
+use byte_io::{Output, Source};
 use file_disk::{Blocks, DiskFault, FileDisk};
-use nbd::Output;
 use std::alloc::Global;
 use uas_replay::DONE;
 

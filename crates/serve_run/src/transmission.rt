@@ -14,9 +14,9 @@ use crate::fault::ServeFault;
 use crate::messages::{
     FUA, error_of, make_room, read_data, read_request, refusal_of, refuse, send_part, tell,
 };
-use byte_io::Source;
+use byte_io::{Output, Source};
 use file_disk::{Blocks, DiskFault, FileDisk};
-use nbd::{Command, ErrorNumber, Output, REPLY_BYTES, Request};
+use nbd::{Command, ErrorNumber, REPLY_BYTES, Request};
 use std::alloc::Global;
 
 /// Reads requests and answers them, each before the next one is read, until the client leaves, or a fault ends that. Where the client

@@ -21,7 +21,8 @@ use Rattle.host_commands.specs.Data.{given_bytes}
 use Rattle.host_commands.specs.Laws.{answer_in_profile, in_profile}
 use Rattle.host_commands.specs.Meaning.{asked_of_none}
 use Rattle.host_commands.specs.Profile.{profile_work, profile_works_of_none}
-use Rattle.host_commands.specs.Shapes.{Shape}
+use Rattle.host_commands.specs.Names.{usual_names}
+use Rattle.host_commands.specs.Shapes.{Shape, plain_shape}
 use Rattle.host_commands.proofs.Kept.{profile_kept_of_none}
 use Rattle.uas_profile.specs.declared.TheConstants.{BLOCK_BYTES}
 use Rattle.uas_target.specs.declared.DeviceAnswer.TheVariants.{Status}
@@ -77,8 +78,8 @@ none_asked : (counts : List ℕ) (slot : SlotState) (asks : Result Op Sense) →
 none_asked counts slot (Err sense) kept sound old = record { chunk = old.chunk; room = old.room; out = old.out; task = refl }
 none_asked counts slot (Ok TestUnitReady) kept sound old = record { chunk = old.chunk; room = old.room; out = old.out; task = refl }
 none_asked counts slot (Ok (Inquiry allocation)) kept sound old =
-    gives_too counts None (Inquiry allocation) (inquiry_front false allocation) (given_bytes (InquiryData false) allocation) slot
-    (ap items_of (same_work (giving (given_bytes (InquiryData false) allocation)) (giving (inquiry_front false allocation)) kept)) refl sound old
+    gives_too counts None (Inquiry allocation) (inquiry_front false allocation) (given_bytes (InquiryData false usual_names) allocation) slot
+    (ap items_of (same_work (giving (given_bytes (InquiryData false usual_names) allocation)) (giving (inquiry_front false allocation)) kept)) refl sound old
 none_asked counts slot (Ok ReadCapacity) kept sound old = record { chunk = old.chunk; room = old.room; out = old.out; task = refl }
 none_asked counts slot (Ok (Read lba count fua)) kept sound old = record { chunk = old.chunk; room = old.room; out = old.out; task = refl }
 none_asked counts slot (Ok (Write lba count fua)) kept sound old = record { chunk = old.chunk; room = old.room; out = old.out; task = refl }
@@ -126,7 +127,7 @@ is_sync other = false
 
 -- so many blocks of 512 bytes
 abbrev pub shape_with : ℕ → ℕ → Shape
-shape_with blocks serial = record { blocks = blocks; block_length = Bytes512; serial = serial }
+shape_with blocks serial = plain_shape blocks Bytes512 serial
 
 -- a command without a fault begins alike, but for SYNCHRONIZE CACHE
 pub begins_alike : (counts : List ℕ) (number blocks serial : ℕ) (op : Op) (slot : SlotState) → is_sync op ≡ false → slice_get counts number ≡ Some blocks →

@@ -189,6 +189,7 @@ sync_begins device backed number maps serial attention tag lba count place same 
     let few : now.count ≤ 2 ^ 32 = omega (arith, synced-count maps lba named, place.few) in
     let both : SameUnit one unit now = record {
       blocks = sym (synced-count maps lba named);
+      plain = record { read_only = refl; names = refl };
       block_length = refl;
       few = few;
       sized = IsSized-synced maps lba named place.sized (fits_covered maps.count lba count range.0 range.1);

@@ -22,6 +22,7 @@ new_units [] [] new = tt
 new_units (unit ∷ units) (shape ∷ shapes) new = (
   record {
     blocks = new.0.blocks;
+    plain = new.0.plain;
     block_length = new.0.block_length;
     few = new.0.few;
     sized = new.0.sized;

@@ -95,7 +95,7 @@ both_asked device backed number maps serial many attention tag cdb place same he
     let two : Option UnitAttention × SlotState = (attention, started (slot_of backed.machine tag) number (shape_with maps.count serial) (profile_works (shape_with maps.count serial) asks)) in
     subst (λ one. BothBegun device backed number tag maps.count serial asks one two) (sym (target_begins maps (is_some attention) cdb quiet))
     (begins_same device backed number maps serial attention tag asks place same here free
-    (profile_kept cdb (shape_with maps.count serial) many attention refl place.few) (asked_in_range cdb maps.count)
+    (profile_kept cdb (shape_with maps.count serial) many attention (record { read_only = refl; names = refl }) refl place.few) (asked_in_range cdb maps.count)
     (target_sound device number maps (is_some attention) cdb place.device_at quiet))
 
 -- the device without blocks tells an attention of a reset alone, and only where the command reports it

@@ -2,7 +2,7 @@
 use Rattle.std.proofs.Common.{◌≡◌, ℕ, false, List, [], ◌∷◌, ◌++◌, replicate, Some, None, Ok, refl, arith, ◌∙◌}
 use Rattle.block_unit.specs.BlockMaps.{BlockMaps, blocks_read, bytes_from, covers, meets_bad}
 use Rattle.host_commands.specs.declared.BlockLength.TheVariants.{Bytes512}
-use Rattle.host_commands.specs.Shapes.{Shape}
+use Rattle.host_commands.specs.Shapes.{Shape, plain_shape}
 use Rattle.scsi_cmd.specs.Fields.{zeros}
 use Rattle.scsi_cmd.specs.Meaning.{asked}
 use Rattle.scsi_cmd.specs.Sense.{sense_bytes, unrecovered_read_error}
@@ -19,7 +19,7 @@ seven : List ℕ → BlockMaps
 seven bad = record { count = 1; blocks = replicate 512 7; medium = replicate 512 7; attention = false; bad = bad }
 
 shape : Shape
-shape = record { blocks = 1; block_length = Bytes512; serial = 0 }
+shape = plain_shape 1 Bytes512 0
 
 -- READ of it on tag 1
 calls : List Call
@@ -53,12 +53,12 @@ backed_good_row : all_backed_seen (backed_opening (shape ∷ []) (seven [] ∷ [
 unfolding seven shape
 backed_good_row =
     one_device (seven [] ∷ []) (shape ∷ []) calls
-    (record { blocks = refl; block_length = refl; few = omega arith; sized = record { blocks = refl; medium = refl }; quiet = refl }, tt) wanted_good
+    (record { blocks = refl; plain = record { read_only = refl; names = refl }; block_length = refl; few = omega arith; sized = record { blocks = refl; medium = refl }; quiet = refl }, tt) wanted_good
     ∙ good_row
 
 backed_bad_row : all_backed_seen (backed_opening (shape ∷ []) (seven (0 ∷ []) ∷ [])) calls ≡ seen_bad
 unfolding seven shape
 backed_bad_row =
     one_device (seven (0 ∷ []) ∷ []) (shape ∷ []) calls
-    (record { blocks = refl; block_length = refl; few = omega arith; sized = record { blocks = refl; medium = refl }; quiet = refl }, tt) wanted_bad
+    (record { blocks = refl; plain = record { read_only = refl; names = refl }; block_length = refl; few = omega arith; sized = record { blocks = refl; medium = refl }; quiet = refl }, tt) wanted_bad
     ∙ bad_row

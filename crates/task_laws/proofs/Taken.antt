@@ -70,6 +70,7 @@ written_same found_unit unit maps lba many bytes through same size fits =
     let kept : (written maps lba bytes through).count ≡ maps.count = written-count maps lba bytes through in
     record {
       blocks = same.blocks ∙ sym kept;
+      plain = same.plain;
       block_length = same.block_length;
       few = omega (arith, kept, same.few);
       sized = IsSized-written maps lba bytes through same.sized (IsWhole_is bytes many size) (omega (arith, fits, block_count_is bytes many size));

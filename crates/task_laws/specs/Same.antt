@@ -12,7 +12,7 @@ use Rattle.scsi_cmd.specs.Work.{work_of, work_without_unit}
 use Rattle.host_commands.specs.declared.BlockLength.TheVariants.{Bytes512}
 use Rattle.host_commands.specs.declared.CommandSet.TheVariants.{Profile}
 use Rattle.host_commands.specs.declared.UnitAttention.TheVariants.{Reset}
-use Rattle.host_commands.specs.Shapes.{Shape}
+use Rattle.host_commands.specs.Shapes.{IsPlain, Shape}
 use Rattle.uas_profile.specs.declared.TheConstants.{BLOCK_BYTES, CHUNK_BLOCKS, CHUNK_BYTES, GREATEST_TAG}
 use Rattle.uas_target.specs.declared.DeviceTask.{DeviceTask}
 use Rattle.uas_target.specs.declared.DeviceTask.TheVariants.{Moving as TargetMoving, Ended as TargetEnded}
@@ -31,9 +31,10 @@ use Rattle.task_laws.specs.Backed.{Backed}
 -- LOGICAL UNITS
 
 -- One of the device with blocks, one of the device without, and the blocks behind that: as many blocks of 512 bytes, the same in
--- each place, and an attention of a reset in both or in none.
+-- each place, which may be written, the usual names, and an attention of a reset in both or in none.
 pub record SameUnit (device : BlockMaps) (unit : LogicalUnit) (maps : BlockMaps) : Type 0 where
   pub blocks : unit.shape.blocks ≡ maps.count
+  pub plain : IsPlain unit.shape
   pub block_length : unit.shape.block_length ≡ Bytes512
   pub few : maps.count ≤ 2 ^ 32
   pub sized : IsSized maps
@@ -100,9 +101,11 @@ pub record Same (device : Device) (backed : Backed) : Type 0 where
   pub places : length backed.machine.slots ≡ GREATEST_TAG
   pub tasks : SameTasks (counts_of device.units) device.tasks backed.machine.slots
 
--- new units, without an attention, and their shapes: as many blocks of 512 bytes, at most 2^32, whatever the serial numbers
+-- new units, without an attention, and their shapes: as many blocks of 512 bytes, at most 2^32, which may be
+-- written, with the usual names, whatever the serial numbers
 pub record IsNewUnit (unit : BlockMaps) (shape : Shape) : Type 0 where
   pub blocks : shape.blocks ≡ unit.count
+  pub plain : IsPlain shape
   pub block_length : shape.block_length ≡ Bytes512
   pub few : unit.count ≤ 2 ^ 32
   pub sized : IsSized unit

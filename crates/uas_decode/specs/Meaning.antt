@@ -27,7 +27,7 @@ use Rattle.host_commands.specs.declared.Work.{Work}
 use Rattle.host_commands.specs.Commands.{named_command}
 use Rattle.host_commands.specs.Fields.{action_in}
 use Rattle.host_commands.specs.Meaning.{asked_of}
-use Rattle.host_commands.specs.Shapes.{Shape}
+use Rattle.host_commands.specs.Shapes.{Shape, plain_shape}
 use Rattle.stream_array.specs.declared.Dequeue.{Dequeue}
 use Rattle.uas_decode.specs.declared.Answer.{Answer}
 use Rattle.uas_decode.specs.declared.Meaning.{Meaning}
@@ -153,7 +153,7 @@ cdb_told blocks bytes =
 
 -- The largest logical unit that there can be, and the longest transfer: the bytes of a CDB of the host set don't tell those of its device.
 abbrev pub largest : Shape
-largest = record { blocks = 2 ^ 48; block_length = Bytes512; serial = 0 }
+largest = plain_shape (2 ^ 48) Bytes512 0
 
 abbrev pub work_told : HostCommand → Result Work Sense → Told
 work_told command (Ok work) = Ok (answer (meaning.HostCdb command work))

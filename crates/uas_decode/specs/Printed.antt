@@ -214,7 +214,7 @@ host_name host.Verify12 = codes "VERIFY(12)"
 unfoldable pub page_name : VitalPage → List ℕ
 page_name page.SupportedPages = codes "supported pages"
 page_name (page.UnitSerialNumber x) = codes "unit serial number"
-page_name (page.DeviceIdentification x) = codes "device identification"
+page_name (page.DeviceIdentification serial names) = codes "device identification"
 page_name (page.BlockLimits x) = codes "block limits"
 page_name page.BlockDeviceCharacteristics = codes "block device characteristics"
 page_name page.LogicalBlockProvisioning = codes "logical block provisioning"
@@ -236,7 +236,7 @@ timeouts_word is_set = flag_word is_set (codes " timeouts")
 
 -- the data that a command asks for; READ CAPACITY(10) has no allocation length
 unfoldable pub data_words : Data → ℕ → List ℕ
-data_words (given.Inquiry present) allocation = allocation_words allocation
+data_words (given.Inquiry present names) allocation = allocation_words allocation
 data_words (given.VitalProductData page present) allocation = codes " page " ++ page_name page ++ allocation_words allocation
 data_words (given.RequestSense sense) allocation = allocation_words allocation
 data_words (given.LogicalUnits count) allocation = allocation_words allocation

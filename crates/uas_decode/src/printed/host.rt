@@ -118,7 +118,7 @@ fn page_name(page: &VitalPage) -> &'static str
     match page {
         VitalPage::SupportedPages => "supported pages",
         VitalPage::UnitSerialNumber(_) => "unit serial number",
-        VitalPage::DeviceIdentification(_) => "device identification",
+        VitalPage::DeviceIdentification { .. } => "device identification",
         VitalPage::BlockLimits { .. } => "block limits",
         VitalPage::BlockDeviceCharacteristics => "block device characteristics",
         VitalPage::LogicalBlockProvisioning => "logical block provisioning",

@@ -1,12 +1,13 @@
-"""The other side of the usbredir protocol, for tests/usbredir/run: a disk of uas_usbredir as a process, and a peer that sends it anything."""
-import os, socket, struct, subprocess, tempfile, time
+"""The other side of the usbredir protocol, for tests/usb/run: the program `usb` as a process, and a peer that sends it anything."""
+import socket, struct, subprocess, tempfile
 
-HELLO, CONNECT, RESET, INTERFACE, ENDPOINTS, GET_CONFIGURATION, CANCEL, CONTROL, BULK = 0, 1, 3, 4, 5, 7, 21, 100, 101
+HELLO, CONNECT, RESET, INTERFACE, ENDPOINTS, SET_CONFIGURATION, GET_CONFIGURATION, CONFIGURATION = 0, 1, 3, 4, 5, 6, 7, 8
+SET_SETTING, GET_SETTING, SETTING, ALLOC_STREAMS, FREE_STREAMS, STREAMS, CANCEL, REJECT, FILTER, CONTROL, BULK = 9, 10, 11, 18, 19, 20, 21, 22, 23, 100, 101
 COMMAND, DATA_OUT, STATUS, DATA_IN = 0x01, 0x02, 0x81, 0x82
-SUCCESS, CANCELLED, STALL = 0, 1, 4
+SUCCESS, CANCELLED, INVALID, STALL, BABBLE = 0, 1, 2, 4, 6
 GOOD, CHECK = 0, 2
 CAPS = 0xF7
-MOST = 1 << 20
+MOST = 524288
 WAIT = 30  # seconds for what comes at once, on a busy machine
 
 
@@ -17,31 +18,26 @@ class Gone(Exception):
 class Disk:
     """A disk and its peer."""
 
-    def __init__(self, program, room, *words, images=("disk.img",), greets=True, env=None, most_files=None):
-        self.path = str(room / "socket")
-        self.told = tempfile.TemporaryFile()
-        limit = ["sh", "-c", f"ulimit -n {most_files}; exec \"$@\"", "sh"] if most_files else []
-        self.process = subprocess.Popen([*limit, program, self.path, *words, *(str(room / one) for one in images)], stdout=subprocess.DEVNULL,
-                                        stderr=self.told, env={**os.environ, **(env or {})})
-        self.bytes, self.head, self.next_id, self.replies, self.said = b"", 12, 1, {}, []
-        self.socket = socket.socket(socket.AF_UNIX)
+    def __init__(self, program, room, *words, images=("disk.img",), greets=True):
+        self.socket, other = socket.socketpair()
         self.socket.settimeout(WAIT)
-        for _ in range(WAIT * 100):
-            try:
-                self.socket.connect(self.path)
-                break
-            except OSError:
-                if self.process.poll() is not None:
-                    break
-                time.sleep(0.01)
+        self.told = tempfile.TemporaryFile()
+        self.process = subprocess.Popen([program, "usb", *words, *(str(room / one) for one in images)], stdin=other, stdout=other, stderr=self.told)
+        other.close()
+        self.bytes, self.head, self.next_id, self.replies = b"", 12, 1, {}
         if greets:
             self.greet()
 
-    def greet(self):
-        self.socket.sendall(struct.pack("<III", HELLO, 68, 0) + b"a peer".ljust(64, b"\0") + struct.pack("<I", CAPS))
-        assert self.packet()[0] == HELLO
+    def greet(self, words=(CAPS,)):
+        """Greets and is greeted: what the disk told of itself. It is configured then, with streams."""
+        self.socket.sendall(struct.pack("<III", HELLO, 64 + 4 * len(words), 0) + b"a peer".ljust(64, b"\0") + struct.pack(f"<{len(words)}I", *words))
+        told = [self.packet()]
         self.head = 16
-        assert [self.packet()[0] for _ in range(3)] == [INTERFACE, ENDPOINTS, CONNECT]
+        told += [self.packet() for _ in range(3)]
+        self.send(SET_CONFIGURATION, b"\1")
+        told += [self.packet() for _ in range(3)]
+        self.send(ALLOC_STREAMS, struct.pack("<II", 0x00060004, 128))
+        return [*told, self.packet()]
 
     # Packets
 
@@ -89,7 +85,7 @@ class Disk:
         return number not in self.replies
 
     def fence(self):
-        assert self.reply(self.send(CONTROL, struct.pack("<BBBBHHH", 0x80, 0, 0x80, 0, 0, 0, 2))) == (SUCCESS, 2, b"\0\0")
+        assert self.reply(self.send(CONTROL, struct.pack("<BBBBHHH", 0x80, 0, 0x80, 0, 0, 0, 2))) == (SUCCESS, 2, b"\1\0")
 
     # Transfers and commands
 

@@ -1,2 +1,3 @@
 -- The loops over tags of a round.
 pub mod DrainTags
+pub mod BusyTags

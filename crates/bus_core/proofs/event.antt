@@ -1,5 +1,6 @@
 -- The host takes an event.
 pub mod DueEvents
+pub mod OneTag
 pub mod HostSees
 pub mod SeenWorlds
 pub mod SeenRings

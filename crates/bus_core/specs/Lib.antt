@@ -4,6 +4,8 @@ pub mod World
 pub mod Cells
 pub mod Fits
 pub mod Decoded
+pub mod Busy
+pub mod OwnEvents
 pub mod WorldSteps
 pub mod WholeStep
 pub mod WorldDue

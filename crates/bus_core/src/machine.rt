@@ -6,7 +6,9 @@ ghost use Rattle.frame_store.specs.Buffers.{IsWhole};
 ghost use Rattle.shared_machine.specs.Bus.{HasTicket};
 ghost use Rattle.shared_machine.specs.Drain.{AreNotLeftOver, AreQuiet};
 ghost use Rattle.shared_machine.specs.Shared.{due, opening, shared_step};
+ghost use Rattle.bus_core.specs.Busy.{IsNextBusy};
 ghost use Rattle.bus_core.specs.Decoded.{decoded};
+ghost use Rattle.bus_core.specs.OwnEvents.{TakesOfOneTag};
 ghost use Rattle.bus_core.specs.Shows.{AreNeverFull, PointAhead, ShowsFrames, ShowsShared};
 ghost use Rattle.bus_core.specs.WholeStep.{world_after};
 ghost use Rattle.bus_core.specs.WorldSteps.{opening_world};
@@ -20,6 +22,7 @@ use std::alloc::{AllocError, Global};
 use stream_array::{Lines, Pipe};
 use uas_host::Host;
 use uas_iu::lun_bytes;
+use uas_profile::EVENT_RING_PLACES;
 use uas_target::{Phase, Target};
 use xhci_ctl::Controller;
 
@@ -135,9 +138,11 @@ impl RingBus {
         }
     }
 
-    /// The least tag above this one that the device has a task of. No other tag's streams are due.
+    /// The least tag above this one that is busy, which is that the device has a task of it; `None` where no tag above is. No
+    /// other tag's streams are due.
     #[inline(always)]
     pub fn next_busy(&self, tag: u16) -> Option<u16>
+        ensures busy { IsNextBusy (decoded self.now) tag result }
         ensures next { IfSome result (λ next. (tag < next) × (next ≤ length (decoded self.now).parts * TAGS) × AreQuiet (decoded self.now) tag next) }
         ensures none { IfNone result (AreQuiet (decoded self.now) tag (suc (length (decoded self.now).parts * TAGS))) }
     {
@@ -189,9 +194,12 @@ impl RingBus {
         requires { HasTicket step }
         // What stands on the rings then, read back, and the outcome are the shared machine's.
         ensures shared { (decoded self.new, result) ≡ shared_step (decoded self.old) step }
+        // The event that a step takes is of one tag, whose client the step is, and no other that waits is of that tag's TD.
+        ensures events { TakesOfOneTag (decoded self.old) step result }
         // Host, controller, device, rings and buffers are those after that step, to the last TRB.
         ensures world { self.new ≡ world_after self.old step }
     {
+        prove!(self.lines.len() < EVENT_RING_PLACES);
         self.act(step)
     }
 

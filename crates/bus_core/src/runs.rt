@@ -14,7 +14,7 @@ use xhci_ctl::Acted;
 
 impl Bus {
     /// Takes every step, in order: the outcome of each. The room for the outcomes is made first: at `AllocError` no step
-    /// was taken.
+    /// was taken. Two runs in which a client does alike answer it alike: see [`worlds_agree`](crate::worlds_agree).
     #[tactic(auto, using(isolation::proofs::WholeRuns::run_isolated))]
     pub fn run(&mut self, alloc: Global, steps: Vec<Step>) -> Result<Trace, AllocError>
         requires { AllTicketed steps.items }

@@ -9,6 +9,8 @@ ghost use Rattle.shared_machine.specs.Shared.{due, opening, shared_step};
 ghost use Rattle.isolation.specs.Refusals.{IsRefusedAsOwn};
 ghost use Rattle.isolation.specs.StepIsolation.{IsIsolatedStep};
 ghost use Rattle.machine_invariant.specs.Reach.{EndsAsNoted, KeepsOthers};
+ghost use Rattle.bus_core.specs.Busy.{IsNextBusy};
+ghost use Rattle.bus_core.specs.OwnEvents.{TakesOfOneTag};
 ghost use Rattle.bus_core.specs.Shows.{AreNeverFull, PointAhead, ShowsFrames, ShowsShared};
 
 use crate::{Bus, Outcome, RingBus, Step};
@@ -80,9 +82,11 @@ impl Bus {
         self.rings.due(step)
     }
 
-    /// The least tag above this one that the device has a task of. No other tag's streams are due.
+    /// The least tag above this one that is busy, which is that the device has a task of it; `None` where no tag above is. No
+    /// other tag's streams are due.
     #[inline(always)]
     pub fn next_busy(&self, tag: u16) -> Option<u16>
+        ensures busy { IsNextBusy self.now tag result }
         ensures next { IfSome result (λ next. (tag < next) × (next ≤ length self.now.parts * TAGS) × AreQuiet self.now tag next) }
         ensures none { IfNone result (AreQuiet self.now tag (suc (length self.now.parts * TAGS))) }
     {
@@ -108,6 +112,10 @@ impl Bus {
     }
 
     /// One step: what came of it. It acts exactly where it is due; it takes no memory.
+    ///
+    /// Which TRB each event that waits names, [`Bus::lines`] shows. Two lists of steps in which a client does alike answer it alike,
+    /// whatever the other clients do: see [`worlds_agree`](crate::worlds_agree), and from new units the second half of
+    /// [`replays_as_solo`](crate::replays_as_solo).
     #[tactic(auto, using(isolation::proofs::StepIsolation::step_isolated))]
     #[inline(always)]
     pub fn step(&mut self, step: Step) -> Outcome
@@ -116,6 +124,8 @@ impl Bus {
         ensures shared { (self.new, result) ≡ shared_step self.old step }
         // To each client the step is its own machine's, or nothing at all.
         ensures isolated { (client : ℕ) → IsIsolatedStep self.old step result self.new client }
+        // The event that a step takes is of one tag, whose client the step is, and no other that waits is of that tag's TD.
+        ensures events { TakesOfOneTag self.old step result }
         // Every client but its owner keeps its whole part: unit, entries with all TDs, least ticket and ready replies.
         ensures others { KeepsOthers self.old result self.new }
         // A command is gone after it only where a task management of its own client that noted its ticket was received.

@@ -8,9 +8,10 @@ use Rattle.tag_desk.specs.declared.rule.ClientView.{ClientView}
 use Rattle.tag_desk.specs.declared.rule.ClientView.TheVariants.{Waiting, Free, Open}
 use Rattle.tag_desk.specs.declared.rule.View.{View}
 use Rattle.tag_desk.specs.declared.rule.View.TheVariants.{Client, Work}
+use Rattle.tag_desk.specs.declared.rule.WorkView.{WorkView}
 use Rattle.tag_desk.specs.declared.rule.WorkView.TheVariants.{Claimed}
 use Rattle.tag_desk.specs.Slips.{IsAsk, IsEnd}
-use Rattle.tag_desk.specs.Rule.{Sat, Looks, Takes, index_in, client_in}
+use Rattle.tag_desk.specs.Rule.{Sat, Looks, Takes, IsAbove, index_in, client_in, work_in}
 use Rattle.tag_desk.specs.Seats.{IsFree, IsDealt, client_sat, open_ticket}
 
 opened : (v : ClientView) (o : Option ℕ) (n : ℕ) → o ≡ open_ticket v → o ≡ Some n → (x : Slip) × (v ≡ Open n x)
@@ -48,14 +49,15 @@ looked slots t n found me w is told =
     let q : (4 * n + 3) / 4 ≡ n = omega arith in
     subst (λ k. Ended t k w) q (won (Ended t ((4 * n + 3) / 4) w) (w ≡ me) found (4 * n + 3) is told)
 
--- the pump's seat holds an ask of the ticket, and has the claim
-abbrev pub Taken : ℕ → ℕ → Sat → Type 0
-Taken t n w = (x : Slip) × IsAsk (t + 1) n x × (w ≡ (Work t (Claimed n), (t, Some x) ∷ []))
+-- the pump's seat holds an ask of the ticket, which is above what it finished, and has the claim
+abbrev pub Taken : ℕ → WorkView → ℕ → Sat → Type 0
+Taken t v n w = (x : Slip) × IsAsk (t + 1) n x × IsAbove v n × (w ≡ (Work t (Claimed n), (t, Some x) ∷ []))
 
-pub took : (slots t n found : ℕ) (me w : Sat) → found ≡ 4 * n + 1 → Takes (step slots t (4 * n + 1) (4 * n + 2) maybe.none) me found w → Taken t n w
+pub took : (slots t n found : ℕ) (me w : Sat) → found ≡ 4 * n + 1 → Takes (step slots t (4 * n + 1) (4 * n + 2) maybe.none) me found w
+    → Taken t (work_in me.0) n w
 took slots t n found me w is told =
     let q : (4 * n + 1) / 4 ≡ n = omega arith in
-    subst (λ k. Taken t k w) q (won (Taken t ((4 * n + 1) / 4) w) (w ≡ me) found (4 * n + 1) is told)
+    subst (λ k. Taken t (work_in me.0) k w) q (won (Taken t (work_in me.0) ((4 * n + 1) / 4) w) (w ≡ me) found (4 * n + 1) is told)
 
 -- a seat that holds one slot with a value
 abbrev pub Holds : ℕ → List (ℕ × Option Slip) → Type 0

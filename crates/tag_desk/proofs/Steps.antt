@@ -16,7 +16,7 @@ use Rattle.tag_desk.specs.declared.rule.View.{View}
 use Rattle.tag_desk.specs.declared.rule.View.TheVariants.{Client, Work, Both, Spent}
 use Rattle.tag_desk.specs.Slips.{IsAsk, IsEnd}
 use Rattle.tag_desk.specs.Rule.{Stage, undealt, free, posted, taken, done, ClientKnows, WorkKnows, IsAt, IsDesk, Place, Sat, Lifts, Posts, Takes}
-use Rattle.tag_desk.specs.Rule.{Books, Knows, Finishes, Looks, Settles, IsSettled, posted_word, done_word}
+use Rattle.tag_desk.specs.Rule.{Books, Knows, IsAbove, Finishes, Looks, Settles, IsSettled, posted_word, done_word}
 use Rattle.tag_desk.specs.Seats.{IsHome}
 use Rattle.tag_desk.proofs.Moves.{moved, unmoved, restaged, updated_here}
 
@@ -45,6 +45,12 @@ client_at_taken : (v : ClientView) (stage : Stage) (n : ℕ) (y : Slip) → stag
 client_at_taken Waiting stage n y is h = absurd (let e : taken n ≡ undealt = sym is ∙ h in cc)
 client_at_taken (Free k) stage n y is h = absurd (let e : taken n ≡ free k = sym is ∙ h in cc)
 client_at_taken (Open k z) stage n y is h = subst (ClientKnows (Open k z)) is h
+
+-- a pump that has no claim finished what is before the ticket that is posted
+above_at_posted : (w : WorkView) (stage : Stage) (n : ℕ) (x : Slip) → stage ≡ posted n x → WorkKnows w stage → IsAbove w n
+above_at_posted Idle stage n x is h = tt
+above_at_posted (Claimed k) stage n x is h = absurd (let e : posted n x ≡ taken k = sym is ∙ h in cc)
+above_at_posted (Finished k y) stage n x is h = subst (WorkKnows (Finished k y)) is h
 
 -- ---- what a word tells of the stage
 
@@ -128,7 +134,7 @@ take_allowed tags slots t id n w within s held homes at fits =
     let know = held.each_seat id (Work t w) at in
     let q : (4 * n + 1) / 4 ≡ n = omega arith in
     let b = held.books in
-    let Won : Sat → Type 0 = λ v. (x : Slip) × IsAsk (t + 1) ((4 * n + 1) / 4) x × (v ≡ (Work t (Claimed ((4 * n + 1) / 4)), (t, Some x) ∷ [])) in
+    let Won : Sat → Type 0 = λ v. (x : Slip) × IsAsk (t + 1) ((4 * n + 1) / 4) x × IsAbove w ((4 * n + 1) / 4) × (v ≡ (Work t (Claimed ((4 * n + 1) / 4)), (t, Some x) ∷ [])) in
     exchanged found (4 * n + 1) (4 * n + 2) (Comes tags s t id me (Takes (step slots t (4 * n + 1) (4 * n + 2) maybe.none) me found))
     (λ (hit : found ≡ 4 * n + 1).
     let is : IsPosted t n (get_elem? s.homes t) (b.stage t) = posted_by_word t found n (get_elem? s.homes t) (b.stage t) hit (held.each_tag t within) in
@@ -146,6 +152,7 @@ take_allowed tags slots t id n w within s held homes at fits =
         x,
         subst (λ k. IsAsk
             (t + 1) k x) (sym q) is.3,
+        subst (IsAbove w) (sym q) (above_at_posted w (b.stage t) n x is.1 know.2),
         refl,
       ),
     ))

@@ -130,10 +130,27 @@ Posts s me found w = w ≡ (after_post s.word (s.first / 4) me.1, [])
 abbrev pub Finishes : Step (Option Slip) → Sat → ℕ → Sat → Type 0
 Finishes s me found w = w ≡ (after_finish s.word (s.first / 4) me.1, [])
 
--- the slot comes with an ask of the ticket, where the word was posted with it
+-- what a view knows of its tag as the client's, and as the pump's
+abbrev pub client_in : View → ClientView
+client_in (Client t v) = v
+client_in (Both t v w) = v
+client_in other = Waiting
+
+abbrev pub work_in : View → WorkView
+work_in (Work t w) = w
+work_in (Both t v w) = w
+work_in other = Idle
+
+-- The ticket is above the one that the pump finished last on the tag, if it finished one; no claim is out. After ticket 5 it is 6 or more
+abbrev pub IsAbove : WorkView → ℕ → Type 0
+IsAbove Idle n = Unit {0}
+IsAbove (Claimed m) n = ⊥
+IsAbove (Finished m y) n = m < n
+
+-- the slot comes with an ask of the ticket, which is above what the pump finished, where the word was posted with it
 abbrev pub Takes : Step (Option Slip) → Sat → ℕ → Sat → Type 0
 Takes s me found w = MatchBool (found == s.first)
-    ((x : Slip) × IsAsk (s.word + 1) (s.first / 4) x × (w ≡ (Work s.word (Claimed (s.first / 4)), (s.word, Some x) ∷ [])))
+    ((x : Slip) × IsAsk (s.word + 1) (s.first / 4) x × IsAbove (work_in me.0) (s.first / 4) × (w ≡ (Work s.word (Claimed (s.first / 4)), (s.word, Some x) ∷ [])))
     (w ≡ me)
 
 -- the slot comes with an end of the ticket, where the word was done with it
@@ -149,17 +166,6 @@ IsSettled (Free n) w found z = ⊥
 IsSettled (Open n x) Idle found z = (found ≡ posted_word n) × (z ≡ x)
 IsSettled (Open n x) (Claimed m) found z = ⊥
 IsSettled (Open n x) (Finished m y) found z = ((found ≡ posted_word n) × (m < n) × (z ≡ x)) ⊎ ((found ≡ done_word n) × (m ≡ n) × (z ≡ y))
-
--- what a view knows of its tag as the client's, and as the pump's
-abbrev pub client_in : View → ClientView
-client_in (Client t v) = v
-client_in (Both t v w) = v
-client_in other = Waiting
-
-abbrev pub work_in : View → WorkView
-work_in (Work t w) = w
-work_in (Both t v w) = w
-work_in other = Idle
 
 -- the word index of the seat's tag
 abbrev pub index_in : View → ℕ

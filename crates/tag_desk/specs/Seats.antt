@@ -9,7 +9,7 @@ use Rattle.tag_desk.specs.declared.rule.ClientView.TheVariants.{Waiting, Free, O
 use Rattle.tag_desk.specs.declared.rule.WorkView.{WorkView}
 use Rattle.tag_desk.specs.declared.rule.WorkView.TheVariants.{Idle, Claimed, Finished}
 use Rattle.tag_desk.specs.declared.rule.View.TheVariants.{Client, Work}
-use Rattle.tag_desk.specs.Rule.{Sat}
+use Rattle.tag_desk.specs.Rule.{Sat, IsAbove}
 use Rattle.tag_desk.specs.Slips.{IsAsk, IsEnd, ticket_in}
 use Rattle.uas_profile.specs.declared.TheConstants.{MAX_CLIENTS, TAGS}
 
@@ -186,6 +186,10 @@ ReapsAt old new tag y = (line : ClientLine) × (n : ℕ) × (x : Slip) × (slice
 abbrev pub ClaimsAt : Server → Server → ℕ → ℕ → HeldClaim → Type 0
 ClaimsAt old new tag ticket claim = (x : Slip) × IsAsk tag ticket x × (claim.slip ≡ Some x) × (claim.tag ≡ tag) × (claim.ticket ≡ ticket)
     × (new ≡ record old { lines = slice_set old.lines (tag - 1) None })
+
+-- the pump's line of a tag is at home, and the ticket is above the one that it finished there last
+abbrev pub IsAboveLast : Server → ℕ → ℕ → Type 0
+IsAboveLast seat tag ticket = (line : WorkLine) × (slice_get seat.lines (tag - 1) ≡ Some (Some line)) × IsAbove line.view ticket
 
 abbrev pub IsAway : Server → ℕ → Type 0
 IsAway seat tag = slice_get seat.lines (tag - 1) ≡ Some None

@@ -21,11 +21,12 @@
 //!    pump's seat recorded, of the word's ticket.
 //! 3. The slot is at home where the word is posted or done, and else out with the seat that moved the word.
 //!
-//! So a claim holds an ask of the ticket asked for, and what `look` gives is an end of the ticket that the client posted,
-//! once; and `close` tells what stands at each tag. Whatever a client did, each ticket that it posted was looked up or stands
-//! in one of the lists that `close` gives, once (`KeepsTickets` in specs/History.antt). Slips are moved and never copied. No
-//! call waits or scans, and `new` and `close` alone take memory. That `claim` and `look` find a slip at all is no clause: a
-//! body that never gives one is refused by a test.
+//! So a claim holds an ask of the ticket asked for, and no ticket of a tag is claimed twice (`IsAboveLast` in
+//! specs/Seats.antt). What `look` gives is an end of the ticket that the client posted, once. `close` tells what stands at each
+//! tag, and of a claim that is out the ticket alone. Whatever a client did, each ticket that it posted was looked up or stands
+//! in one of the lists that `close` gives, once (`KeepsTickets` in specs/History.antt). A `Slip` is neither `Copy` nor `Clone`:
+//! it is moved from one hand to the next. No call waits or scans, and `new` and `close` alone take memory. That `claim` and
+//! `look` find a slip at all is no clause: a body that never gives one is refused by a test.
 //!
 //! It stands on `scsi_cmd` for requests and replies, and on `atomic_table`.
 #![tactic(auto)]
@@ -33,7 +34,7 @@
 ghost use Rattle.std.specs.Prelude.{◌≡◌, ℕ, ◌+◌, ◌-◌, ◌*◌, ◌/◌, ◌%◌, ◌^◌, ◌<◌, ◌≤◌, length, IfOk, IfSome, MatchOption, MatchResult, ◌⊎◌, All, IsTrue, ◌↔◌};
 ghost use Rattle.tag_desk.specs.Slips.{ticket_in, IsAsk, IsEnd};
 ghost use Rattle.tag_desk.specs.Seats.{IsClientOf, IsPumpOf, IsTagOf, IsServed, IsFreeAt, IsAway};
-ghost use Rattle.tag_desk.specs.Seats.{posting, finishing, ReapsAt, ClaimsAt, AreNewCustomers, AreServersBelow};
+ghost use Rattle.tag_desk.specs.Seats.{posting, finishing, ReapsAt, ClaimsAt, IsAboveLast, AreNewCustomers, AreServersBelow};
 ghost use Rattle.tag_desk.specs.Left.{HasEachClientOf, HasEachPumpOf, IsAllClientsOf, IsAllPumpsOf, left_of, seat_of};
 ghost use Rattle.tag_desk.specs.History.{KeepsTickets};
 ghost use Rattle.uas_profile.specs.declared.TheConstants.{MAX_CLIENTS};
@@ -271,13 +272,15 @@ impl Desk {
     }
 
     /// The claim of a ticket on a tag that the pump serves, where the client has it posted; nothing where it hasn't, or
-    /// the tag's claim is out.
+    /// the tag's claim is out. The tickets that are claimed on a tag rise.
     pub fn claim(&self, seat: &mut WorkSeat, tag: u16, ticket: u64) -> Option<Claim>
         requires own { IsPumpOf self.now seat.old }
         requires served { IsServed self.now seat.old tag }
         requires ticket { ticket < 2 ^ 60 }
         ensures same { IfSome result (λ claim. claim.table ≡ self.now.table) }
         ensures claim { MatchOption result (seat.new ≡ seat.old) (ClaimsAt seat.old seat.new tag ticket) }
+        // It is above the ticket that the seat finished there last, so that none is claimed twice.
+        ensures above { IfSome result (λ claim. IsAboveLast seat.old tag ticket) }
         ensures own { IsPumpOf self.now seat.new }
         ensures away { IfSome result (λ claim. IsAway seat.new tag) }
     {
@@ -309,18 +312,20 @@ impl Desk {
 
     /// What stands on the desk, once all its seats are back, in whatever order: by rising tag, each ticket that a client has
     /// open is in one of the lists, once, with the slip that the client posted or the one with which the pump finished.
-    /// Desk and seats come back where there is no memory for the lists. Of all that a client posted since `new`, what it
-    /// didn't look up is there.
-    pub fn close(self, alloc: Global, seats: Seats) -> Result<Left, (Desk, Seats)>
+    /// `NoMemory` where there is none for the lists, and then desk and seats come back. Of all that a client posted since
+    /// `new`, what it didn't look up is there.
+    pub fn close(self, alloc: Global, seats: Seats) -> Result<Left, (NoMemory, Desk, Seats)>
         requires clients { HasEachClientOf self seats.clients.items }
         requires pumps { HasEachPumpOf self seats.pumps.items }
-        ensures left { MatchResult result (λ left. left ≡ left_of self seats.clients.items seats.pumps.items) (λ back. (back.0 ≡ self) × (back.1 ≡ seats)) }
+        ensures left { MatchResult result (λ left. left ≡ left_of self seats.clients.items seats.pumps.items) (λ back. (back.1 ≡ self) × (back.2 ≡ seats)) }
         ensures kept { IfOk result (λ left. (c : ℕ) → c < self.clients → KeepsTickets self.table (seat_of seats.clients.items c) left) }
     {
-        let Ok(mut lists) = Lists::with_room(alloc, TAGS * self.clients) else {
-            return Err((self, seats));
-        };
-        self.settle_all(seats, &mut lists);
-        Ok(lists.into_left())
+        match Lists::with_room(alloc, TAGS * self.clients) {
+            Err(fault) => Err((fault, self, seats)),
+            Ok(mut lists) => {
+                self.settle_all(seats, &mut lists);
+                Ok(lists.into_left())
+            }
+        }
     }
 }

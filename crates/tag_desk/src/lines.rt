@@ -1,12 +1,12 @@
 //! What a client and a pump have of one tag, and the steps of each on its word.
-ghost use Rattle.std.specs.Prelude.{◌≡◌, ℕ, ◌+◌, ◌-◌, ◌*◌, ◌^◌, ◌<◌, ◌≤◌, Some, IfSome, MatchOption, MatchResult, IsTrue, ◌↔◌};
+ghost use Rattle.std.specs.Prelude.{◌≡◌, ℕ, ◌+◌, ◌-◌, ◌*◌, ◌^◌, ◌<◌, ◌≤◌, Some, IfOk, IfSome, MatchOption, MatchResult, IsTrue, ◌↔◌};
 ghost use Rattle.tag_desk.specs.declared.rule.ClientView.TheVariants.{Open};
 ghost use Rattle.tag_desk.specs.declared.rule.WorkView.TheVariants.{Finished};
 ghost use Rattle.tag_desk.specs.Slips.{IsAsk, IsEnd};
 ghost use Rattle.tag_desk.specs.declared.rule.WorkView.TheVariants.{Idle};
 ghost use Rattle.tag_desk.specs.declared.rule.View.TheVariants.{Dealer};
 ghost use Rattle.tag_desk.specs.declared.Slip.{Slip};
-ghost use Rattle.tag_desk.specs.Rule.{client_in};
+ghost use Rattle.tag_desk.specs.Rule.{client_in, IsAbove};
 ghost use Rattle.tag_desk.specs.Seats.{IsFree, Reaps, IsClaimOf, client_sat, new_line, next_ticket};
 ghost use Rattle.tag_desk.specs.Left.{standing};
 ghost use Rattle.uas_profile.specs.declared.TheConstants.{TAGS};
@@ -140,7 +140,8 @@ impl Work {
         requires tag { tag ≡ self.index + 1 }
         requires within { tag ≤ TAGS * desk.now.clients }
         requires ticket { ticket < 2 ^ 60 }
-        ensures { MatchResult result (λ claim. IsClaimOf self ticket claim) (λ work. work ≡ self) }
+        ensures claim { MatchResult result (λ claim. IsClaimOf self ticket claim) (λ work. work ≡ self) }
+        ensures above { IfOk result (λ claim. IsAbove self.view ticket) }
     {
         let Work { mut seat } = self;
         let index = usize::from(tag) - 1;

@@ -11,6 +11,7 @@ ghost use Rattle.uas_replay.specs.Walks.{acted, issued_in, issued_run, machine_o
 ghost use Rattle.stream_array.specs.Rings.{IsLines, IsOpeningLines};
 ghost use Rattle.shared_machine.specs.Bus.{HasTicket};
 ghost use Rattle.shared_machine.specs.Drain.{AreNotLeftOver, AreQuiet};
+ghost use Rattle.bus_core.specs.Busy.{IsNextBusy};
 ghost use Rattle.bus_core.specs.Shows.{ShowsFrames, ShowsShared};
 ghost use Rattle.frame_store.specs.Buffers.{IsWhole};
 
@@ -188,9 +189,11 @@ impl ScriptRun {
         self.bus.due(step)
     }
 
-    /// The least tag above this one that the device has a task of. No other tag's streams are due.
+    /// The least tag above this one that is busy, which is that the device has a task of it; `None` where no tag above is. No
+    /// other tag's streams are due.
     #[tactic(auto, unfolding(crate::specs::Walks::machine_of))]
     pub fn next_busy(&self, tag: u16) -> Option<u16>
+        ensures busy { IsNextBusy self.now.telling.machine tag result }
         ensures next { IfSome result (λ next. (tag < next) × (next ≤ length self.now.telling.machine.parts * TAGS) × AreQuiet self.now.telling.machine tag next) }
         ensures none { IfNone result (AreQuiet self.now.telling.machine tag (suc (length self.now.telling.machine.parts * TAGS))) }
     {

@@ -7,7 +7,7 @@ returns-in-Err-clause-claim c =
     let seat = c.seat.inside in
     let k = c.from-index.result - 1 in
     let had = c.index_mut.result.now in
-    let same = ap Some c.in-Err.ensures ∙ sym c.in_ok-work.was ∙ c.take.ensures.value in
+    let same = ap Some c.in-Err.ensures.claim ∙ sym c.in_ok-work.was ∙ c.take.ensures.value in
     (λ i. record {
       pump = seat.pump;
       lines = (ap (set (set seat.lines.items k c.take.new.self) k) same

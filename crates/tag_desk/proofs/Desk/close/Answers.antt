@@ -6,8 +6,8 @@ use Rattle.tag_desk.specs.History.{KeepsTickets}
 use Rattle.tag_desk.proofs.Keeping.{keeps}
 use Rattle.tag_desk.proofs.Desk.close.Goals as goal
 
-pub returns-clause-kept : goal.returns-clause-kept
-returns-clause-kept c =
+pub returns-in-Ok-clause-kept : goal.returns-in-Ok-clause-kept
+returns-in-Ok-clause-kept c =
     λ n below.
     let desk = c.args.self in
     let clients = c.args.seats.clients.items in

@@ -40,5 +40,5 @@ exchange-slip-requires c =
     let table = ap (λ (d : MadeDesk). d.table) c.desk.view_is in
     let won = took shared.table_id.slots t n step.result c.self.inside.seat.me step.new.seat.me c.if-found-asked.false step.ensures.2 in (
       step.ensures.0 ∙ ap (λ (l : WorkLine). l.table) c.self.view_is ∙ c.requires.table ∙ sym table,
-      holds_one step.new.seat.me (Work t (Claimed n)) t (Some won.0) won.2,
+      holds_one step.new.seat.me (Work t (Claimed n)) t (Some won.0) won.3,
     )

@@ -1,5 +1,5 @@
 -- The TRBs of commands (xHCI 1.2, 6.4.3): their fields at their places, and 0 elsewhere.
-use Rattle.std.specs.Prelude.{ℕ, ◌+◌, ◌*◌, ◌==◌, if◌then◌else◌, Bool}
+use Rattle.std.specs.Prelude.{ℕ, ◌+◌, ◌==◌, if◌then◌else◌, Bool}
 use Rattle.host_trbs.specs.declared.commands.Command.{Command}
 use Rattle.host_trbs.specs.declared.commands.Command.TheVariants.{EnableSlot, DisableSlot, AddressDevice, ConfigureEndpoint, ResetEndpoint, StopEndpoint, SetDequeue}
 use Rattle.host_trbs.specs.declared.words.Words.{Words}

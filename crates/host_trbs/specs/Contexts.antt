@@ -1,5 +1,5 @@
 -- Contexts that a host writes (xHCI 1.2, 6.2): their fields at their places, and 0 elsewhere.
-use Rattle.std.specs.Prelude.{ℕ, ◌+◌, ◌*◌, List, ◌++◌, replicate}
+use Rattle.std.specs.Prelude.{ℕ, ◌+◌, List, ◌++◌, replicate}
 use Rattle.byteorder.specs.Endian.{little_bytes}
 use Rattle.host_trbs.specs.declared.contexts.ContextSize.{ContextSize}
 use Rattle.host_trbs.specs.declared.contexts.ContextSize.TheVariants.{Short, Long}

@@ -1,5 +1,5 @@
 -- Events (xHCI 1.2, 6.4.2), completion codes (6.4.5), and the states in a device context (6.2). Reserved bits aren't looked at.
-use Rattle.std.specs.Prelude.{ℕ, ◌*◌, ◌/◌, ◌%◌, ◌^◌, ◌==◌, ◌||◌, ◌&&◌, nat_lt, nat_le, if◌then◌else◌, Bool, true, false}
+use Rattle.std.specs.Prelude.{ℕ, ◌/◌, ◌%◌, ◌^◌, ◌==◌, ◌||◌, ◌&&◌, nat_le, if◌then◌else◌, Bool, true, false}
 use Rattle.host_trbs.specs.declared.events.Completion.{Completion}
 use Rattle.host_trbs.specs.declared.events.Completion.TheVariants.{Success, ShortPacket, Stall, Transaction, Failed, ContextState, StoppedLengthInvalid, StoppedShortPacket}
 use Rattle.host_trbs.specs.declared.events.Completion.TheVariants as Completions

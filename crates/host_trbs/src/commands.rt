@@ -1,5 +1,5 @@
 //! Commands on the command ring (6.4.3).
-ghost use Rattle.std.specs.Prelude.{◌≡◌, ◌<◌};
+ghost use Rattle.std.specs.Prelude.{◌≡◌};
 ghost use Rattle.host_trbs.specs.Commands.{command_control, command_parameter, command_status, command_target, command_words};
 
 use crate::words::{Words, aligned, cycle_bit};

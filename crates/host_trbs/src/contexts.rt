@@ -1,5 +1,5 @@
 //! Contexts that a host writes (6.2).
-ghost use Rattle.std.specs.Prelude.{◌≡◌, ◌*◌};
+ghost use Rattle.std.specs.Prelude.{◌≡◌};
 ghost use Rattle.host_trbs.specs.Contexts.{context_bytes, context_size, dequeue_pointer, endpoint_context, endpoint_first, endpoint_second, endpoint_type};
 ghost use Rattle.host_trbs.specs.Contexts.{input_control, slot_context, stream_context};
 

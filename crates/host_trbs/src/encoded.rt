@@ -1,5 +1,5 @@
 //! The TRBs that `xhci_trb` writes too, with its bytes.
-ghost use Rattle.std.specs.Prelude.{◌≡◌, ◌≢◌, ◌+◌, ◌*◌, ◌<◌, ◌≤◌, ◌%◌, ◌^◌, not};
+ghost use Rattle.std.specs.Prelude.{◌≡◌, ◌≢◌, ◌+◌, ◌*◌, ◌<◌, ◌%◌, ◌^◌, not};
 ghost use Rattle.host_trbs.specs.Commands.{command_words};
 ghost use Rattle.host_trbs.specs.Transfers.{data_words, link_words};
 ghost use Rattle.host_trbs.specs.Words.{bit, bytes_of};

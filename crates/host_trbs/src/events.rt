@@ -1,7 +1,7 @@
 //! Events (6.4.2), completion codes (6.4.5), and the states in a device context (6.2).
-ghost use Rattle.std.specs.Prelude.{◌≡◌, ◌/◌, ◌%◌, ◌^◌, ◌<◌, drop};
+ghost use Rattle.std.specs.Prelude.{◌≡◌, drop};
 ghost use Rattle.byteorder.specs.Endian.{little_number};
-ghost use Rattle.host_trbs.specs.Events.{completion_in, endpoint_in, endpoint_state_in, event_in, is_failure, slot_in, slot_state_in, transfer_completion};
+ghost use Rattle.host_trbs.specs.Events.{completion_in, endpoint_state_in, event_in, is_failure, slot_state_in, transfer_completion};
 ghost use Rattle.host_trbs.specs.Words.{cycle_in, words_in};
 
 use crate::words::Words;

@@ -1,8 +1,6 @@
 //! TRBs of transfers (6.4.1) and Link TRBs (6.4.4.1).
-ghost use Rattle.std.specs.Prelude.{◌≡◌, ◌*◌, ◌^◌};
-ghost use Rattle.host_trbs.specs.Words.{bit};
-ghost use Rattle.host_trbs.specs.Transfers.{data_control, data_stage_words, data_words, has_data_in, link_words, setup_parameter, setup_words};
-ghost use Rattle.host_trbs.specs.Transfers.{status_stage_words, transfer_type};
+ghost use Rattle.std.specs.Prelude.{◌≡◌};
+ghost use Rattle.host_trbs.specs.Transfers.{data_stage_words, data_words, has_data_in, link_words, setup_parameter, setup_words, status_stage_words};
 
 use crate::words::{Words, aligned, cycle_bit};
 
@@ -116,27 +114,21 @@ impl DataTrb {
     pub fn words(&self, cycle: bool) -> Words
         ensures { result ≡ data_words self.now cycle }
     {
-        Words {
-            parameter: self.at,
-            status: self.length % (1 << 17) + (u32::from(self.packets_left % 32) << 17),
-            control: self.control() + cycle_bit(cycle),
-        }
-    }
-
-    fn control(&self) -> u32
-        ensures { result ≡ data_control self.now }
-    {
-        let end = if self.is_last {
-            INTERRUPT_ON_COMPLETION
-        } else {
-            CHAIN
-        };
         let short = if self.is_in {
             INTERRUPT_ON_SHORT_PACKET
         } else {
             0
         };
-        (NORMAL << 10) + short + end
+        let end = if self.is_last {
+            INTERRUPT_ON_COMPLETION
+        } else {
+            CHAIN
+        };
+        Words {
+            parameter: self.at,
+            status: self.length % (1 << 17) + (u32::from(self.packets_left % 32) << 17),
+            control: (NORMAL << 10) + short + end + cycle_bit(cycle),
+        }
     }
 }
 

@@ -1,0 +1,5 @@
+pub mod Words
+pub mod Commands
+pub mod Transfers
+pub mod Contexts
+pub mod Events

@@ -1,0 +1,3 @@
+pub mod Cuts
+pub mod DeviceBytes
+pub mod Settings

@@ -1,5 +1,5 @@
 -- Descriptors of bytes, one step at a time.
-use Rattle.std.proofs.Common.{◌≡◌, ℕ, zero, suc, ◌+◌, ◌<◌, ◌≤◌, ◌==◌, ◌&&◌, ◌||◌, Bool, true, false, cond, List, [], ◌∷◌, ◌++◌, length, take, drop, refl, sym, ap, ◌∙◌, arith}
+use Rattle.std.proofs.Common.{◌≡◌, ℕ, zero, suc, ◌+◌, ◌≤◌, ◌==◌, ◌&&◌, ◌||◌, Bool, true, false, cond, List, [], ◌∷◌, length, refl, sym, ap, ◌∙◌, arith}
 use Rattle.std.specs.Prelude.{nat_le}
 use Rattle.std.proofs.lemmas.Bool.{and_parts, leb-true}
 use Rattle.std.proofs.lemmas.Bool.Decides.{nat_tests}
@@ -15,7 +15,7 @@ pub record HasFront (bytes : List ℕ) : Type 0 where
   pub shorter : length (behind bytes) + told_length bytes ≡ length bytes
   pub size : length (front bytes) ≡ told_length bytes
 
-two_least : (configuration endpoint companion : Bool) → 2 ≤ cond configuration 9 (cond endpoint 7 (cond companion 6 2))
+pub two_least : (configuration endpoint companion : Bool) → 2 ≤ cond configuration 9 (cond endpoint 7 (cond companion 6 2))
 two_least true e c = omega arith
 two_least false true c = omega arith
 two_least false false true = omega arith
@@ -41,12 +41,12 @@ front_there bytes e =
 
 -- HOW MANY ARE ALLOWED DOESN'T MATTER
 
-absent : (n : ℕ) (bytes : List ℕ) → is_front bytes ≡ false → descriptors_within n bytes ≡ []
+pub absent : (n : ℕ) (bytes : List ℕ) → is_front bytes ≡ false → descriptors_within n bytes ≡ []
 unfolding descriptors_within
 absent zero bytes e = refl
 absent (suc n) bytes e = rw e refl
 
-first_of : (n : ℕ) (bytes : List ℕ) → is_front bytes ≡ true → descriptors_within (suc n) bytes ≡ front bytes ∷ descriptors_within n (behind bytes)
+pub first_of : (n : ℕ) (bytes : List ℕ) → is_front bytes ≡ true → descriptors_within (suc n) bytes ≡ front bytes ∷ descriptors_within n (behind bytes)
 unfolding descriptors_within
 first_of n bytes e = rw e refl
 

@@ -1,5 +1,5 @@
 -- The endpoints of a setting, one descriptor at a time.
-use Rattle.std.proofs.Common.{◌≡◌, ◌≢◌, ℕ, ◌==◌, false, List, [], ◌∷◌, refl, sym, ◌∙◌, ap, arith}
+use Rattle.std.proofs.Common.{◌≡◌, ◌≢◌, ℕ, false, List, ◌∷◌, refl}
 use Rattle.std.proofs.lemmas.Bool.{ne_eqb}
 use Rattle.usb_descriptors.specs.Cutting.{kind_of}
 use Rattle.usb_descriptors.specs.Pipes.{groups, is_endpoint, is_interface, setting_of}

@@ -49,3 +49,8 @@ is_cut bytes = length bytes == length (joined (descriptors bytes))
 pub record IsDescriptor (bytes : List ℕ) : Type 0 where
   pub told : told_length bytes ≡ length bytes
   pub least : least_length (kind_of bytes) ≤ length bytes
+
+-- each of these is a descriptor
+abbrev pub EachDescriptor : List (List ℕ) → Type 0
+EachDescriptor [] = Unit {0}
+EachDescriptor (d ∷ ds) = IsDescriptor d × EachDescriptor ds

@@ -1,5 +1,5 @@
 -- The device descriptor (USB 3.2, 9.6.1).
-use Rattle.std.specs.Prelude.{ℕ, ◌+◌, ◌*◌, ◌/◌, ◌%◌, ◌==◌, ◌&&◌, Bool, not, if◌then◌else◌, List, [], ◌∷◌, ◌++◌, length, slice_index, Result, Ok, Err}
+use Rattle.std.specs.Prelude.{ℕ, ◌/◌, ◌%◌, ◌==◌, ◌&&◌, Bool, not, if◌then◌else◌, List, [], ◌∷◌, ◌++◌, length, slice_index, Result, Ok, Err}
 use Rattle.usb_descriptors.specs.declared.device.DeviceDescriptor.{DeviceDescriptor}
 use Rattle.usb_descriptors.specs.declared.DescriptorFault.{DescriptorFault}
 use Rattle.usb_descriptors.specs.declared.DescriptorFault.TheVariants.{BadDevice, Hub}

@@ -1,5 +1,5 @@
 -- An endpoint descriptor and its companion (USB 3.2, 9.6.6 and 9.6.7).
-use Rattle.std.specs.Prelude.{◌≡◌, ℕ, ◌+◌, ◌*◌, ◌/◌, ◌%◌, ◌≤◌, ◌==◌, ◌&&◌, ◌||◌, nat_lt, Bool, true, false, not, if◌then◌else◌, List, slice_index, Option, None, Some, Result, Ok, Err}
+use Rattle.std.specs.Prelude.{◌≡◌, ℕ, ◌+◌, ◌*◌, ◌/◌, ◌%◌, ◌≤◌, ◌==◌, ◌&&◌, ◌||◌, nat_lt, Bool, not, if◌then◌else◌, List, slice_index, Option, None, Some, Result, Ok, Err}
 use Rattle.uas_profile.specs.declared.Pipe.{Pipe}
 use Rattle.uas_profile.specs.declared.Pipe.TheVariants.{Command, Status, DataIn, DataOut}
 use Rattle.usb_descriptors.specs.declared.Endpoint.{Endpoint}
@@ -48,7 +48,7 @@ abbrev pub with_companion : List ℕ → Option (List ℕ) → Result Endpoint D
 with_companion endpoint None = Err NoCompanion
 with_companion endpoint (Some companion) = if is_beyond companion then Err BadPipes else Ok (endpoint_in endpoint companion)
 
-abbrev pub endpoint_of : List ℕ → Pipe → Option (List ℕ) → Result Endpoint DescriptorFault
+unfoldable pub endpoint_of : List ℕ → Pipe → Option (List ℕ) → Result Endpoint DescriptorFault
 endpoint_of endpoint pipe companion = if suits endpoint pipe then with_companion endpoint companion else Err BadPipes
 
 -- xHCI 4.5.1: the device context index of an endpoint is twice its number, and 1 more where bytes go to the host: 81h has 3, 02h has 4

@@ -7,3 +7,5 @@ pub mod Endpoints
 pub mod Pipes
 pub mod Function
 pub mod Streams
+pub mod Texts
+pub mod Rows

@@ -1,5 +1,5 @@
 -- How many bytes a configuration has, with all that comes with it, and a BOS (USB 3.2, 9.6.3 and 9.6.2).
-use Rattle.std.specs.Prelude.{ℕ, ◌==◌, ◌&&◌, ◌||◌, nat_le, nat_lt, Bool, not, if◌then◌else◌, List, length, slice_index, Result, Ok, Err}
+use Rattle.std.specs.Prelude.{ℕ, ◌==◌, ◌&&◌, nat_le, nat_lt, Bool, not, if◌then◌else◌, List, length, slice_index, Result, Ok, Err}
 use Rattle.usb_descriptors.specs.declared.DescriptorFault.{DescriptorFault}
 use Rattle.usb_descriptors.specs.declared.DescriptorFault.TheVariants.{BadDescriptor, LongConfiguration}
 use Rattle.usb_descriptors.specs.declared.TheConstants.{MOST_CONFIGURATION_BYTES}

@@ -132,6 +132,7 @@ fn pipe_of(id: u8) -> Option<Pipe>
 }
 
 /// A pipe's endpoint with its companion.
+#[tactic(auto, unfolding(crate::specs::Endpoints::endpoint_of))]
 fn endpoint_of(
     endpoint: &[u8],
     pipe: Pipe,
@@ -235,9 +236,12 @@ impl Found {
         ensures value { result ≡ all_four self.now.command self.now.status self.now.data_in self.now.data_out }
         ensures fits { IfOk result FitsPipes }
     {
-        let (Some(command), Some(status), Some(data_in), Some(data_out)) =
-            (self.command, self.status, self.data_in, self.data_out)
-        else {
+        let (Some(command), Some(status), Some(data_in), Some(data_out)) = (
+            self.command,
+            self.status,
+            self.data_in,
+            self.data_out,
+        ) else {
             return Err(DescriptorFault::BadPipes);
         };
         if command.address == data_out.address || status.address == data_in.address {

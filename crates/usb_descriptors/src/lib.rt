@@ -27,11 +27,13 @@ mod cutting;
 mod device;
 mod function;
 mod gathering;
+mod laws;
 mod stream_tags;
 mod totals;
 
 pub use device::{DeviceDescriptor, read_device};
 pub use function::find_uas;
+pub use laws::{cut_bytes_join, functions_are_found, joined_descriptors_are_cut, rows_are_read};
 pub use stream_tags::{Streams, streams_of};
 use thiserror::Error;
 pub use totals::{read_bos_total, read_configuration_total};

@@ -52,7 +52,11 @@ fn tags_of(asked: u8, pipes: &Pipes, max_psa_size: u8) -> u8
 fn numbers_of(exponent: u8) -> u8
     ensures { result ≡ min 255 (numbers_of exponent) }
 {
-    if exponent < 8 { (1 << exponent) - 1 } else { 255 }
+    if exponent < 8 {
+        (1 << exponent) - 1
+    } else {
+        255
+    }
 }
 
 fn field_of(tags: u8) -> u8

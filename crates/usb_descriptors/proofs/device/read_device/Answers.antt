@@ -1,4 +1,4 @@
-use Rattle.std.proofs.Common.{arith, rules, sym, ◌∙◌}
+use Rattle.std.proofs.Common.{arith}
 use Rattle.usb_descriptors.proofs.DeviceBytes.{eighteen}
 use Rattle.usb_descriptors.proofs.device.read_device.Goals as goal
 

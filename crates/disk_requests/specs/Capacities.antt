@@ -1,5 +1,5 @@
 -- READ CAPACITY data (SBC-3, 5.15 and 5.16).
-use Rattle.std.specs.Prelude.{ℕ, ◌+◌, ◌-◌, ◌^◌, ◌==◌, ◌||◌, nat_lt, Bool, false, if◌then◌else◌, List, length, slice_index, Result, Ok, Err}
+use Rattle.std.specs.Prelude.{ℕ, ◌+◌, ◌-◌, ◌^◌, ◌≤◌, ◌==◌, ◌||◌, nat_lt, Bool, false, if◌then◌else◌, List, length, slice_index, Result, Ok, Err}
 use Rattle.scsi_cmd.specs.Fields.{field_of_eight, field_of_four, is_bit_set}
 use Rattle.disk_requests.specs.declared.DiskFault.{DiskFault}
 use Rattle.disk_requests.specs.declared.DiskFault.TheVariants.{BadCapacity, BlockLength}
@@ -31,3 +31,13 @@ abbrev pub long_capacity_in : List ℕ → Result Capacity DiskFault
 long_capacity_in bytes =
     if nat_lt (length bytes) 15 || (field_of_eight bytes 0 == 2 ^ 64 - 1) then Err BadCapacity
     else capacity_of (field_of_eight bytes 0) (field_of_four bytes 8) (is_bit_set (slice_index bytes 14) 7)
+
+-- what is so of a capacity
+pub record FitsCapacity (capacity : Capacity) : Type 0 where
+  pub some : 1 ≤ capacity.blocks
+  pub least : 512 ≤ capacity.block_bytes
+  pub most : capacity.block_bytes ≤ 4096
+
+abbrev pub FitsKnown : ShortCapacity → Type 0
+FitsKnown (Known capacity) = FitsCapacity capacity
+FitsKnown AskLong = Unit {0}

@@ -1,5 +1,5 @@
 -- The CDBs of requests and of the commands of a bring-up (SPC-4, SBC-3), and the UNMAP parameter list.
-use Rattle.std.specs.Prelude.{ℕ, ◌^◌, ◌||◌, nat_le, Bool, true, false, if◌then◌else◌, List, [], ◌∷◌, ◌++◌, Option, None, Some}
+use Rattle.std.specs.Prelude.{ℕ, ◌^◌, ◌||◌, nat_le, Bool, false, if◌then◌else◌, List, [], ◌∷◌, ◌++◌, Option, None, Some}
 use Rattle.scsi_cmd.specs.Fields.{eight_bytes, four_bytes, two_bytes, zeros}
 use Rattle.scsi_cmd.specs.Op.{cdb_bytes, long_cdb}
 use Rattle.scsi_cmd.specs.declared.Op.{Op}

@@ -1,5 +1,5 @@
 -- Standard INQUIRY data (SPC-4, 6.4.2).
-use Rattle.std.specs.Prelude.{ℕ, ◌/◌, ◌%◌, ◌^◌, ◌==◌, ◌&&◌, nat_le, Bool, if◌then◌else◌, List, length, slice_index, slice_range, Result, Ok, Err}
+use Rattle.std.specs.Prelude.{ℕ, ◌==◌, ◌&&◌, nat_le, Bool, if◌then◌else◌, List, length, slice_index, slice_range, Result, Ok, Err}
 use Rattle.scsi_cmd.specs.Fields.{is_bit_set}
 use Rattle.disk_requests.specs.declared.DiskFault.{DiskFault}
 use Rattle.disk_requests.specs.declared.DiskFault.TheVariants.{NotADisk}

@@ -1,5 +1,5 @@
 -- Which requests a disk is asked.
-use Rattle.std.specs.Prelude.{◌≡◌, ℕ, ◌+◌, ◌*◌, ◌≤◌, ◌==◌, ◌&&◌, nat_lt, Bool, true, false, not, if◌then◌else◌, Option, None, Some}
+use Rattle.std.specs.Prelude.{◌≡◌, ◌≢◌, ℕ, ◌+◌, ◌*◌, ◌≤◌, ◌==◌, ◌&&◌, nat_lt, Bool, true, false, not, if◌then◌else◌, Option, None, Some}
 use Rattle.disk_requests.specs.declared.Request.{Request}
 use Rattle.disk_requests.specs.declared.Request.TheVariants.{Read, Write, Sync, Unmap, Ready}
 use Rattle.disk_requests.specs.declared.refusals.DiskShape.{DiskShape}
@@ -55,3 +55,11 @@ refusal_of request disk lent =
     else (if is_fua request && not disk.has_fua then Some NoFua
     else (if not (lent == moved_bytes request disk.block_bytes) then Some Length
     else None))))
+
+-- a request that the disk is asked
+pub record IsAsked (request : Request) (disk : DiskShape) (lent : ℕ) : Type 0 where
+  pub range : first_block request + named_blocks request ≤ disk.blocks
+  pub few : most_of request disk ≢ 0 → named_blocks request ≤ most_of request disk
+  pub unmap : is_unmap request ≡ true → disk.can_unmap ≡ true
+  pub fua : is_fua request ≡ true → disk.has_fua ≡ true
+  pub length : lent ≡ moved_bytes request disk.block_bytes

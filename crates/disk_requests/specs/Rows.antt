@@ -1,14 +1,16 @@
 -- Units and parameter lists byte by byte.
-use Rattle.std.specs.Prelude.{◌≡◌, ℕ, ◌+◌, ◌^◌, true, false, List, [], ◌∷◌, ◌++◌, None, Some, Ok, Err}
+use Rattle.std.specs.Prelude.{◌≡◌, ℕ, ◌^◌, true, false, List, [], ◌∷◌, ◌++◌, codes, Some, Ok, Err}
+use Rattle.scsi_cmd.specs.Data.{inquiry_bytes}
 use Rattle.scsi_cmd.specs.Fields.{zeros}
 use Rattle.disk_requests.specs.declared.Asking.TheVariants as asking
-use Rattle.disk_requests.specs.declared.Request.TheVariants.{Read, Write, Sync, Unmap, Ready}
-use Rattle.disk_requests.specs.declared.DiskFault.TheVariants.{BadCapacity, BlockLength}
+use Rattle.disk_requests.specs.declared.Request.TheVariants.{Read, Write, Unmap}
+use Rattle.disk_requests.specs.declared.DiskFault.TheVariants.{BlockLength, NotADisk}
 use Rattle.disk_requests.specs.declared.answers.ShortCapacity.TheVariants.{Known, AskLong}
 use Rattle.disk_requests.specs.declared.StatusKind.TheVariants.{Sense, Response}
 use Rattle.disk_requests.specs.declared.senses.Readiness.TheVariants as readiness
 use Rattle.disk_requests.specs.Capacities.{long_capacity_in, short_capacity_in}
 use Rattle.disk_requests.specs.Commands.{asking_cdb, request_cdb, unmap_list}
+use Rattle.disk_requests.specs.Inquiry.{inquiry_in}
 use Rattle.disk_requests.specs.Senses.{readiness_in}
 use Rattle.disk_requests.specs.Statuses.{status_in}
 use Rattle.disk_requests.specs.Units.{command_text, task_text}
@@ -86,3 +88,15 @@ RowReadiness =
     (readiness_in 0x02 attention ≡ readiness.Again) × (readiness_in 0x02 (0x72 ∷ 0x02 ∷ 0x04 ∷ 0x02 ∷ []) ≡ readiness.Start)
     × (readiness_in 0x02 (0x72 ∷ 0x02 ∷ 0x04 ∷ 0x01 ∷ []) ≡ readiness.Wait) × (readiness_in 0x02 (0x72 ∷ 0x02 ∷ 0x3a ∷ 0 ∷ []) ≡ readiness.NoMedium)
     × (readiness_in 0x02 [] ≡ readiness.Failed)
+
+-- THE ANSWERS OF THIS REPOSITORY'S OWN DISK
+
+-- its INQUIRY data
+abbrev pub RowInquiry : Type 0
+RowInquiry =
+    inquiry_in (inquiry_bytes true)
+    ≡ Ok (record { is_removable = false; version = 6; vendor = codes "SIMDISK "; product = codes "UAS SIM DISK    "; revision = codes "0001" })
+
+-- no unit
+abbrev pub RowNoUnit : Type 0
+RowNoUnit = inquiry_in (inquiry_bytes false) ≡ Err NotADisk

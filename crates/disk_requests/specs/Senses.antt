@@ -1,5 +1,5 @@
 -- Sense data of both formats (SPC-4, 4.5), and what a TEST UNIT READY's answer says of the disk.
-use Rattle.std.specs.Prelude.{ℕ, ◌%◌, ◌==◌, ◌&&◌, ◌||◌, nat_le, Bool, if◌then◌else◌, List, length, slice_index, Option, None, Some}
+use Rattle.std.specs.Prelude.{ℕ, ◌%◌, ◌==◌, ◌&&◌, ◌||◌, nat_le, if◌then◌else◌, List, length, slice_index, Option, None, Some}
 use Rattle.scsi_cmd.specs.declared.Sense.{Sense}
 use Rattle.disk_requests.specs.declared.senses.Readiness.{Readiness}
 use Rattle.disk_requests.specs.declared.senses.Readiness.TheVariants.{Ready, Again, Start, Wait, NoMedium, Failed}

@@ -1,5 +1,5 @@
 -- The information units that the disk sends (INCITS 471), by their fields alone: reserved bytes aren't looked at.
-use Rattle.std.specs.Prelude.{ℕ, ◌==◌, nat_lt, nat_le, min, if◌then◌else◌, List, length, take, drop, slice_index, Option, None, Some}
+use Rattle.std.specs.Prelude.{ℕ, ◌==◌, nat_le, min, if◌then◌else◌, List, length, take, drop, slice_index, Option, None, Some}
 use Rattle.arrayvec.specs.ArrayVec.{ArrayVec}
 use Rattle.scsi_cmd.specs.Fields.{field_of_two}
 use Rattle.disk_requests.specs.declared.StatusUnit.{StatusUnit}

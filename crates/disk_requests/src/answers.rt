@@ -1,7 +1,7 @@
 //! INQUIRY data, capacities and pages.
 ghost use Rattle.std.specs.Prelude.{◌≡◌, ◌+◌, ◌-◌, ◌≤◌, ◌<◌, ◌^◌, ◌==◌, IfOk, length, slice_range, take};
 ghost use Rattle.std.specs.List.{list_any};
-ghost use Rattle.disk_requests.specs.Capacities.{capacity_of, long_capacity_in, short_capacity_in};
+ghost use Rattle.disk_requests.specs.Capacities.{FitsCapacity, FitsKnown, capacity_of, long_capacity_in, short_capacity_in};
 ghost use Rattle.disk_requests.specs.Inquiry.{inquiry_in, is_disk};
 ghost use Rattle.disk_requests.specs.Pages.{is_page, limits_in, lists_page, page_end, page_field};
 
@@ -94,8 +94,9 @@ fn array_at<const N: usize>(bytes: &[u8], at: usize) -> [u8; N]
 }
 
 /// Reads READ CAPACITY(10) data. `BadCapacity` for fewer than 8 bytes; `BlockLength` for blocks of fewer than 512 bytes or more than 4,096.
-pub fn read_short_capacity(bytes: &[u8]) -> Result<ShortCapacity, DiskFault>
-    ensures { result ≡ short_capacity_in bytes.now }
+pub fn read_capacity10(bytes: &[u8]) -> Result<ShortCapacity, DiskFault>
+    ensures read { result ≡ short_capacity_in bytes.now }
+    ensures fits { IfOk result FitsKnown }
 {
     if bytes.len() < SHORT_CAPACITY_BYTES {
         return Err(DiskFault::BadCapacity);
@@ -109,8 +110,9 @@ pub fn read_short_capacity(bytes: &[u8]) -> Result<ShortCapacity, DiskFault>
 }
 
 /// Reads READ CAPACITY(16) data. `BadCapacity` for fewer than 15 bytes and for 2^64 blocks; `BlockLength` as of the short data.
-pub fn read_long_capacity(bytes: &[u8]) -> Result<Capacity, DiskFault>
-    ensures { result ≡ long_capacity_in bytes.now }
+pub fn read_capacity16(bytes: &[u8]) -> Result<Capacity, DiskFault>
+    ensures read { result ≡ long_capacity_in bytes.now }
+    ensures fits { IfOk result FitsCapacity }
 {
     if bytes.len() < LONG_CAPACITY_FIELDS || eight_at(bytes, 0) == u64::MAX {
         return Err(DiskFault::BadCapacity);
@@ -120,7 +122,8 @@ pub fn read_long_capacity(bytes: &[u8]) -> Result<Capacity, DiskFault>
 
 fn capacity_of(last: u64, block_bytes: u32, is_provisioned: bool) -> Result<Capacity, DiskFault>
     requires { last + 1 < 2 ^ 64 }
-    ensures { result ≡ capacity_of last block_bytes is_provisioned }
+    ensures value { result ≡ capacity_of last block_bytes is_provisioned }
+    ensures fits { IfOk result FitsCapacity }
 {
     if block_bytes < 512 || block_bytes > 4096 {
         return Err(DiskFault::BlockLength);

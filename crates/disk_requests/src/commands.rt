@@ -31,7 +31,24 @@ pub fn request_cdb(request: &Request, is_long: bool) -> [u8; 16]
     match *request {
         Request::Read { block, count } => cdb(&read_op(block, count, is_long)),
         Request::Write { block, count, fua } => cdb(&write_op(block, count, fua, is_long)),
-        Request::Sync if is_long => [SYNCHRONIZE_CACHE_16, 0, 0, 0, 0, 0, 0, 0, 0, 0, 0, 0, 0, 0, 0, 0],
+        Request::Sync if is_long => [
+            SYNCHRONIZE_CACHE_16,
+            0,
+            0,
+            0,
+            0,
+            0,
+            0,
+            0,
+            0,
+            0,
+            0,
+            0,
+            0,
+            0,
+            0,
+            0,
+        ],
         Request::Sync => cdb(&Op::Sync { lba: 0, count: 0 }),
         Request::Unmap { .. } => [UNMAP, 0, 0, 0, 0, 0, 0, 0, UNMAP_BYTES, 0, 0, 0, 0, 0, 0, 0],
         Request::Ready => cdb(&Op::TestUnitReady),
@@ -86,7 +103,24 @@ pub fn asking_cdb(asking: &Asking) -> [u8; 16]
     match *asking {
         Asking::Inquiry { page, length } => inquiry_cdb(page, length),
         Asking::TestUnitReady => cdb(&Op::TestUnitReady),
-        Asking::StartUnit => [START_STOP_UNIT, 0, 0, 0, START, 0, 0, 0, 0, 0, 0, 0, 0, 0, 0, 0],
+        Asking::StartUnit => [
+            START_STOP_UNIT,
+            0,
+            0,
+            0,
+            START,
+            0,
+            0,
+            0,
+            0,
+            0,
+            0,
+            0,
+            0,
+            0,
+            0,
+            0,
+        ],
         Asking::ReadCapacity10 => cdb(&Op::ReadCapacity),
         Asking::ReadCapacity16 => cdb(&Op::ReadCapacity16 {
             allocation: LONG_CAPACITY_BYTES,
@@ -101,7 +135,9 @@ fn inquiry_cdb(page: Option<u8>, length: u16) -> [u8; 16]
         None => cdb(&Op::Inquiry { allocation: length }),
         Some(page) => {
             let [high, low] = length.to_be_bytes();
-            [INQUIRY, EVPD, page, high, low, 0, 0, 0, 0, 0, 0, 0, 0, 0, 0, 0]
+            [
+                INQUIRY, EVPD, page, high, low, 0, 0, 0, 0, 0, 0, 0, 0, 0, 0, 0,
+            ]
         }
     }
 }

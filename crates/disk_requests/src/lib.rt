@@ -24,15 +24,14 @@ mod senses;
 mod units;
 
 pub use answers::{
-    BlockLimits, Capacity, InquiryData, ShortCapacity, lists_page, read_inquiry, read_limits,
-    read_long_capacity, read_short_capacity,
+    BlockLimits, Capacity, InquiryData, ShortCapacity, lists_page, read_capacity10,
+    read_capacity16, read_inquiry, read_limits,
 };
 use arrayvec::ArrayVec;
 pub use commands::{asking_cdb, request_cdb, unmap_list};
-pub use laws::{rows_are_read, rows_are_written};
-
+pub use laws::{rows_are_read, rows_are_written, units_are_read};
 pub use refusals::{DiskShape, Refusal, refusal_of};
-pub use senses::{Readiness, readiness_of, read_sense};
+pub use senses::{Readiness, read_sense, readiness_of};
 use thiserror::Error;
 use uas_iu::MAX_SENSE_BYTES;
 pub use units::{command_unit, read_status, task_unit};
@@ -86,7 +85,9 @@ pub enum StatusKind {
         sense: ArrayVec<u8, MAX_SENSE_BYTES>,
     },
     /// The response code of a task management function, or of a unit that wasn't taken.
-    Response { code: u8 },
+    Response {
+        code: u8,
+    },
     /// Data may be read, or written; only USB 2 needs these.
     ReadReady,
     WriteReady,

@@ -1,6 +1,6 @@
 //! Requests that aren't sent.
-ghost use Rattle.std.specs.Prelude.{◌≡◌, ◌+◌, nat_lt};
-ghost use Rattle.disk_requests.specs.Refusals.{first_block, is_fua, is_unmap, most_of, moved_bytes, named_blocks, refusal_of};
+ghost use Rattle.std.specs.Prelude.{◌≡◌, ◌↔◌, ◌+◌, None, nat_lt};
+ghost use Rattle.disk_requests.specs.Refusals.{IsAsked, first_block, is_fua, is_unmap, most_of, moved_bytes, named_blocks, refusal_of};
 
 use crate::Request;
 use thiserror::Error;
@@ -36,7 +36,8 @@ pub enum Refusal {
 /// Why a disk isn't asked a request whose caller lends so many bytes; None where it is. Tested in this order: `Range` where a block isn't there;
 /// `TooLong`; `NoUnmap`; `NoFua`; `Length` where READ or WRITE moves another number of bytes, or anything is lent for another request.
 pub fn refusal_of(request: &Request, disk: &DiskShape, lent: u64) -> Option<Refusal>
-    ensures { result ≡ refusal_of request.now disk.now lent }
+    ensures first { result ≡ refusal_of request.now disk.now lent }
+    ensures asked { (result ≡ None) ↔ IsAsked request.now disk.now lent }
 {
     let count = named_blocks(request);
     let most = most_of(request, disk);
@@ -66,7 +67,8 @@ fn first_block(request: &Request) -> u64
     ensures { result ≡ first_block request.now }
 {
     match *request {
-        Request::Read { block, .. } | Request::Write { block, .. } | Request::Unmap { block, .. } => block,
+        Request::Read { block, .. } | Request::Write { block, .. } | Request::Unmap { block, .. } =>
+            block,
         Request::Sync | Request::Ready => 0,
     }
 }
@@ -75,7 +77,8 @@ fn named_blocks(request: &Request) -> u32
     ensures { result ≡ named_blocks request.now }
 {
     match *request {
-        Request::Read { count, .. } | Request::Write { count, .. } | Request::Unmap { count, .. } => count,
+        Request::Read { count, .. } | Request::Write { count, .. } | Request::Unmap { count, .. } =>
+            count,
         Request::Sync | Request::Ready => 0,
     }
 }
@@ -84,7 +87,8 @@ fn moved_bytes(request: &Request, block_bytes: u32) -> u64
     ensures { result ≡ moved_bytes request.now block_bytes }
 {
     match *request {
-        Request::Read { count, .. } | Request::Write { count, .. } => u64::from(count) * u64::from(block_bytes),
+        Request::Read { count, .. } | Request::Write { count, .. } => u64::from(count)
+            * u64::from(block_bytes),
         Request::Sync | Request::Unmap { .. } | Request::Ready => 0,
     }
 }

@@ -1,4 +1,5 @@
 use Rattle.std.proofs.Common.{refl}
+use Rattle.scsi_cmd.specs.Data.{inquiry_bytes}
 use Rattle.disk_requests.proofs.laws.rows_are_read.Goals as goal
 
 pub returns-clause-attention : goal.returns-clause-attention
@@ -24,3 +25,11 @@ returns-clause-block_length c = refl
 
 pub returns-clause-readiness : goal.returns-clause-readiness
 returns-clause-readiness c = (refl, refl, refl, refl, refl)
+
+pub returns-clause-inquiry : goal.returns-clause-inquiry
+unfolding inquiry_bytes
+returns-clause-inquiry c = refl
+
+pub returns-clause-no_unit : goal.returns-clause-no_unit
+unfolding inquiry_bytes
+returns-clause-no_unit c = refl

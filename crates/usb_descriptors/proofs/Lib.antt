@@ -1,0 +1,5 @@
+pub mod Cuts
+pub mod DeviceBytes
+pub mod Settings
+pub mod Joins
+pub mod FoundAgain

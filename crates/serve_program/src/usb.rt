@@ -5,7 +5,7 @@ use byte_io::{Output, Reader, Writer};
 use file_disk::{Blocks, FileAccess, HostBlocks, OpenFault};
 use host_commands::{BlockLength, CommandSet, LogicalUnitShape, SerialNumber};
 use std::alloc::{AllocError, Global};
-use std::io::Write;
+use std::io::{BufReader, Write};
 use uas_profile::MAX_CLIENTS;
 use uas_replay::{FAULT, RunFault};
 use uas_tasks::MOST_CHUNK_BLOCKS;
@@ -16,6 +16,9 @@ use usb_tags::UsbTags;
 
 /// Serial numbers are below this number.
 const SERIAL_NUMBERS: u64 = 100_000_000;
+
+/// So many bytes of the guest's packets are read ahead: the heads and fields of some forty. Longer data are read into their place.
+const AHEAD_BYTES: usize = 4096;
 
 /// Why an image isn't served.
 #[derive(Clone, Copy, Debug, PartialEq, Eq)]
@@ -73,11 +76,14 @@ pub fn serve_usb<O: Output>(rt: &HostRuntime, asked: &UsbAsked, output: &mut O) 
     let Some(mut usb) = disk_of(rt.alloc(), asked, &images.shapes) else {
         return RunFault::NoMemory.tell(&mut rt.stderr());
     };
+    let Ok(input) = BufReader::with_capacity(rt.alloc(), AHEAD_BYTES, rt.reader()) else {
+        return RunFault::NoMemory.tell(&mut rt.stderr());
+    };
     run_usb(
         rt.alloc(),
         &mut usb,
         &mut images.files,
-        &mut Reader(rt.reader()),
+        &mut Reader(input),
         output,
         &mut Writer(rt.stderr()),
     )

@@ -1,5 +1,6 @@
 -- Requests, as they are done on the file of a logical unit.
-use Rattle.std.specs.Prelude.{◌≡◌, ℕ, ◌+◌, ◌*◌, ◌==◌, nat_lt, ◌⊎◌, Bool, true, false, ◌||◌, if◌then◌else◌, IsTrue, List, [], length, take, drop, Option, None, Some}
+use Rattle.std.specs.Prelude.{◌≡◌, ℕ, suc, ◌+◌, ◌*◌, ◌==◌, nat_lt, ◌⊎◌, Bool, true, false, ◌||◌, if◌then◌else◌, IsTrue, List, [], ◌∷◌, length, take, drop, Option, None, Some}
+use Rattle.std.specs.Prelude.{Result, Ok, Err, ⊤}
 use Rattle.std.specs.Prelude.{slice_get, slice_set}
 use Rattle.file_disk.specs.Written.{written_over}
 use Rattle.host_commands.specs.declared.BlockLength.{BlockLength}
@@ -8,6 +9,8 @@ use Rattle.uas_tasks.specs.declared.Outcome.{Outcome}
 use Rattle.uas_tasks.specs.declared.Outcome.TheVariants.{Done, Differs, MediumError}
 use Rattle.uas_tasks.specs.declared.Request.{Request}
 use Rattle.uas_tasks.specs.declared.Request.TheVariants.{Read, Write, Compare, Verify, Sync}
+use Rattle.usb_serve.specs.declared.fault.UsbFault.{UsbFault}
+use Rattle.usb_serve.specs.declared.fault.UsbFault.TheVariants.{File}
 use Rattle.usb_serve.specs.declared.files.Span.{Span}
 use Rattle.usb_serve.specs.declared.files.UnitFile.{UnitFile}
 
@@ -178,3 +181,32 @@ pub record IsNoUnit (request : Request) (old new : List Filed) (outcome : Outcom
 
 abbrev pub Asked : Request → (old new : List Filed) → List ℕ → Outcome → List ℕ → Type 0
 Asked request old new brought outcome given = IsServedOn request old new brought outcome given ⊎ IsNoUnit request old new outcome given
+
+-- ALL FILES, AS A SESSION LEAVES THEM
+
+-- a sync of the file was tried, with this outcome, and nothing else was done
+pub record IsLeft (old new : Filed) (outcome : Outcome) : Type 0 where
+  pub synced : Synced old new outcome
+  pub same : IsSameFile old new
+
+-- each file in turn, also behind one that failed
+unfoldable pub AreLeft : (old new : List Filed) → List Outcome → Type 0
+AreLeft [] [] [] = ⊤
+AreLeft (was ∷ others) (now ∷ others_new) (outcome ∷ outcomes) = IsLeft was now outcome × AreLeft others others_new outcomes
+AreLeft old new outcomes = ⊥
+
+-- the fault is of the first that failed, or of the one that failed before them, if any
+abbrev pub first_fault : Result ⊤ UsbFault → ℕ → Outcome → Result ⊤ UsbFault
+first_fault (Ok ok) number Done = Ok tt
+first_fault (Ok ok) number outcome = Err (File number)
+first_fault (Err fault) number outcome = Err fault
+
+abbrev pub fault_from : Result ⊤ UsbFault → ℕ → List Outcome → Result ⊤ UsbFault
+fault_from first number [] = first
+fault_from first number (outcome ∷ outcomes) = fault_from (first_fault first number outcome) (suc number) outcomes
+
+-- Each file was synced. By hand: where the second of three failed, the first and the third are safe, and the fault is of file 1.
+pub record AreSynced (told : Result ⊤ UsbFault) (old new : List Filed) : Type 0 where
+  pub outcomes : List Outcome
+  pub left : AreLeft old new outcomes
+  pub fault : told ≡ fault_from (Ok tt) 0 outcomes

@@ -1,13 +1,12 @@
 -- What a session reads of the guest and writes to it, and what becomes of the disk and its files.
-use Rattle.std.specs.Prelude.{◌≡◌, ℕ, ◌⊎◌, Bool, true, false, IsTrue, List, [], ◌∷◌, ◌++◌, length, Option}
+use Rattle.std.specs.Prelude.{◌≡◌, ℕ, ◌⊎◌, Bool, true, false, IsTrue, List, [], ◌∷◌, ◌++◌, length, Option, Result, Ok, Err, ⊤}
 use Rattle.std.specs.Io.KnownBytes.{Appends}
 use Rattle.byte_io.specs.Streams.{Began}
 use Rattle.usb_serve.specs.declared.fault.UsbFault.{UsbFault}
 use Rattle.usb_serve.specs.declared.fault.UsbFault.TheVariants as fault
 use Rattle.usb_serve.specs.declared.packets.Came.{Came}
-use Rattle.usb_tags.specs.declared.UsbTags.{UsbTags}
 use Rattle.usb_serve.specs.Faults.{IsReported}
-use Rattle.usb_serve.specs.Files.{Filed}
+use Rattle.usb_serve.specs.Files.{AreSynced, Filed}
 use Rattle.usb_serve.specs.Greeting.{GreetingBroken, Said, our_text}
 use Rattle.usb_serve.specs.Packets.{Leaves, ReadsPacket, Unread}
 use Rattle.usb_serve.specs.Sending.{disk_text}
@@ -133,33 +132,36 @@ TalkBroken reason can_read can_write old new left left_new written written_new =
 
 -- THE RUN
 
--- the guest left; `last` are the files as the session left them, before they were synced
-pub record Ended (old : World) (device : UsbTags) (left left_new written written_new : Option (List ℕ)) : Type 0 where
+-- The guest left, and each file was synced; `last` are the files before that.
+pub record Ended (old new : World) (left left_new written written_new : Option (List ℕ)) : Type 0 where
   pub last : List Filed
-  pub talked : Talked old (world device last) left left_new written written_new
+  pub talked : Talked old (world new.device last) left left_new written written_new
+  pub synced : AreSynced (Ok tt) last new.files
 
 -- for want of memory nothing was done
-pub record IsUnbegun (reason : UsbFault) (old : World) (device : UsbTags) (left left_new written written_new : Option (List ℕ)) : Type 0 where
+pub record IsUnbegun (reason : UsbFault) (old new : World) (left left_new written written_new : Option (List ℕ)) : Type 0 where
   pub why : reason ≡ fault.NoMemory
-  pub same : device ≡ old.device
+  pub same : new ≡ old
   pub unread : left_new ≡ left
   pub silent : written_new ≡ written
 
--- a fault ended the session, or the guest left and a file couldn't be made safe
-pub record IsCutOff (reason : UsbFault) (can_read can_write : Bool) (old : World) (device : UsbTags) (left left_new written written_new : Option (List ℕ))
+-- A fault ended the session, or the guest left; then each file was synced, and where the guest left one of them failed.
+pub record IsCutOff (reason : UsbFault) (can_read can_write : Bool) (old new : World) (left left_new written written_new : Option (List ℕ))
     : Type 0 where
   pub last : List Filed
-  pub how : TalkBroken reason can_read can_write old (world device last) left left_new written written_new
-      ⊎ (((unit : ℕ) × (reason ≡ fault.File unit)) × Talked old (world device last) left left_new written written_new)
+  pub told : Result ⊤ UsbFault
+  pub synced : AreSynced told last new.files
+  pub how : TalkBroken reason can_read can_write old (world new.device last) left left_new written written_new
+      ⊎ ((told ≡ Err reason) × Talked old (world new.device last) left left_new written written_new)
 
-abbrev pub Failed : UsbFault → (can_read can_write : Bool) → (old : World) → UsbTags → (left left_new written written_new : Option (List ℕ)) → Type 0
-Failed reason can_read can_write old device left left_new written written_new =
-    IsUnbegun reason old device left left_new written written_new
-    ⊎ IsCutOff reason can_read can_write old device left left_new written written_new
+abbrev pub Failed : UsbFault → (can_read can_write : Bool) → (old new : World) → (left left_new written written_new : Option (List ℕ)) → Type 0
+Failed reason can_read can_write old new left left_new written written_new =
+    IsUnbegun reason old new left left_new written written_new
+    ⊎ IsCutOff reason can_read can_write old new left left_new written written_new
 
 -- A run that ended with this exit status: the fault behind it.
-pub record Fails (exit : ℕ) (can_read can_write can_report : Bool) (old : World) (device : UsbTags)
+pub record Fails (exit : ℕ) (can_read can_write can_report : Bool) (old new : World)
     (left left_new written written_new faults faults_new : Option (List ℕ)) : Type 0 where
   pub reason : UsbFault
   pub reported : IsReported reason exit can_report faults faults_new
-  pub failed : Failed reason can_read can_write old device left left_new written written_new
+  pub failed : Failed reason can_read can_write old new left left_new written written_new

@@ -2,7 +2,7 @@
 
 ghost use Rattle.std.specs.Prelude.{◌≡◌, ◌⊎◌, ℕ, ◌+◌, ◌≤◌, [], false, length, map, slice_get, take, Ok, Some, IfErr, IfSome, IsTrue, OnOk};
 ghost use Rattle.host_commands.specs.Shapes.{block_bytes};
-ghost use Rattle.usb_serve.specs.Files.{Asked, ComparedAt, IsSameFile, IsServed, ReadAt, Synced, WrittenAt, filed, span_of, unit_of, whole_span};
+ghost use Rattle.usb_serve.specs.Files.{AreSynced, Asked, ComparedAt, IsSameFile, IsServed, ReadAt, Synced, WrittenAt, filed, first_fault, span_of, unit_of, whole_span};
 
 use crate::fault::UsbFault;
 use file_disk::Blocks;
@@ -249,7 +249,8 @@ fn compared(found: &[u8], brought: &[u8]) -> Outcome
 pub(crate) fn sync_all<B: Blocks>(units: &mut [UnitFile<B>]) -> Result<(), UsbFault>
     ensures safe { OnOk result ((k : ℕ) → IfSome (slice_get units.new k) (λ unit.
         IsTrue (B.tells unit.file) → B.synced unit.file ≡ B.holds unit.file)) }
-    ensures first { IfErr result (λ reason. (number : ℕ) × (reason ≡ UsbFault.File number)) }
+    ensures synced { AreSynced result (map (filed B.tells B.can_fail B.holds B.synced B.is_spoiled) units.old)
+        (map (filed B.tells B.can_fail B.holds B.synced B.is_spoiled) units.new) }
     ensures len { length units.new ≡ length units.old }
 {
     let mut first = Ok(());
@@ -263,9 +264,8 @@ pub(crate) fn sync_all<B: Blocks>(units: &mut [UnitFile<B>]) -> Result<(), UsbFa
 
 /// The fault that was there, or that of this file.
 fn first_fault(first: Result<(), UsbFault>, number: usize, outcome: Outcome) -> Result<(), UsbFault>
+    ensures first { result ≡ first_fault first number outcome }
     ensures done { OnOk result ((first ≡ Ok tt) × (outcome ≡ Outcome.Done)) }
-    ensures fault { IfErr first (λ reason. (number : ℕ) × (reason ≡ UsbFault.File number))
-        → IfErr result (λ reason. (number : ℕ) × (reason ≡ UsbFault.File number)) }
 {
     match first {
         Err(fault) => Err(fault),

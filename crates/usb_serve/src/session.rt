@@ -54,14 +54,16 @@ pub fn run_usb<B: Blocks, S: Source, O: Output, F: Output>(
 ) -> u8
     ensures statuses { (result ≡ 0) ⊎ ((result ≡ 3) ⊎ (result ≡ 4)) }
     // What was read are the guest's hello and packets, and what was written is our hello, what the disk is, and what was sent of each packet.
-    ensures ended { result ≡ 0 → Ended (world usb.old (map (filed B.tells B.can_fail B.holds B.synced B.is_spoiled) units.old)) usb.new
+    ensures ended { result ≡ 0 → Ended (world usb.old (map (filed B.tells B.can_fail B.holds B.synced B.is_spoiled) units.old))
+        (world usb.new (map (filed B.tells B.can_fail B.holds B.synced B.is_spoiled) units.new))
         (S.left input.old) (S.left input.new) (O.written output.old) (O.written output.new) }
     // What the files hold in the end is safe.
     ensures safe { result ≡ 0 → ((k : ℕ) → IfSome (slice_get units.new k) (λ unit.
         IsTrue (B.tells unit.file) → B.synced unit.file ≡ B.holds unit.file)) }
     // A fault has its cause and its line: what was written is a beginning of that.
     ensures fails { result ≢ 0 → Fails result (S.can_fail input.old) (O.can_fail output.old) (F.can_fail faults.old)
-        (world usb.old (map (filed B.tells B.can_fail B.holds B.synced B.is_spoiled) units.old)) usb.new
+        (world usb.old (map (filed B.tells B.can_fail B.holds B.synced B.is_spoiled) units.old))
+        (world usb.new (map (filed B.tells B.can_fail B.holds B.synced B.is_spoiled) units.new))
         (S.left input.old) (S.left input.new) (O.written output.old) (O.written output.new)
         (F.written faults.old) (F.written faults.new) }
     ensures quiet { result ≡ 0 → F.written faults.new ≡ F.written faults.old }
@@ -79,12 +81,14 @@ fn serve<B: Blocks, S: Source, O: Output>(
     input: &mut S,
     output: &mut O,
 ) -> Result<(), UsbFault>
-    ensures ended { OnOk result (Ended (world usb.old (map (filed B.tells B.can_fail B.holds B.synced B.is_spoiled) units.old)) usb.new
+    ensures ended { OnOk result (Ended (world usb.old (map (filed B.tells B.can_fail B.holds B.synced B.is_spoiled) units.old))
+        (world usb.new (map (filed B.tells B.can_fail B.holds B.synced B.is_spoiled) units.new))
         (S.left input.old) (S.left input.new) (O.written output.old) (O.written output.new)) }
     ensures safe { OnOk result ((k : ℕ) → IfSome (slice_get units.new k) (λ unit.
         IsTrue (B.tells unit.file) → B.synced unit.file ≡ B.holds unit.file)) }
     ensures failed { IfErr result (λ reason. Failed reason (S.can_fail input.old) (O.can_fail output.old)
-        (world usb.old (map (filed B.tells B.can_fail B.holds B.synced B.is_spoiled) units.old)) usb.new
+        (world usb.old (map (filed B.tells B.can_fail B.holds B.synced B.is_spoiled) units.old))
+        (world usb.new (map (filed B.tells B.can_fail B.holds B.synced B.is_spoiled) units.new))
         (S.left input.old) (S.left input.new) (O.written output.old) (O.written output.new)) }
 {
     let Ok(mut rooms) = Rooms::new(alloc) else {

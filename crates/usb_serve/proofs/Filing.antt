@@ -3,7 +3,7 @@ use Rattle.std.proofs.Common.{◌≡◌, ◌∙◌, ℕ, Bool, true, false, zero
 use Rattle.std.specs.Prelude.{IfErr, IfSome, IsTrue, OnOk, slice_get, slice_set, ⊤}
 use Rattle.std.specs.Option.{option_map}
 use Rattle.std.proofs.lemmas.Bool.{false≢true}
-use Rattle.std.proofs.lemmas.List.{drop_more, drop-set-lt, length-append, length-map, length-set, map-set, take_all, take_more, take_more_set}
+use Rattle.std.proofs.lemmas.List.{drop_more, drop-set-lt, length-append, length-map, map-set, take_all, take_more, take_more_set}
 use Rattle.std.proofs.lemmas.Option.{get_or_from_slice_get, slice_get-map}
 use Rattle.uas_tasks.specs.declared.Outcome.{Outcome}
 use Rattle.uas_tasks.specs.declared.Outcome.TheVariants.{Done, MediumError}

@@ -1,4 +1,4 @@
-use Rattle.std.proofs.Common.{◌≡◌, ◌∙◌, get_or, length, length-set, map, refl, arith}
+use Rattle.std.proofs.Common.{◌≡◌, ◌∙◌, get_or, length-set, map, refl, arith}
 use Rattle.std.specs.Prelude.{IsTrue}
 use Rattle.std.proofs.lemmas.Option.{slice_get-get_or}
 use Rattle.usb_serve.specs.Files.{IsLeft, filed}

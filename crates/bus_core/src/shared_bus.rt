@@ -82,8 +82,8 @@ impl Bus {
         self.rings.due(step)
     }
 
-    /// The least tag above this one that is busy, which is that the device has a task of it; `None` where no tag above is. No
-    /// other tag's streams are due.
+    /// The least busy tag above this one: the device has a task of it. `None` where no tag above is busy. No other tag's streams
+    /// are due.
     #[inline(always)]
     pub fn next_busy(&self, tag: u16) -> Option<u16>
         ensures busy { IsNextBusy self.now tag result }

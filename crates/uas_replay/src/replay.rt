@@ -189,8 +189,8 @@ impl ScriptRun {
         self.bus.due(step)
     }
 
-    /// The least tag above this one that is busy, which is that the device has a task of it; `None` where no tag above is. No
-    /// other tag's streams are due.
+    /// The least busy tag above this one: the device has a task of it. `None` where no tag above is busy. No other tag's streams
+    /// are due.
     #[tactic(auto, unfolding(crate::specs::Walks::machine_of))]
     pub fn next_busy(&self, tag: u16) -> Option<u16>
         ensures busy { IsNextBusy self.now.telling.machine tag result }

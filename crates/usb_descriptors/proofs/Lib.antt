@@ -3,3 +3,4 @@ pub mod DeviceBytes
 pub mod Settings
 pub mod Joins
 pub mod FoundAgain
+pub mod Contexts

@@ -1,5 +1,5 @@
 -- The pipes of a setting (INCITS 471, pipe usage).
-use Rattle.std.specs.Prelude.{◌≢◌, ℕ, ◌==◌, ◌&&◌, ◌||◌, nat_le, Bool, if◌then◌else◌, List, [], ◌∷◌, length, slice_index, Option, None, Some, IfSome, is_some, Result, Ok, Err}
+use Rattle.std.specs.Prelude.{◌≢◌, ◌≤◌, ℕ, ◌==◌, ◌&&◌, ◌||◌, nat_le, Bool, if◌then◌else◌, List, [], ◌∷◌, length, slice_index, Option, None, Some, IfSome, is_some, Result, Ok, Err}
 use Rattle.std.specs.List.{find}
 use Rattle.uas_profile.specs.declared.Pipe.{Pipe}
 use Rattle.uas_profile.specs.declared.Pipe.TheVariants.{Command, Status, DataIn, DataOut}
@@ -9,7 +9,7 @@ use Rattle.usb_descriptors.specs.declared.gathering.Found.{Found}
 use Rattle.usb_descriptors.specs.declared.DescriptorFault.{DescriptorFault}
 use Rattle.usb_descriptors.specs.declared.DescriptorFault.TheVariants.{BadPipes}
 use Rattle.usb_descriptors.specs.Cutting.{kind_of}
-use Rattle.usb_descriptors.specs.Endpoints.{FitsEndpoint, endpoint_of}
+use Rattle.usb_descriptors.specs.Endpoints.{FitsEndpoint, context_index, endpoint_of}
 
 -- which descriptors these are; a usage has four bytes at least, and a shorter one of its type is none
 abbrev pub is_interface : List ℕ → Bool
@@ -130,3 +130,16 @@ pub record FitsPipes (pipes : Pipes) : Type 0 where
   pub data_out : FitsEndpoint DataOut pipes.data_out
   pub out_apart : pipes.command.address ≢ pipes.data_out.address
   pub in_apart : pipes.status.address ≢ pipes.data_in.address
+
+-- the endpoint contexts of the pipes: none is that of the slot (0) or of endpoint 0 (1), and no two are one
+pub record ContextsApart (pipes : Pipes) : Type 0 where
+  pub command : 2 ≤ context_index pipes.command
+  pub status : 2 ≤ context_index pipes.status
+  pub data_in : 2 ≤ context_index pipes.data_in
+  pub data_out : 2 ≤ context_index pipes.data_out
+  pub command_status : context_index pipes.command ≢ context_index pipes.status
+  pub command_data_in : context_index pipes.command ≢ context_index pipes.data_in
+  pub command_data_out : context_index pipes.command ≢ context_index pipes.data_out
+  pub status_data_in : context_index pipes.status ≢ context_index pipes.data_in
+  pub status_data_out : context_index pipes.status ≢ context_index pipes.data_out
+  pub data_in_data_out : context_index pipes.data_in ≢ context_index pipes.data_out

@@ -10,12 +10,12 @@ use Rattle.usb_descriptors.specs.declared.TheConstants.{MOST_TAGS}
 abbrev pub numbers_of : ℕ → ℕ
 numbers_of exponent = 2 ^ exponent - 1
 
--- The least of what is asked, of what the three pipes with streams have, and of what the controller has: its arrays have at most
--- 2^(MaxPSASize + 1) contexts. Checked by hand: 254 asked, MaxStreams 4 of each pipe and MaxPSASize 7 are 15 tags; MaxPSASize 0 is 1 tag.
+-- The least of what is asked, of what the controller has, whose arrays have at most 2^(MaxPSASize + 1) contexts, and of what each of the three
+-- pipes with streams has. Checked by hand: 254 asked, MaxStreams 4 of each pipe and MaxPSASize 7 are 15 tags; MaxPSASize 0 is 1 tag.
 abbrev pub tags_of : ℕ → Pipes → ℕ → ℕ
 tags_of asked pipes max_psa_size =
-    min (min (min asked MOST_TAGS) (numbers_of (max_psa_size + 1)))
-    (min (numbers_of pipes.status.max_streams) (min (numbers_of pipes.data_in.max_streams) (numbers_of pipes.data_out.max_streams)))
+    min (min (min (min (min asked MOST_TAGS) (numbers_of (max_psa_size + 1))) (numbers_of pipes.status.max_streams)) (numbers_of pipes.data_in.max_streams))
+    (numbers_of pipes.data_out.max_streams)
 
 -- MaxPStreams for so many tags: an array of 2^(MaxPStreams + 1) contexts, at least 4, is the smallest that has more contexts than there are tags
 abbrev pub field_of : ℕ → ℕ

@@ -3,7 +3,8 @@ ghost use Rattle.std.specs.Prelude.{◌≡◌, ℕ, true, List, Ok};
 ghost use Rattle.usb_descriptors.specs.declared.UasFunction.{UasFunction};
 ghost use Rattle.usb_descriptors.specs.Cutting.{EachDescriptor, descriptors, is_cut, joined};
 ghost use Rattle.usb_descriptors.specs.Function.{uas_in};
-ghost use Rattle.usb_descriptors.specs.Pipes.{FitsPipes};
+ghost use Rattle.usb_descriptors.specs.Pipes.{ContextsApart, FitsPipes};
+ghost use Rattle.usb_descriptors.specs.declared.Pipes.{Pipes};
 ghost use Rattle.usb_descriptors.specs.Rows.{RowBridge, RowBulkOnly, RowEmulated, RowNoCompanion, RowOne, RowOtherSize, RowShort};
 ghost use Rattle.usb_descriptors.specs.Texts.{function_text};
 
@@ -20,6 +21,11 @@ pub fn joined_descriptors_are_cut()
 /// Law: a function is found in the bytes that tell it.
 pub fn functions_are_found()
     ensures { (function : UasFunction) → FitsPipes function.pipes → uas_in (function_text function) ≡ Ok function }
+{}
+
+/// Law: the pipes have four endpoint contexts, none of which is that of the slot or of endpoint 0.
+pub fn contexts_are_apart()
+    ensures { (pipes : Pipes) → FitsPipes pipes → ContextsApart pipes }
 {}
 
 /// Law: what these configurations are read as: of an emulated disk, whole and without its last byte; of a bridge, with its UAS setting and

@@ -20,7 +20,8 @@
 //!
 //! What is promised: each call's answer is the definition of its name (`specs/`). Bytes that are cut are the descriptors joined, and joined
 //! descriptors are cut into those again ([`cut_bytes_join`], [`joined_descriptors_are_cut`]); each function that fits is found in the bytes that
-//! tell it ([`functions_are_found`]). No call takes memory. It stands on the pipes of `uas_profile`, and on `thiserror`.
+//! tell it ([`functions_are_found`]); the four pipes have endpoint contexts of their own ([`contexts_are_apart`]). No call takes memory. It
+//! stands on the pipes of `uas_profile`, and on `thiserror`.
 #![tactic(auto)]
 
 mod cutting;
@@ -33,7 +34,10 @@ mod totals;
 
 pub use device::{DeviceDescriptor, read_device};
 pub use function::find_uas;
-pub use laws::{cut_bytes_join, functions_are_found, joined_descriptors_are_cut, rows_are_read};
+pub use laws::{
+    contexts_are_apart, cut_bytes_join, functions_are_found, joined_descriptors_are_cut,
+    rows_are_read,
+};
 pub use stream_tags::{Streams, streams_of};
 use thiserror::Error;
 pub use totals::{read_bos_total, read_configuration_total};

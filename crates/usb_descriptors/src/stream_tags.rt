@@ -38,24 +38,23 @@ fn tags_of(asked: u8, pipes: &Pipes, max_psa_size: u8) -> u8
     ensures value { result ≡ tags_of asked pipes.now max_psa_size }
     ensures most { result ≤ MOST_TAGS }
 {
-    let status = numbers_of(pipes.status.max_streams);
-    let data_in = numbers_of(pipes.data_in.max_streams);
-    let data_out = numbers_of(pipes.data_out.max_streams);
-    let controller = numbers_of(max_psa_size.saturating_add(1));
-    asked
-        .min(MOST_TAGS)
-        .min(controller)
-        .min(status.min(data_in.min(data_out)))
+    let tags = asked.min(MOST_TAGS);
+    let tags = with_numbers(tags, u16::from(max_psa_size) + 1);
+    let tags = with_numbers(tags, u16::from(pipes.status.max_streams));
+    let tags = with_numbers(tags, u16::from(pipes.data_in.max_streams));
+    with_numbers(tags, u16::from(pipes.data_out.max_streams))
 }
 
-/// The stream numbers of 2 to a power contexts, or 255 where there are more: more tags aren't asked for.
-fn numbers_of(exponent: u8) -> u8
-    ensures { result ≡ min 255 (numbers_of exponent) }
+/// No more tags than 2 to a power contexts have stream numbers.
+fn with_numbers(tags: u8, exponent: u16) -> u8
+    requires { tags ≤ MOST_TAGS }
+    ensures value { result ≡ min tags (numbers_of exponent) }
+    ensures most { result ≤ MOST_TAGS }
 {
     if exponent < 8 {
-        (1 << exponent) - 1
+        tags.min((1 << exponent) - 1)
     } else {
-        255
+        tags
     }
 }
 

@@ -1,0 +1,5 @@
+pub mod Sizes
+pub mod Shapes
+pub mod Places
+pub mod Rings
+pub mod Cutting

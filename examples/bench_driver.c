@@ -394,6 +394,18 @@ static void bad_blocks(uint32_t chunk)
     do_command(7, read_write(true, 7 * ZONE, 2 * chunk).bytes, DATA_OUT, 0);
 }
 
+/* An error of the host's memory halts the controller until it is cleared (5.4.2). */
+static void halted(void)
+{
+    SAME(get(USBSTS) & 5, 5);
+    SAME(get(USBCMD) & 1, 0);
+    set(USBCMD, 5);
+    SAME(get(USBCMD) & 1, 0);
+    set(USBSTS, 4);
+    set(USBCMD, 5);
+    SAME(get(USBSTS) & 5, 0);
+}
+
 /* A TRB whose buffer isn't in the memory; doorbells of streams that aren't there. */
 static void wrong_trbs(void)
 {
@@ -415,6 +427,45 @@ static void wrong_trbs(void)
     put_td(DATA_IN, 9, &one, 1, 512, 0);
     do_command(9, read_write(false, 9 * ZONE, 1).bytes, DATA_IN, 0);
     gather(&one, 1, 9 * ZONE, 512);
+}
+
+/* An endpoint's context that isn't there is found before an event is posted (4.10.2.6): the controller halts, and the step is taken once it is. */
+static void no_context(void)
+{
+    const uint64_t before = contexts - BASE, behind = before + 1024;
+    const struct uas_region cut[5] = {
+        { BASE, rings, before }, { BASE + behind, rings + behind, RING_BYTES - behind }, regions[0], regions[2], regions[3],
+    };
+    static uint8_t events[16 * EVENTS];
+    uint32_t steps;
+    bool more;
+    memcpy(events, at(event_ring), sizeof events);
+    ring_doorbell(DATA_IN, TAGS + 1);
+    SAME(uas_xhci_work(xhci, cut, 5, 9, &steps, &more), UAS_OK);
+    SAME(steps, 0);
+    MUST(memcmp(events, at(event_ring), sizeof events) == 0);
+    SAME(endpoint_state(DATA_IN), RUNNING);
+    halted();
+    expect(DATA_IN, 0, 0, INVALID_STREAM, 0, false);
+    finish();
+    SAME(endpoint_state(DATA_IN), HALTED);
+    command(RESET_ENDPOINT, 0, 0, SLOT_1 | DATA_IN << 16, SUCCESS);
+}
+
+/* While the port is suspended (U3) no endpoint has a step, and doorbells wait (4.15.1); the command ring goes on. */
+static void suspended(void)
+{
+    set(PORTSC2, 0x10260);
+    SAME(get(PORTSC2), 0x1263);
+    begin_command(9, test_unit_ready, 0, 0);
+    command(NO_OP_COMMAND, 0, 0, 0, SUCCESS);
+    SAME(expected[STATUS_PIPE][9].count, 1);
+    set(PORTSC2, 0x10200);
+    expect(PORTS, 0, 2 << 24, SUCCESS, 0, false);
+    finish();
+    check_status(9, 0);
+    SAME(get(PORTSC2), 0x401203); /* PLC */
+    set(PORTSC2, 0x400200);
 }
 
 /* ---- Commands on all tags at once ---- */
@@ -592,16 +643,50 @@ static void disable_port(void)
     }
 }
 
-/* An error of the host's memory halts the controller until it is cleared (5.4.2). */
-static void halted(void)
+/* An endpoint with MaxPStreams 0 (4.12.2) has one ring, whose end is in its context (6.2.3); a doorbell's stream isn't looked at (5.6). The disk serves
+ * none such: a No Op is taken, and a TD stalls at its TRB, with its whole length, where the ring stays. */
+static void no_streams(int endpoint)
 {
-    SAME(get(USBSTS) & 5, 5);
-    SAME(get(USBCMD) & 1, 0);
-    set(USBCMD, 5);
-    SAME(get(USBCMD) & 1, 0);
-    set(USBSTS, 4);
-    set(USBCMD, 5);
-    SAME(get(USBSTS) & 5, 0);
+    uint32_t bit = 1u << endpoint, target = SLOT_1 | (uint32_t)endpoint << 16;
+    uint64_t context = input + 32 + 32 * (uint64_t)endpoint, dequeue = contexts + 32 * (uint64_t)endpoint + 8;
+    struct ring ring = new_ring(32);
+    input_context(bit | 1, 5);
+    store(input, 4, bit);
+    store(context + 4, 4, 1024u << 16 | 15 << 8 | (endpoint % 2 ? 6 : 2) << 3 | 3 << 1);
+    store(context + 8, 8, ring.segments[0] | 1);
+    store(context + 16, 4, 0x8000);
+    command(CONFIGURE, input, 0, SLOT_1, SUCCESS);
+    SAME(endpoint_state(endpoint), RUNNING);
+    expect(endpoint, 0, put(&ring, 0, 0, NO_OP | IOC), SUCCESS, 0, false);
+    uint64_t here = put(&ring, area(1), 1000, NORMAL | IOC);
+    for (int i = 0; i < 2; i++) {
+        expect(endpoint, 0, here, STALL, 1000, false);
+        ring_doorbell(endpoint, 9 * i);
+        finish();
+        SAME(endpoint_state(endpoint), HALTED);
+        SAME(load(dequeue, 8), here | 1);
+        command(RESET_ENDPOINT, 0, 0, target, SUCCESS);
+    }
+    command(SET_DEQUEUE, next_place(&ring) | ring.cycle, 0, target, SUCCESS);
+    SAME(load(dequeue, 8), next_place(&ring) | ring.cycle);
+    ring_doorbell(endpoint, 3);
+    finish();
+    SAME(endpoint_state(endpoint), RUNNING);
+    /* a TD that a No Op began, and whose rest isn't there yet */
+    expect(endpoint, 0, put(&ring, 0, 0, NO_OP | IOC | CH), SUCCESS, 0, false);
+    ring_doorbell(endpoint, 3);
+    finish();
+    stop(endpoint);
+    SAME(stops, 1);
+    SAME(stopped.code, STOPPED + 1); /* Stopped - Length Invalid */
+    SAME(stopped.pointer, next_place(&ring));
+    /* bytes that are no TRB of a pipe; Set TR Dequeue Pointer brings the endpoint from Error to Stopped */
+    expect(endpoint, 0, put(&ring, 0, 0, SETUP), TRB_ERROR, 0, false);
+    ring_doorbell(endpoint, 0);
+    finish();
+    SAME(endpoint_state(endpoint), 4);
+    command(SET_DEQUEUE, next_place(&ring) | ring.cycle, 0, target, SUCCESS);
+    SAME(endpoint_state(endpoint), STOPPED_STATE);
 }
 
 /* The command ring goes on where no memory is: the controller halts, and its reset makes it whole. */
@@ -662,7 +747,9 @@ int main(int words, char **word)
         printf("  No Ops, Stop Endpoint in a TRB, Set TR Dequeue Pointer\n");
         bad_blocks(chunks[i]);
         wrong_trbs();
-        printf("  bad blocks, buffers and streams that aren't there\n");
+        no_context();
+        suspended();
+        printf("  bad blocks; buffers, streams and contexts that aren't there; a suspended port\n");
         random_commands(rounds);
         printf("  %u commands at random on %d tags\n", rounds, TAGS);
         port_reset();
@@ -670,10 +757,12 @@ int main(int words, char **word)
         unplug();
         abort_commands();
         disable_port();
+        for (int endpoint = STATUS_PIPE; endpoint <= DATA_IN; endpoint++)
+            no_streams(endpoint);
         no_memory();
         wrong_settings();
         set_up();
-        printf("  a reset of the port, unplugged, halted for want of memory, set up again\n");
+        printf("  a reset of the port, unplugged, endpoints without streams, halted for want of memory, set up again\n");
         uas_xhci_free(xhci);
     }
     printf("%lu events as they were to be, %lu steps\n", events_seen, steps_taken);

@@ -1,5 +1,5 @@
--- What commands of the command ring make of a pipe and of memory, and a doorbell of a stream that isn't there.
-use Rattle.std.specs.Prelude.{ℕ, Bool, true, false, not, if◌then◌else◌, Option, Some, None}
+-- What commands of the command ring make of a pipe and of memory, and a doorbell of a stream that isn't there, or of a pipe without streams.
+use Rattle.std.specs.Prelude.{ℕ, ◌==◌, Bool, true, false, not, if◌then◌else◌, Option, Some, None, option_map}
 use Rattle.guest_memory.specs.Bytes.{Memory, written}
 use Rattle.guest_rings.specs.declared.cursor.Cursor.{Cursor}
 use Rattle.guest_rings.specs.Ends.{home_at, home_bytes}
@@ -9,7 +9,8 @@ use Rattle.guest_pipes.specs.declared.acted.Acted.TheVariants.{Off, Idle, Worked
 use Rattle.guest_pipes.specs.declared.consumer.Consumer.{Consumer}
 use Rattle.guest_pipes.specs.Step.{World, has_home, refused}
 use Rattle.guest_pipes.specs.Gate.{is_running, room_gate, stop_looked, through}
-use Rattle.guest_pipes.specs.Pipe.{PipeState, forgotten, home_of, loaded}
+use Rattle.guest_pipes.specs.Pipe.{PipeState, forgotten, home_of, loaded, ring_home, stored}
+use Rattle.guest_pipes.specs.Unserved.{unserved_stepped}
 
 -- Set TR Dequeue Pointer: the stream's context has the pointer, DCS and SCT, and what was moved is forgotten; None where the context
 -- isn't there
@@ -43,3 +44,14 @@ invalid_stepped w =
     if not (is_running w.pipe.state) then Some (w, Off)
     else if not w.pipe.invalid then Some (w, Idle)
     else through w (room_gate w.memory w.events) (Some (invalid_told w, Worked))
+
+-- a pipe without streams, whose one ring nothing can serve: its TDs are told with this code
+abbrev pub lone_done : PipeWorld → World × Acted → PipeWorld × Acted
+lone_done w done = (record { memory = done.0.memory; events = done.0.events; pipe = stored w.pipe 0 done.0.consumer }, done.1)
+
+abbrev pub lone_stepped : ℕ → PipeWorld → Option (PipeWorld × Acted)
+lone_stepped code w = option_map (lone_done w) (unserved_stepped (pipe_ring w 0) (ring_home w.pipe 0) code)
+
+-- a doorbell that no stream's turn serves
+abbrev pub stray_stepped : ℕ → PipeWorld → Option (PipeWorld × Acted)
+stray_stepped code w = if w.pipe.streams == 0 then lone_stepped code w else invalid_stepped w

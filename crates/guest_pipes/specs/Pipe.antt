@@ -1,15 +1,16 @@
--- A pipe of streams: its endpoint, its array of stream contexts, and what is kept of each stream's ring.
+-- A pipe of streams: its endpoint, its array of stream contexts, and what is kept of each stream's ring. Without streams it has one ring, whose
+-- end is in the endpoint context (xHCI 1.2, 4.12.2 and 6.2.3).
 use Rattle.std.specs.Prelude.{ℕ, ◌+◌, ◌*◌, ◌==◌, nat_le, nat_lt, Bool, true, false, ◌&&◌, if◌then◌else◌, List, replicate, get_or, set}
 use Rattle.guest_rings.specs.declared.context.Home.{Home}
-use Rattle.guest_rings.specs.declared.context.Home.TheVariants.{Stream}
+use Rattle.guest_rings.specs.declared.context.Home.TheVariants.{Stream, Endpoint}
 use Rattle.guest_pipes.specs.declared.progress.Progress.{Progress}
 use Rattle.guest_pipes.specs.declared.consumer.EndpointState.{EndpointState}
 use Rattle.guest_pipes.specs.declared.consumer.EndpointState.TheVariants.{Disabled, Running, Halted, Stopped, Error}
 use Rattle.guest_pipes.specs.declared.consumer.Consumer.{Consumer}
 use Rattle.guest_pipes.specs.Progress.{fresh}
 
--- streams is how many contexts the array has, 0 where the endpoint has no streams; invalid where a doorbell rang for a stream
--- that isn't there
+-- streams is how many contexts the array has, 0 where the endpoint has no streams, and then array is where the dequeue pointer of its one ring
+-- is, and what is kept of that stands in place 0; invalid where a doorbell rang for a stream that isn't there
 pub record PipeState : Type 0 where
   pub endpoint : ℕ
   pub state : EndpointState
@@ -49,6 +50,10 @@ rung_on p stream = get_or p.rung stream false
 abbrev pub progress_on : PipeState → ℕ → Progress
 progress_on p stream = get_or p.progress stream fresh
 
+-- where the consumer's end of a ring is kept, of a pipe with streams or without
+abbrev pub ring_home : PipeState → ℕ → Home
+ring_home p stream = if p.streams == 0 then Endpoint p.array else home_of p stream
+
 -- the consumer of a stream's ring
 abbrev pub loaded : PipeState → ℕ → Consumer
 loaded p stream = record { endpoint = p.endpoint; state = p.state; rung = rung_on p stream; progress = progress_on p stream }
@@ -61,12 +66,17 @@ stored p stream consumer = record p {
   progress = set p.progress stream consumer.progress;
 }
 
--- a doorbell of an endpoint that runs: one of a stream that isn't there is noted as such; without streams nothing is
+-- a doorbell of an endpoint that runs: one of a stream that isn't there is noted as such; without streams the doorbell's stream isn't looked
+-- at (5.6)
 abbrev pub noted : PipeState → ℕ → PipeState
 noted p stream =
-    if p.streams == 0 then p
+    if p.streams == 0 then record p { rung = set p.rung 0 true }
     else if has_stream p stream then record p { rung = set p.rung stream true }
     else record p { invalid = true }
+
+-- whether a doorbell rang that no stream's turn serves: of a stream that isn't there, or of a pipe without streams
+abbrev pub has_stray : PipeState → Bool
+has_stray p = if p.streams == 0 then rung_on p 0 else p.invalid
 
 -- a doorbell: of an endpoint that is stopped it starts it, else it does nothing unless that runs
 abbrev pub rung_by : EndpointState → PipeState → ℕ → PipeState

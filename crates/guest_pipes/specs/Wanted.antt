@@ -1,8 +1,9 @@
 -- The first range of memory that a step at a ring's end lacks: the event's place, then where the ring's end is kept and the TRB there,
 -- then what the step moves of the TRB's buffer.
-use Rattle.std.specs.Prelude.{ℕ, ◌+◌, ◌*◌, ◌^◌, nat_lt, if◌then◌else◌, Option, Some, None}
+use Rattle.std.specs.Prelude.{ℕ, ◌+◌, ◌*◌, ◌^◌, ◌==◌, nat_lt, if◌then◌else◌, Option, Some, None}
 use Rattle.guest_memory.specs.Bytes.{Memory}
 use Rattle.guest_rings.specs.declared.context.Front.{Front}
+use Rattle.guest_rings.specs.declared.context.Home.TheVariants.{Endpoint}
 use Rattle.guest_rings.specs.declared.wanting.Range.{Range}
 use Rattle.guest_rings.specs.Ends.{looked}
 use Rattle.guest_rings.specs.Events.{EventEnd, enqueue_pointer}
@@ -21,6 +22,10 @@ abbrev pub front_wanted : Memory → PipeState → ℕ → Option Range
 front_wanted memory p stream =
     if nat_lt (p.array + 16 * stream) (2 ^ 64) then look_wanted memory (home_of p stream)
     else Some (record { at = p.array; count = 16 * stream + 16 })
+
+-- of a pipe with streams or without
+abbrev pub ring_wanted : Memory → PipeState → ℕ → Option Range
+ring_wanted memory p stream = if p.streams == 0 then look_wanted memory (Endpoint p.array) else front_wanted memory p stream
 
 -- by what was found at the end: the part of its buffer that moves
 abbrev pub wanted_of : Option Front → Option Range → (Front → Option Range) → Option Range

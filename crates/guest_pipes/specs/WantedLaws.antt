@@ -1,11 +1,12 @@
 -- A step that lacks nothing isn't refused, and what a step lacks isn't there.
-use Rattle.std.proofs.Common.{◌≡◌, ℕ, ◌+◌, ◌*◌, ◌^◌, nat_lt, Bool, true, false, Option, Some, None, refl, sym, ap, arith}
+use Rattle.std.proofs.Common.{◌≡◌, ℕ, ◌+◌, ◌*◌, ◌^◌, ◌==◌, nat_lt, Bool, true, false, Option, Some, None, refl, sym, ap, arith}
 use Rattle.std.proofs.lemmas.Bool.{false≢true, ltb-false}
 use Rattle.std.proofs.lemmas.Option.{none-some}
 use Rattle.std.specs.Prelude.{is_some, option_map, if◌then◌else◌, not}
 use Rattle.guest_memory.specs.Bytes.{Memory, IsWithinAddresses}
 use Rattle.guest_memory.specs.Ranges.{lacks}
 use Rattle.guest_rings.specs.declared.context.Front.{Front}
+use Rattle.guest_rings.specs.declared.context.Home.TheVariants.{Endpoint}
 use Rattle.guest_rings.specs.declared.wanting.Range.{Range}
 use Rattle.guest_rings.specs.Ends.{looked}
 use Rattle.guest_rings.specs.Events.{EventEnd, has_room}
@@ -15,9 +16,9 @@ use Rattle.guest_pipes.specs.declared.acted.Acted.{Acted}
 use Rattle.guest_pipes.specs.declared.acted.Acted.TheVariants.{Full, Idle, Off}
 use Rattle.guest_pipes.specs.declared.consumer.Consumer.{Consumer}
 use Rattle.guest_pipes.specs.Gate.{gate, is_running, room_gate, through}
-use Rattle.guest_pipes.specs.Pipe.{PipeState, home_of}
+use Rattle.guest_pipes.specs.Pipe.{PipeState, home_of, ring_home}
 use Rattle.guest_pipes.specs.Step.{World, has_place}
-use Rattle.guest_pipes.specs.Wanted.{front_wanted, step_wanted, wanted_of, wanted_through}
+use Rattle.guest_pipes.specs.Wanted.{front_wanted, ring_wanted, step_wanted, wanted_of, wanted_through}
 
 -- where nothing is missing of a stream's context and TRB, they are found
 pub front_there : (memory : Memory) (p : PipeState) (stream : ℕ) → front_wanted memory p stream ≡ None → is_some (looked memory (home_of p stream)) ≡ true
@@ -37,6 +38,15 @@ front_lacks memory p stream ends = by_end (nat_lt (p.array + 16 * stream) (2 ^ 6
     by_end false is =
         let past = ltb-false (p.array + 16 * stream) (2 ^ 64) is in
         (omega arith, ap is_some (lacks memory p.array (16 * stream + 16) (16 * stream) (omega arith) (ends (p.array + 16 * stream) past)))
+
+-- the same of a pipe with streams or without
+pub ring_there : (memory : Memory) (p : PipeState) (stream : ℕ) → ring_wanted memory p stream ≡ None → is_some (looked memory (ring_home p stream)) ≡ true
+ring_there memory p stream none = by_kind (p.streams == 0) none
+  where
+    by_kind : (alone : Bool) → (if alone then look_wanted memory (Endpoint p.array) else front_wanted memory p stream) ≡ None
+        → is_some (looked memory (if alone then Endpoint p.array else home_of p stream)) ≡ true
+    by_kind true none = look_there memory (Endpoint p.array) none
+    by_kind false none = front_there memory p stream none
 
 -- the gate is shut for want of memory only where the event's place isn't there
 pub gate_lacks : (memory : Memory) (events : EventEnd) (consumer : Consumer) → gate memory events consumer ≡ None → has_place memory events ≡ false

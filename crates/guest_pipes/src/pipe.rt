@@ -1,11 +1,11 @@
 //! A pipe of streams: its doorbells, and what the commands of the command ring make of it.
-ghost use Rattle.std.specs.Prelude.{◌≡◌, ◌+◌, ◌*◌, ◌<◌, ◌≤◌, ◌^◌, IfOk, IfSome, ℕ, Some, None, true, false, get_or, replicate, vec_len, is_ok};
+ghost use Rattle.std.specs.Prelude.{◌≡◌, ◌==◌, ◌+◌, ◌*◌, ◌<◌, ◌≤◌, ◌^◌, IfOk, IfSome, ℕ, Some, None, true, false, get_or, replicate, vec_len, is_ok};
 ghost use Rattle.guest_pipes.specs.Progress.{fresh};
 ghost use Rattle.std.specs.Result.{result_ok};
 ghost use Rattle.guest_rings.specs.Ends.{looked};
 ghost use Rattle.guest_pipes.specs.Step.{has_home};
-ghost use Rattle.guest_pipes.specs.Wanted.{front_wanted};
-ghost use Rattle.guest_pipes.specs.Pipe.{configured, disabled, forgotten, has_stream, home_of, loaded, noted, progress_on, recovered, reset_with, rung_by, stopped, stored};
+ghost use Rattle.guest_pipes.specs.Wanted.{front_wanted, ring_wanted};
+ghost use Rattle.guest_pipes.specs.Pipe.{configured, disabled, forgotten, has_stray, has_stream, home_of, loaded, noted, progress_on, recovered, reset_with, ring_home, rung_by, stopped, stored};
 
 use crate::consumer::{Consumer, EndpointState};
 use crate::progress::Progress;
@@ -129,6 +129,24 @@ impl Pipe {
         1 <= stream && stream < self.streams
     }
 
+    /// Whether it has no streams, but one ring.
+    pub fn is_alone(&self) -> bool
+        ensures { result ≡ (self.now.streams == 0) }
+    {
+        self.streams == 0
+    }
+
+    /// Whether a doorbell rang that no stream's turn serves: of a stream that isn't there, or of a pipe without streams.
+    pub fn has_stray(&self) -> bool
+        ensures { result ≡ has_stray self.now }
+    {
+        if self.streams == 0 {
+            self.rung[0]
+        } else {
+            self.invalid
+        }
+    }
+
     /// Disables it (Configure Endpoint drops it).
     pub fn disable(&mut self)
         ensures { self.new ≡ disabled self.old.endpoint }
@@ -141,7 +159,8 @@ impl Pipe {
         self.progress.fill(Progress::fresh());
     }
 
-    /// Starts it with an array of so many contexts, or without streams where that is 0 (Configure Endpoint adds it).
+    /// Starts it with an array of so many contexts (Configure Endpoint adds it). Where that is 0 it has no streams but one ring, and `array` is
+    /// the address of that ring's dequeue pointer in the endpoint context.
     pub fn configure(&mut self, array: u64, streams: u16)
         requires { streams ≤ 256 }
         ensures { self.new ≡ configured self.old array streams }
@@ -156,17 +175,16 @@ impl Pipe {
         ensures { self.new ≡ noted self.old stream }
     {
         if self.streams == 0 {
-            return;
-        }
-        if self.has_stream(stream) {
+            self.rung[0] = true;
+        } else if self.has_stream(stream) {
             self.rung[usize::from(stream)] = true;
         } else {
             self.invalid = true;
         }
     }
 
-    /// A doorbell with a stream (4.7). It starts an endpoint that is stopped; of one that is disabled, halted or in error it does
-    /// nothing.
+    /// A doorbell with a stream (4.7), which a pipe without streams doesn't look at (5.6). It starts an endpoint that is stopped; of one that
+    /// is disabled, halted or in error it does nothing.
     pub fn ring_doorbell(&mut self, stream: u16)
         ensures { self.new ≡ rung_by self.old.state self.old stream }
     {
@@ -199,7 +217,7 @@ impl Pipe {
         }
     }
 
-    /// Forgets what was moved of a stream's ring (Set TR Dequeue Pointer).
+    /// Forgets what was moved of a stream's ring, or of the one ring, which is that of stream 0 (Set TR Dequeue Pointer).
     pub fn forget(&mut self, stream: u16)
         requires { stream < 256 }
         ensures { self.new ≡ forgotten self.old stream }
@@ -255,6 +273,40 @@ impl Pipe {
                 count: 16 * usize::from(stream) + 16,
             }),
         }
+    }
+
+    /// The end of a ring of a pipe with streams or without, and what stands there. Refused where a byte of either isn't there.
+    pub(crate) fn ring_front<M: GuestMemory>(
+        &self,
+        memory: &M,
+        stream: u16,
+    ) -> Result<Front, Outside>
+        ensures { result_ok result ≡ looked (M.contents memory.now) (ring_home self.now stream) }
+    {
+        if self.is_alone() {
+            look(memory, Home::Endpoint { at: self.array })
+        } else {
+            self.front(memory, stream)
+        }
+    }
+
+    /// The first range that [`Pipe::tell_stopped`] reads of which a byte isn't there.
+    pub fn ring_wants<M: GuestMemory>(&self, memory: &M, stream: u16) -> Option<Range>
+        ensures { result ≡ ring_wanted (M.contents memory.now) self.now stream }
+    {
+        if self.is_alone() {
+            look_wants(memory, Home::Endpoint { at: self.array })
+        } else {
+            self.front_wants(memory, stream)
+        }
+    }
+
+    /// The address of the one ring's dequeue pointer.
+    pub(crate) fn lone_home(&self) -> Home
+        requires { self.now.streams ≡ 0 }
+        ensures { result ≡ ring_home self.now 0 }
+    {
+        Home::Endpoint { at: self.array }
     }
 
     /// Where a stream's consumer's end is kept. Refused where a byte of that isn't there.

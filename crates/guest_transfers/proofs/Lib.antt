@@ -9,4 +9,4 @@ pub mod BesideOut
 pub mod BesideCommand
 pub mod BesideSteps
 pub mod DataSteps
-pub mod Invalid
+pub mod Stray

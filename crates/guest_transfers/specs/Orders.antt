@@ -9,8 +9,8 @@ use Rattle.guest_pipes.specs.declared.consumer.EndpointState.{EndpointState}
 use Rattle.guest_pipes.specs.declared.consumer.EndpointState.TheVariants.{Disabled, Running, Stopped}
 use Rattle.guest_pipes.specs.Progress.{fresh, runs}
 use Rattle.guest_pipes.specs.Gate.{after, room_gate, through}
-use Rattle.guest_pipes.specs.Orders.{PipeWorld, dequeue_set, invalid_stepped}
-use Rattle.guest_pipes.specs.Pipe.{PipeState, configured, progress_on, reset_with}
+use Rattle.guest_pipes.specs.Orders.{PipeWorld, dequeue_set, stray_stepped}
+use Rattle.guest_pipes.specs.Pipe.{PipeState, configured, forgotten, progress_on, reset_with}
 use Rattle.guest_tags.specs.declared.device.Phase.{Phase}
 use Rattle.guest_tags.specs.declared.device.Phase.TheVariants.{Absent, Gives, Takes, Ended}
 use Rattle.guest_tags.specs.Devices.{Kind}
@@ -88,6 +88,10 @@ abbrev pub dequeue_moved : Memory → TransfersState → StreamPipe → ℕ → 
 dequeue_moved memory t name stream cursor kind =
     option_map (dequeue_kept t name stream) (dequeue_set memory (pipe_of t name) stream cursor kind)
 
+-- the same of the one ring of a pipe without streams, which is that of stream 0
+abbrev pub lone_forgotten : TransfersState → StreamPipe → TransfersState
+lone_forgotten t name = with_pipe t name (forgotten (pipe_of t name) 0)
+
 -- after a device reset nothing is kept of a tag
 abbrev pub emptied : Slot → Slot
 emptied slot = empty_slot
@@ -95,16 +99,17 @@ emptied slot = empty_slot
 abbrev pub tags_cleared : TransfersState → TransfersState
 tags_cleared t = record t { tags = map emptied t.tags }
 
--- memory, event ring and pipes after a step for a doorbell of a pipe's stream that isn't there
+-- memory, event ring and pipes after a step for a doorbell of a pipe that no stream's turn serves; TDs of a pipe without streams are told with
+-- this code
 abbrev pub pipe_world : Memory → EventEnd → TransfersState → StreamPipe → PipeWorld
 pipe_world memory events t name = record { memory = memory; events = events; pipe = pipe_of t name }
 
-abbrev pub invalid_noted : TransfersState → StreamPipe → PipeWorld × Option Acted → Memory × (EventEnd × (TransfersState × Option Acted))
-invalid_noted t name after = (after.0.memory, (after.0.events, (with_pipe t name after.0.pipe, after.1)))
+abbrev pub stray_noted : TransfersState → StreamPipe → PipeWorld × Option Acted → Memory × (EventEnd × (TransfersState × Option Acted))
+stray_noted t name after = (after.0.memory, (after.0.events, (with_pipe t name after.0.pipe, after.1)))
 
-abbrev pub invalid_on : Memory → EventEnd → TransfersState → StreamPipe → Memory × (EventEnd × (TransfersState × Option Acted))
-invalid_on memory events t name =
-    invalid_noted t name (after (pipe_world memory events t name) (invalid_stepped (pipe_world memory events t name)))
+abbrev pub stray_on : ℕ → Memory → EventEnd → TransfersState → StreamPipe → Memory × (EventEnd × (TransfersState × Option Acted))
+stray_on code memory events t name =
+    stray_noted t name (after (pipe_world memory events t name) (stray_stepped code (pipe_world memory events t name)))
 
 -- whether the device has a task of a tag
 abbrev pub has_task : Phase → Bool

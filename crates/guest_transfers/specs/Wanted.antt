@@ -1,5 +1,5 @@
 -- The first range of memory that a step lacks.
-use Rattle.std.specs.Prelude.{ℕ, nat_lt, Bool, true, false, not, ◌&&◌, if◌then◌else◌, length as list_length, Option, Some, None}
+use Rattle.std.specs.Prelude.{ℕ, ◌==◌, nat_lt, Bool, true, false, not, ◌&&◌, if◌then◌else◌, length as list_length, Option, Some, None}
 use Rattle.guest_memory.specs.Bytes.{Memory}
 use Rattle.guest_rings.specs.Events.{EventEnd}
 use Rattle.guest_rings.specs.declared.context.Front.{Front}
@@ -8,8 +8,9 @@ use Rattle.guest_rings.specs.declared.wanting.Range.{Range}
 use Rattle.guest_pipes.specs.declared.acted.Acted.{Acted}
 use Rattle.guest_pipes.specs.declared.acted.Acted.TheVariants.{Off, Idle, Full, Emptied, Waits, Worked}
 use Rattle.guest_pipes.specs.declared.consumer.Consumer.{Consumer}
-use Rattle.guest_pipes.specs.Gate.{is_running, room_gate}
-use Rattle.guest_pipes.specs.Pipe.{PipeState}
+use Rattle.guest_rings.specs.Wanted.{look_wanted}
+use Rattle.guest_pipes.specs.Gate.{gate, is_running, room_gate}
+use Rattle.guest_pipes.specs.Pipe.{PipeState, loaded, ring_home}
 use Rattle.guest_pipes.specs.Wanted.{wanted_through}
 use Rattle.guest_tags.specs.declared.buffer.Buffer.{Buffer}
 use Rattle.guest_tags.specs.declared.device.Phase.{Phase}
@@ -49,6 +50,14 @@ either_wanted None false out = None
 -- of a step for a doorbell of a stream that isn't there
 abbrev pub invalid_wanted : Memory → EventEnd → PipeState → Option Range
 invalid_wanted memory events p = if is_running p.state && p.invalid then wanted_through (room_gate memory events) events None else None
+
+-- of a step for the one ring of a pipe without streams
+abbrev pub lone_wanted : Memory → EventEnd → PipeState → Option Range
+lone_wanted memory events p = wanted_through (gate memory events (loaded p 0)) events (look_wanted memory (ring_home p 0))
+
+-- of a step for a doorbell that no stream's turn serves
+abbrev pub stray_wanted : Memory → EventEnd → PipeState → Option Range
+stray_wanted memory events p = if p.streams == 0 then lone_wanted memory events p else invalid_wanted memory events p
 
 -- by what was found at the ring's end, where the gate lets a step through
 abbrev pub idles_by : Option (Option Acted) → Option Front → (Front → Bool) → Bool

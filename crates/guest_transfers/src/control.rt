@@ -4,12 +4,12 @@ ghost use Rattle.std.specs.Result.{result_ok};
 ghost use Rattle.guest_pipes.specs.Gate.{after, stop_looked};
 ghost use Rattle.guest_pipes.specs.Step.{has_place};
 ghost use Rattle.guest_pipes.specs.Pipe.{PipeState, disabled, home_of, loaded, progress_on, stopped};
-ghost use Rattle.guest_pipes.specs.Orders.{PipeWorld, dequeue_set, invalid_stepped};
+ghost use Rattle.guest_pipes.specs.Orders.{PipeWorld, dequeue_set, stray_stepped};
 ghost use Rattle.guest_tags.specs.DataIn.{has_chunk};
 ghost use Rattle.guest_tags.specs.Devices.{Kind};
 ghost use Rattle.guest_transfers.specs.State.{TransfersWorld, slot_of};
 ghost use Rattle.guest_transfers.specs.Steps.{in_stepped, out_stepped};
-ghost use Rattle.guest_transfers.specs.Orders.{pipe_added, pipe_kept, pipe_reset, dequeue_kept, dequeue_moved, unit_forgotten, units_forgotten, command_configured, command_disabled, command_forgotten, command_stopped, chunk_dropped, data_stepped, dropped_in, drops_now, has_begun_data, has_task, has_work, left_dropped, or_out, pipe_of, with_pipe, tags_cleared, invalid_on};
+ghost use Rattle.guest_transfers.specs.Orders.{pipe_added, pipe_kept, pipe_reset, dequeue_kept, dequeue_moved, unit_forgotten, units_forgotten, command_configured, command_disabled, command_forgotten, command_stopped, chunk_dropped, data_stepped, dropped_in, drops_now, has_begun_data, has_task, has_work, left_dropped, or_out, pipe_of, with_pipe, tags_cleared, lone_forgotten, stray_on};
 ghost use Rattle.guest_memory.specs.Bytes.{Memory};
 ghost use Rattle.guest_rings.specs.Events.{EventEnd};
 
@@ -50,7 +50,8 @@ impl Transfers {
         self.command
     }
 
-    /// Adds a pipe with streams: its array of stream contexts, and how many it has, 0 where it has no streams (Configure Endpoint).
+    /// Adds a pipe with streams: its array of stream contexts, and how many it has (Configure Endpoint). Where that is 0 it has no streams but
+    /// one ring, and `array` is the address of that ring's dequeue pointer in the endpoint context.
     pub fn configure(&mut self, name: StreamPipe, array: u64, streams: u16)
         requires { streams ≤ 256 }
         ensures { self.new ≡ pipe_added self.old name array streams }
@@ -168,6 +169,17 @@ impl Transfers {
         Ok(())
     }
 
+    /// Forgets what was moved of the one ring of a pipe without streams; an endpoint in error is stopped (Set TR Dequeue Pointer).
+    pub fn forget_lone(&mut self, name: StreamPipe)
+        ensures { self.new ≡ lone_forgotten self.old name }
+    {
+        match name {
+            StreamPipe::Status => self.status.forget(0),
+            StreamPipe::DataOut => self.data_out.forget(0),
+            StreamPipe::DataIn => self.data_in.forget(0),
+        }
+    }
+
     /// Adds the command pipe, whose dequeue pointer has this address (Configure Endpoint).
     pub fn configure_command(&mut self, home: u64)
         ensures { self.new ≡ command_configured self.old home }
@@ -220,22 +232,24 @@ impl Transfers {
         empty_all(&mut self.tags);
     }
 
-    /// A step for a doorbell of a pipe's stream that isn't there: Invalid Stream ID, and the endpoint halts. Refused where the event's
-    /// place isn't there, and then nothing changes.
-    pub fn step_invalid<M: GuestMemory>(
+    /// A step for a doorbell of a pipe that no stream's turn serves: of a stream that isn't there, which posts Invalid Stream ID and halts the
+    /// endpoint, or of a pipe without streams, whose TDs are told with this code. Refused where a byte of the event's place, of the ring's end
+    /// or of the TRB there isn't there, and then nothing changes.
+    pub fn step_stray<M: GuestMemory>(
         &mut self,
         memory: &mut M,
         events: &mut EventRing,
         name: StreamPipe,
+        code: u8,
     ) -> Result<Acted, Outside>
         ensures step { (M.contents memory.new, (events.new, (self.new, result_ok result)))
-            ≡ invalid_on (M.contents memory.old) events.old self.old name }
+            ≡ stray_on code (M.contents memory.old) events.old self.old name }
         ensures same_loan { M.loan memory.new ≡ M.loan memory.old }
     {
         match name {
-            StreamPipe::Status => self.status.step_invalid(memory, events),
-            StreamPipe::DataOut => self.data_out.step_invalid(memory, events),
-            StreamPipe::DataIn => self.data_in.step_invalid(memory, events),
+            StreamPipe::Status => self.status.step_stray(memory, events, code),
+            StreamPipe::DataOut => self.data_out.step_stray(memory, events, code),
+            StreamPipe::DataIn => self.data_in.step_stray(memory, events, code),
         }
     }
 

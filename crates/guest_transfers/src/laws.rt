@@ -11,8 +11,8 @@ ghost use Rattle.guest_transfers.specs.Steps.{command_stepped, status_stepped};
 ghost use Rattle.guest_rings.specs.Events.{EventEnd};
 ghost use Rattle.guest_transfers.specs.State.{TransfersState};
 ghost use Rattle.guest_transfers.specs.declared.control.StreamPipe.{StreamPipe};
-ghost use Rattle.guest_transfers.specs.Orders.{data_stepped, invalid_on, pipe_of};
-ghost use Rattle.guest_transfers.specs.Wanted.{command_wanted, data_wanted, invalid_wanted, status_wanted};
+ghost use Rattle.guest_transfers.specs.Orders.{data_stepped, pipe_of, stray_on};
+ghost use Rattle.guest_transfers.specs.Wanted.{command_wanted, data_wanted, status_wanted, stray_wanted};
 ghost use Rattle.guest_transfers.specs.Beside.{GivesAtMost, beside, step_beside, world_beside};
 
 use guest_tags::UasDevice;
@@ -22,8 +22,8 @@ pub fn what_lacks_nothing_is_taken<D: UasDevice>()
     ensures of_data { (w : TransfersWorld D.State) (tag : ℕ) → data_wanted D.kind w tag ≡ None → is_some (data_stepped D.kind w tag).1 ≡ true }
     ensures of_status { (w : TransfersWorld D.State) (tag : ℕ) → status_wanted D.kind w tag ≡ None → is_some (status_stepped D.kind w tag).1 ≡ true }
     ensures of_command { (w : TransfersWorld D.State) → command_wanted D.kind w ≡ None → is_some (command_stepped D.kind w).1 ≡ true }
-    ensures of_invalid { (memory : Memory) (events : EventEnd) (t : TransfersState) (name : StreamPipe) → invalid_wanted memory events (pipe_of t name) ≡ None
-        → is_some (invalid_on memory events t name).1.1.1 ≡ true }
+    ensures of_stray { (code : ℕ) (memory : Memory) (events : EventEnd) (t : TransfersState) (name : StreamPipe) → stray_wanted memory events (pipe_of t name) ≡ None
+        → is_some (stray_on code memory events t name).1.1.1 ≡ true }
 {}
 
 /// What a step lacks isn't empty, and not all of it is there.
@@ -31,7 +31,7 @@ pub fn what_is_wanted_is_not_there<D: UasDevice>()
     ensures of_data { (w : TransfersWorld D.State) (tag : ℕ) → IsWithinAddresses w.memory → LacksIt w.memory (data_wanted D.kind w tag) }
     ensures of_status { (w : TransfersWorld D.State) (tag : ℕ) → IsWithinAddresses w.memory → LacksIt w.memory (status_wanted D.kind w tag) }
     ensures of_command { (w : TransfersWorld D.State) → LacksIt w.memory (command_wanted D.kind w) }
-    ensures of_invalid { (memory : Memory) (events : EventEnd) (t : TransfersState) (name : StreamPipe) → LacksIt memory (invalid_wanted memory events (pipe_of t name)) }
+    ensures of_stray { (memory : Memory) (events : EventEnd) (t : TransfersState) (name : StreamPipe) → LacksIt memory (stray_wanted memory events (pipe_of t name)) }
 {}
 
 /// A step that lacks nothing does the same with any other memory beside the one that it is taken over, and writes only to that one.
@@ -42,6 +42,6 @@ pub fn copies_stand_for_all_memory<D: UasDevice>()
         → status_stepped D.kind (world_beside w rest) tag ≡ step_beside (status_stepped D.kind w tag) rest }
     ensures of_command { (w : TransfersWorld D.State) (rest : Memory) → command_wanted D.kind w ≡ None
         → command_stepped D.kind (world_beside w rest) ≡ step_beside (command_stepped D.kind w) rest }
-    ensures of_invalid { (memory rest : Memory) (events : EventEnd) (t : TransfersState) (name : StreamPipe) → invalid_wanted memory events (pipe_of t name) ≡ None
-        → invalid_on (beside memory rest) events t name ≡ (beside (invalid_on memory events t name).0 rest, (invalid_on memory events t name).1) }
+    ensures of_stray { (code : ℕ) (memory rest : Memory) (events : EventEnd) (t : TransfersState) (name : StreamPipe) → stray_wanted memory events (pipe_of t name) ≡ None
+        → stray_on code (beside memory rest) events t name ≡ (beside (stray_on code memory events t name).0 rest, (stray_on code memory events t name).1) }
 {}

@@ -18,7 +18,7 @@
 //! `specs/Orders.antt`); a step that is refused changes nothing. [`Transfers::new`] takes all memory that the pipes ever have.
 //!
 //! A caller who can't lend all of memory asks before a step what it lacks ([`Transfers::wants_data`], [`Transfers::wants_status`],
-//! [`Transfers::wants_command`], [`Transfers::wants_invalid`]), and copies that in. Once nothing is asked for, the step over his copies is the step over all of his
+//! [`Transfers::wants_command`], [`Transfers::wants_stray`]), and copies that in. Once nothing is asked for, the step over his copies is the step over all of his
 //! memory, and writes only to the copies (`src/laws.rt`).
 //!
 //! It stands on `guest_tags` and `guest_out` for the steps of each pipe, and on `guest_pipes` for the pipes.

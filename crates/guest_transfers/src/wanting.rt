@@ -6,7 +6,8 @@
 //! is answered. A range that isn't in his own memory either can't be copied in: he takes the step without it. `src/laws.rt` has what
 //! follows.
 ghost use Rattle.std.specs.Prelude.{◌≡◌, ◌<◌, None};
-ghost use Rattle.guest_transfers.specs.Wanted.{command_wanted, data_wanted, either_wanted, in_wanted, invalid_wanted, is_idle, out_wanted, status_wanted};
+ghost use Rattle.guest_pipes.specs.Pipe.{ring_home};
+ghost use Rattle.guest_transfers.specs.Wanted.{command_wanted, data_wanted, either_wanted, in_wanted, is_idle, lone_wanted, out_wanted, status_wanted, stray_wanted};
 ghost use Rattle.guest_transfers.specs.Orders.{pipe_of};
 ghost use Rattle.guest_transfers.specs.Steps.{in_stepped};
 ghost use Rattle.guest_pipes.specs.Gate.{room_gate};
@@ -16,7 +17,7 @@ use crate::calls::Transfers;
 use crate::control::StreamPipe;
 use guest_memory::{GuestMemory, Outside};
 use guest_out::{command_wants, data_out_wants};
-use guest_pipes::{place_range, room_gate};
+use guest_pipes::{Pipe, place_range, room_gate};
 use guest_rings::{EventRing, Home, Range};
 use guest_tags::{Phase, UasDevice};
 
@@ -27,6 +28,18 @@ fn place_wants<M: GuestMemory>(memory: &M, events: &EventRing) -> Option<Range>
     match room_gate(memory, events) {
         Err(Outside) => Some(place_range(events)),
         Ok(_) => None,
+    }
+}
+
+/// What a step for the one ring of a pipe without streams lacks.
+fn lone_wants<M: GuestMemory>(memory: &M, events: &EventRing, pipe: &Pipe) -> Option<Range>
+    requires { pipe.now.streams ≡ 0 }
+    ensures { result ≡ lone_wanted (M.contents memory.now) events.now pipe.now }
+{
+    match pipe.consumer(0).gate(memory, events) {
+        Err(Outside) => Some(place_range(events)),
+        Ok(Some(_)) => None,
+        Ok(None) => pipe.ring_wants(memory, 0),
     }
 }
 
@@ -138,16 +151,19 @@ impl Transfers {
             .wants_status(memory, events, &consumer, device, tag, due, &self.status)
     }
 
-    /// The first range that [`Transfers::step_invalid`] writes of which a byte isn't there.
-    pub fn wants_invalid<M: GuestMemory>(
+    /// The first range that [`Transfers::step_stray`] reads or writes of which a byte isn't there.
+    pub fn wants_stray<M: GuestMemory>(
         &self,
         memory: &M,
         events: &EventRing,
         name: StreamPipe,
     ) -> Option<Range>
-        ensures { result ≡ invalid_wanted (M.contents memory.now) events.now (pipe_of self.now name) }
+        ensures { result ≡ stray_wanted (M.contents memory.now) events.now (pipe_of self.now name) }
     {
         let pipe = self.pipe(name);
+        if pipe.is_alone() {
+            return lone_wants(memory, events, pipe);
+        }
         if pipe.state().runs() && pipe.is_invalid() {
             place_wants(memory, events)
         } else {

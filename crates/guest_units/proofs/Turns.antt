@@ -1,10 +1,12 @@
 -- Each turn's calls on the device.
 use Rattle.std.proofs.Common.{◌≡◌, ℕ, zero, suc, ◌==◌, Bool, true, false, cond, List, [], ◌∷◌, ◌++◌, Option, Some, None, refl, ap, sym, ◌∙◌, inl, inr, arith}
 use Rattle.std.proofs.lemmas.Bool.{ne_eqb}
+use Rattle.std.specs.Prelude.{◌||◌}
 use Rattle.guest_pipes.specs.declared.acted.Acted.{Acted}
 use Rattle.guest_tasks.specs.declared.GuestTasks.{GuestTasks}
 use Rattle.guest_tasks.specs.Tasks.{chunk_in, tasks_kind}
-use Rattle.guest_transfers.specs.Steps.{command_world}
+use Rattle.guest_transfers.specs.Orders.{data_stepped}
+use Rattle.guest_transfers.specs.Steps.{command_stepped, command_world, status_stepped}
 use Rattle.guest_transfers.specs.declared.control.StreamPipe.{StreamPipe}
 use Rattle.guest_transfers.specs.declared.control.StreamPipe.TheVariants.{Status, DataOut, DataIn}
 use Rattle.uas_tasks.specs.Machine.{Machine, gave, received, took, wanted, without_task}
@@ -12,12 +14,13 @@ use Rattle.units_apart.specs.Calls.{Call, Receive, Give, Take, Send, EndTasks, c
 use Rattle.units_apart.specs.Runs.{after}
 use Rattle.xhci_control.specs.declared.pipe.Served.{Served}
 use Rattle.xhci_control.specs.Steps.{ControlWorld, stepped}
-use Rattle.xhci_machine.specs.Rounds.{Turning, command_pipe_stepped, control_stepped, control_world, data_of, invalid_stepped, noted_in, pipes_turned, restarted, served, status_of, then_commands, then_control, then_invalid, then_pipes, then_port, transfers_world, turned, with_control}
+use Rattle.xhci_machine.specs.Rounds.{Turning, command_pipe_stepped, control_stepped, control_world, data_of, stray_stepped, noted_in, pipes_turned, restarted, ring_on, served, status_of, then_commands, then_control, then_stray, then_pipes, then_port, transfers_world, turned, with_control, with_transfers}
+use Rattle.xhci_machine.specs.Contexts.{is_due}
 use Rattle.xhci_machine.specs.Steps.{commands_stepped}
 use Rattle.xhci_machine.specs.Turns.{World}
 use Rattle.xhci_machine.specs.Worked.{then_status}
-use Rattle.xhci_machine.proofs.Active.{invalid_kept, noted_in_kept, port_kept, turned_kept}
-use Rattle.xhci_machine.proofs.Device.{Moves, Receives, Sends, command_pipe_kept, data_kept, status_kept}
+use Rattle.xhci_machine.proofs.Active.{stray_kept, noted_in_kept, port_kept, turned_kept}
+use Rattle.xhci_machine.proofs.Device.{Moves, Receives, Sends, command_pipe_kept, data_kept, of_each, status_kept}
 use Rattle.xhci_machine.proofs.RingStep.{commands_kept}
 use Rattle.guest_units.specs.Turns.{IsAnswerOn, IsDataOn, IsEnd, IsUnitIn, Makes, TurnMakes, tasks_of}
 
@@ -31,6 +34,10 @@ Made May start device = (calls : List Call) × Makes May start device.tasks call
 
 unmade : (May : Call → Type 0) (start : Machine) (device : GuestTasks) → Has start device → Made May start device
 unmade May start device same = ([], record { one = tt {0}; is = same })
+
+-- and so does what a step left
+abbrev MadeIn : (Call → Type 0) → Machine → World × Option Acted → Type 0
+MadeIn May start step = Made May start step.0.machine.device
 
 -- LISTS
 pub after_append : (start : Machine) (first rest : List Call) → after called start (first ++ rest) ≡ after called (after called start first) rest
@@ -52,7 +59,10 @@ data_made w tag =
           (Give tag (chunk_in (wanted start tag)) ∷ [], record { one = refl; is = ap (λ m. gave m tag (chunk_in (wanted m tag))) same });
       took = λ device bytes same. (Take tag bytes ∷ [], record { one = refl; is = ap (λ m. took m tag bytes) same });
     } in
-    data_kept tasks_kind tag (Has start) (Made (IsDataOn tag) start) moves (transfers_world w) refl
+    let none : Made (IsDataOn tag) start w.machine.device = unmade (IsDataOn tag) start w.machine.device refl in
+    of_each (MadeIn (IsDataOn tag) start) w (is_due (ring_on w.machine DataIn tag) || is_due (ring_on w.machine DataOut tag))
+    (with_transfers w (data_stepped tasks_kind (transfers_world w) tag)) none none
+    (data_kept tasks_kind tag (Has start) (Made (IsDataOn tag) start) moves (transfers_world w) refl)
 
 pub status_made : (w : World) (tag : ℕ) → (calls : List Call) × Makes (IsAnswerOn tag) (tasks_of w) (tasks_of (status_of w tag).0) calls
 unfolding status_of
@@ -62,7 +72,10 @@ status_made w tag =
       stays = λ device same. unmade (IsAnswerOn tag) start device same;
       sent = λ device same. (Send tag ∷ [], record { one = refl; is = ap (λ m. without_task m tag) same });
     } in
-    status_kept tasks_kind tag (Has start) (Made (IsAnswerOn tag) start) sends (transfers_world w) refl
+    let none : Made (IsAnswerOn tag) start w.machine.device = unmade (IsAnswerOn tag) start w.machine.device refl in
+    of_each (MadeIn (IsAnswerOn tag) start) w (is_due (ring_on w.machine Status tag))
+    (with_transfers w (status_stepped tasks_kind (transfers_world w) tag)) none none
+    (status_kept tasks_kind tag (Has start) (Made (IsAnswerOn tag) start) sends (transfers_world w) refl)
 
 pub unit_made : (w : World) → (calls : List Call) × Makes (IsUnitIn w) (tasks_of w) (tasks_of (command_pipe_stepped w).0) calls
 unfolding command_pipe_stepped
@@ -80,7 +93,10 @@ unit_made w =
         },
       );
     } in
-    command_pipe_kept tasks_kind (Has start) (Made (IsUnitIn w) start) (transfers_world w) receives refl
+    let none : Made (IsUnitIn w) start w.machine.device = unmade (IsUnitIn w) start w.machine.device refl in
+    of_each (MadeIn (IsUnitIn w) start) w (is_due w.machine.transfers.command)
+    (with_transfers w (command_stepped tasks_kind (transfers_world w))) none none
+    (command_pipe_kept tasks_kind (Has start) (Made (IsUnitIn w) start) (transfers_world w) receives refl)
 
 restarted_made : (restarts : Bool) (w : World) → (calls : List Call) × Makes IsEnd (tasks_of w) (tasks_of (restarted restarts w)) calls
 restarted_made true w = (EndTasks ∷ [], record { one = tt {0}; is = refl })
@@ -92,7 +108,10 @@ served_made w (now, Some how) = restarted_made how.restarted (with_control w now
 
 pub control_made : (w : World) → (calls : List Call) × Makes IsEnd (tasks_of w) (tasks_of (control_stepped w).0) calls
 unfolding control_stepped
-control_made w = served_made w (stepped (control_world w))
+control_made w =
+    let none : Made IsEnd (tasks_of w) w.machine.device = unmade IsEnd (tasks_of w) w.machine.device refl in
+    of_each (MadeIn IsEnd (tasks_of w)) w (is_due w.machine.control.consumer) (served w (stepped (control_world w))) none none
+    (served_made w (stepped (control_world w)))
 
 -- TURNS
 abbrev pub then_step : (World → World × Option Acted) → Turning → Turning
@@ -121,10 +140,10 @@ commands_same (at, false) = refl
 commands_same (at, true) =
     turned_kept (Has (tasks_of at.0)) at.1 at.0 (commands_stepped at.0) refl (commands_kept (Has (tasks_of at.0)) at.0 refl)
 
-invalid_same : (name : StreamPipe) (t : Turning) → tasks_of (then_invalid name t).0.0 ≡ tasks_of t.0.0
-invalid_same name (at, false) = refl
-invalid_same name (at, true) =
-    turned_kept (Has (tasks_of at.0)) at.1 at.0 (invalid_stepped at.0 name) refl (invalid_kept (Has (tasks_of at.0)) at.0 name refl)
+stray_same : (name : StreamPipe) (t : Turning) → tasks_of (then_stray name t).0.0 ≡ tasks_of t.0.0
+stray_same name (at, false) = refl
+stray_same name (at, true) =
+    turned_kept (Has (tasks_of at.0)) at.1 at.0 (stray_stepped at.0 name) refl (stray_kept (Has (tasks_of at.0)) at.0 name refl)
 
 pub control_then : (t : Turning) → tasks_of (then_control t).0.0 ≡ tasks_of (then_step control_stepped t).0.0
 control_then (at, false) = refl
@@ -138,8 +157,8 @@ pipes_same : (left : ℕ) (w : World) → tasks_of (pipes_turned left w).0.0 ≡
 unfolding pipes_turned
 pipes_same left w =
     let first : Turning = turned left w (command_pipe_stepped w) in
-    invalid_same DataIn (then_invalid DataOut (then_invalid Status first))
-    ∙ invalid_same DataOut (then_invalid Status first) ∙ invalid_same Status first
+    stray_same DataIn (then_stray DataOut (then_stray Status first))
+    ∙ stray_same DataOut (then_stray Status first) ∙ stray_same Status first
 
 pub pipes_then : (t : Turning) → tasks_of (then_pipes t).0.0 ≡ tasks_of (then_step command_pipe_stepped t).0.0
 pipes_then (at, false) = refl

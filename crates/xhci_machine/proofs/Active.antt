@@ -1,6 +1,6 @@
 -- Each tag with a task is active, and stays so over rounds.
 use Rattle.std.proofs.Common.{◌≡◌, ℕ, zero, suc, ◌-◌, ◌<◌, ◌==◌, List, ◌++◌, Bool, true, false, cond, Option, Some, None, sym, subst, arith, inl, inr}
-use Rattle.std.specs.Prelude.{◌⊎◌, not}
+use Rattle.std.specs.Prelude.{◌⊎◌, ◌&&◌, ◌||◌, not}
 use Rattle.std.proofs.lemmas.Bool.{false≢true}
 use Rattle.guest_pipes.specs.declared.acted.Acted.{Acted}
 use Rattle.guest_pipes.specs.declared.acted.Acted.TheVariants.{Off, Idle, Full, Emptied, Waits, Worked as HasWorked}
@@ -9,7 +9,10 @@ use Rattle.guest_rings.specs.Events.{has_room}
 use Rattle.guest_tasks.specs.declared.GuestTasks.{GuestTasks}
 use Rattle.guest_tasks.specs.Active.{TasksAreActive, rested}
 use Rattle.guest_tasks.specs.Tasks.{tasks_kind}
-use Rattle.guest_transfers.specs.Steps.{command_world}
+use Rattle.guest_pipes.specs.Gate.{is_running}
+use Rattle.guest_pipes.specs.Pipe.{has_stray}
+use Rattle.guest_transfers.specs.Orders.{data_stepped, pipe_of, stray_on}
+use Rattle.guest_transfers.specs.Steps.{command_stepped, command_world, status_stepped}
 use Rattle.guest_transfers.specs.declared.control.StreamPipe.{StreamPipe}
 use Rattle.guest_transfers.specs.declared.control.StreamPipe.TheVariants.{Status, DataOut, DataIn}
 use Rattle.marks.specs.Marks.{is_marked}
@@ -18,12 +21,13 @@ use Rattle.xhci_control.specs.declared.pipe.Served.{Served}
 use Rattle.xhci_control.specs.Steps.{ControlWorld, stepped}
 use Rattle.xhci_machine.specs.declared.Machine.{Machine}
 use Rattle.xhci_machine.specs.declared.work.Worked.{Worked}
+use Rattle.xhci_machine.specs.Contexts.{is_due}
 use Rattle.xhci_machine.specs.Laws.{IsFailed, IsLeftIdle, IsTaskIdle, come_to}
-use Rattle.xhci_machine.specs.Rounds.{Turning, command_pipe_stepped, control_stepped, control_world, data_of, front_turned, invalid_stepped, noted_in, pipes_turned, port_in, restarted, served, settled_in, status_of, then_commands, then_control, then_invalid, then_pipes, then_port, transfers_world, turned, with_control}
+use Rattle.xhci_machine.specs.Rounds.{Turning, command_pipe_stepped, control_stepped, control_world, data_of, front_turned, stray_stepped, noted_in, pipes_turned, port_in, restarted, ring_on, served, settled_in, stall_error, status_of, then_commands, then_control, then_stray, then_pipes, then_port, transfers_world, turned, with_control, with_stray, with_transfers}
 use Rattle.xhci_machine.specs.Steps.{commands_stepped}
 use Rattle.xhci_machine.specs.Turns.{World, detected, full_posted, has_full, interrupted, noted, port_posted, port_turned, settled, tells_port, told_of_port}
 use Rattle.xhci_machine.specs.Worked.{IsOver, RoundsTurned, RoundsWorked, busy_turned, dropped_at, gone_dropped, is_busy, is_gone, tag_by, tag_turned, tags_turned, then_status, then_tag, turned_if}
-use Rattle.xhci_machine.proofs.Device.{Moves, Receives, Sends, command_pipe_kept, data_kept, either, status_kept}
+use Rattle.xhci_machine.proofs.Device.{Moves, Receives, Sends, command_pipe_kept, data_kept, either, of_each, status_kept}
 use Rattle.xhci_machine.proofs.Nothing.{nothing_of}
 use Rattle.xhci_machine.proofs.RingStep.{commands_kept}
 
@@ -73,9 +77,12 @@ module _ (P : GuestTasks → Type 0) where
       let tells : Turning = (((port_turned w).0, cond (tells_port w) (left - 1) left), (port_turned w).1) in
       either (λ (t : Turning). Holds t.0.0) (left == 0) ((w, 0), true) tells p (port_told_kept (detected w) p)
 
-  pub invalid_kept : (w : World) (name : StreamPipe) → Holds w → Holds (invalid_stepped w name).0
-  unfolding invalid_stepped
-  invalid_kept w name p = p
+  pub stray_kept : (w : World) (name : StreamPipe) → Holds w → Holds (stray_stepped w name).0
+  unfolding stray_stepped
+  stray_kept w name p =
+      let pipe = pipe_of w.machine.transfers name in
+      let step = with_stray w (stray_on stall_error w.memory w.events w.machine.transfers name) in
+      of_each (λ (x : World × Option Acted). Holds x.0) w (is_running pipe.state && has_stray pipe) step p p p
 
   pub dropped_kept : (w : World) (tag : ℕ) → Holds w → Holds (dropped_at w tag)
   unfolding gone_dropped
@@ -101,7 +108,10 @@ module _ (P : GuestTasks → Type 0) (kept : KeptByAll P) where
 
   control_kept : (w : World) → Holds P w → Holds P (control_stepped w).0
   unfolding control_stepped
-  control_kept w p = served_kept w (stepped (control_world w)) p
+  control_kept w p =
+      let step = served w (stepped (control_world w)) in
+      of_each (λ (x : World × Option Acted). Holds P x.0) w (is_due w.machine.control.consumer) step p p
+      (served_kept w (stepped (control_world w)) p)
 
   pipe_kept : (w : World) → Holds P w → Holds P (command_pipe_stepped w).0
   unfolding command_pipe_stepped
@@ -112,7 +122,9 @@ module _ (P : GuestTasks → Type 0) (kept : KeptByAll P) where
         received = λ device p. kept.received device from.taken p;
         drawn = λ device buffer bytes is p. kept.received device (from.taken ++ bytes) p;
       } in
-      command_pipe_kept tasks_kind P P (transfers_world w) receives p
+      let step = with_transfers w (command_stepped tasks_kind (transfers_world w)) in
+      of_each (λ (x : World × Option Acted). Holds P x.0) w (is_due w.machine.transfers.command) step p p
+      (command_pipe_kept tasks_kind P P (transfers_world w) receives p)
 
   data_of_kept : (w : World) (tag : ℕ) → Holds P w → Holds P (data_of w tag).0
   unfolding data_of
@@ -122,13 +134,17 @@ module _ (P : GuestTasks → Type 0) (kept : KeptByAll P) where
         gave = λ device p. kept.gave device tag p;
         took = λ device bytes p. kept.took device tag bytes p;
       } in
-      data_kept tasks_kind tag P P moves (transfers_world w) p
+      let step = with_transfers w (data_stepped tasks_kind (transfers_world w) tag) in
+      of_each (λ (x : World × Option Acted). Holds P x.0) w (is_due (ring_on w.machine DataIn tag) || is_due (ring_on w.machine DataOut tag)) step p p
+      (data_kept tasks_kind tag P P moves (transfers_world w) p)
 
   status_of_kept : (w : World) (tag : ℕ) → Holds P w → Holds P (status_of w tag).0
   unfolding status_of
   status_of_kept w tag p =
       let sends : Sends tasks_kind tag P P = record { stays = λ device p. p; sent = λ device p. kept.sent device tag p } in
-      status_kept tasks_kind tag P P sends (transfers_world w) p
+      let step = with_transfers w (status_stepped tasks_kind (transfers_world w) tag) in
+      of_each (λ (x : World × Option Acted). Holds P x.0) w (is_due (ring_on w.machine Status tag)) step p p
+      (status_kept tasks_kind tag P P sends (transfers_world w) p)
 
   port_then : (t : Turning) → Holds P t.0.0 → Holds P (then_port t).0.0
   port_then (at, false) p = p
@@ -142,16 +158,16 @@ module _ (P : GuestTasks → Type 0) (kept : KeptByAll P) where
   control_then (at, false) p = p
   control_then (at, true) p = turned_kept P at.1 at.0 (control_stepped at.0) p (control_kept at.0 p)
 
-  invalid_then : (name : StreamPipe) (t : Turning) → Holds P t.0.0 → Holds P (then_invalid name t).0.0
-  invalid_then name (at, false) p = p
-  invalid_then name (at, true) p = turned_kept P at.1 at.0 (invalid_stepped at.0 name) p (invalid_kept P at.0 name p)
+  stray_then : (name : StreamPipe) (t : Turning) → Holds P t.0.0 → Holds P (then_stray name t).0.0
+  stray_then name (at, false) p = p
+  stray_then name (at, true) p = turned_kept P at.1 at.0 (stray_stepped at.0 name) p (stray_kept P at.0 name p)
 
   pipes_kept : (left : ℕ) (w : World) → Holds P w → Holds P (pipes_turned left w).0.0
   unfolding pipes_turned
   pipes_kept left w p =
       let first : Turning = turned left w (command_pipe_stepped w) in
-      invalid_then DataIn (then_invalid DataOut (then_invalid Status first))
-      (invalid_then DataOut (then_invalid Status first) (invalid_then Status first (turned_kept P left w (command_pipe_stepped w) p (pipe_kept w p))))
+      stray_then DataIn (then_stray DataOut (then_stray Status first))
+      (stray_then DataOut (then_stray Status first) (stray_then Status first (turned_kept P left w (command_pipe_stepped w) p (pipe_kept w p))))
 
   pipes_then : (t : Turning) → Holds P t.0.0 → Holds P (then_pipes t).0.0
   pipes_then (at, false) p = p

@@ -6,7 +6,7 @@ use Rattle.guest_pipes.specs.declared.acted.Acted.TheVariants.{Off, Idle, Full, 
 use Rattle.guest_transfers.specs.declared.control.StreamPipe.{StreamPipe}
 use Rattle.guest_transfers.specs.declared.control.StreamPipe.TheVariants.{Status, DataOut, DataIn}
 use Rattle.marks.specs.Marks.{is_marked}
-use Rattle.xhci_machine.specs.Rounds.{Turning, command_pipe_stepped, control_stepped, data_of, front_turned, invalid_stepped, noted_in, pipes_turned, port_in, settled_in, status_of, then_commands, then_control, then_invalid, then_pipes, then_port, turned}
+use Rattle.xhci_machine.specs.Rounds.{Turning, command_pipe_stepped, control_stepped, data_of, front_turned, stray_stepped, noted_in, pipes_turned, port_in, settled_in, status_of, then_commands, then_control, then_stray, then_pipes, then_port, turned}
 use Rattle.xhci_machine.specs.Steps.{commands_stepped}
 use Rattle.xhci_machine.specs.Turns.{World, left_after, port_turned, tells_port}
 use Rattle.xhci_machine.specs.Worked.{busy_turned, dropped_at, is_busy, tag_by, tag_turned, tags_turned, then_status, then_tag, turned_if}
@@ -68,16 +68,16 @@ control_then : (most left : ℕ) (t : Turning) → IsNear most left t.0.1 → Is
 control_then most left (at, false) near = near_more most (most + 1) left at.1 (omega arith) near
 control_then most left (at, true) near = near_then most 1 left at.1 _ near (turned_near at.1 at.0 (control_stepped at.0))
 
-invalid_then : (name : StreamPipe) (most left : ℕ) (t : Turning) → IsNear most left t.0.1 → IsNear (most + 1) left (then_invalid name t).0.1
-invalid_then name most left (at, false) near = near_more most (most + 1) left at.1 (omega arith) near
-invalid_then name most left (at, true) near = near_then most 1 left at.1 _ near (turned_near at.1 at.0 (invalid_stepped at.0 name))
+stray_then : (name : StreamPipe) (most left : ℕ) (t : Turning) → IsNear most left t.0.1 → IsNear (most + 1) left (then_stray name t).0.1
+stray_then name most left (at, false) near = near_more most (most + 1) left at.1 (omega arith) near
+stray_then name most left (at, true) near = near_then most 1 left at.1 _ near (turned_near at.1 at.0 (stray_stepped at.0 name))
 
 pipes_near : (left : ℕ) (w : World) → IsNear 4 left (pipes_turned left w).0.1
 unfolding pipes_turned
 pipes_near left w =
     let first : Turning = turned left w (command_pipe_stepped w) in
-    invalid_then DataIn 3 left (then_invalid DataOut (then_invalid Status first))
-    (invalid_then DataOut 2 left (then_invalid Status first) (invalid_then Status 1 left first (turned_near left w (command_pipe_stepped w))))
+    stray_then DataIn 3 left (then_stray DataOut (then_stray Status first))
+    (stray_then DataOut 2 left (then_stray Status first) (stray_then Status 1 left first (turned_near left w (command_pipe_stepped w))))
 
 pipes_then : (most left : ℕ) (t : Turning) → IsNear most left t.0.1 → IsNear (most + 4) left (then_pipes t).0.1
 pipes_then most left (at, false) near = near_more most (most + 4) left at.1 (omega arith) near

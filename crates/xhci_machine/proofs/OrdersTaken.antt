@@ -17,10 +17,10 @@ use Rattle.guest_pipes.specs.Orders.{dequeue_set}
 use Rattle.guest_pipes.specs.Pipe.{has_stream, home_of}
 use Rattle.guest_pipes.specs.Step.{has_home, has_place}
 use Rattle.guest_pipes.specs.Wanted.{front_wanted}
-use Rattle.guest_pipes.specs.WantedLaws.{front_there}
+use Rattle.guest_pipes.specs.WantedLaws.{front_there, ring_there}
 use Rattle.guest_transfers.specs.declared.control.StreamPipe.{StreamPipe}
 use Rattle.guest_transfers.specs.declared.control.StreamPipe.TheVariants.{Status, DataOut, DataIn}
-use Rattle.guest_transfers.specs.Orders.{dequeue_moved, pipe_of}
+use Rattle.guest_transfers.specs.Orders.{dequeue_moved, lone_forgotten, pipe_of}
 use Rattle.xhci_control.specs.Steps.{forgotten as control_forgotten}
 use Rattle.guest_transfers.specs.Orders.{command_forgotten}
 use Rattle.xhci_control.specs.Steps.{control_stop_told}
@@ -35,6 +35,7 @@ use Rattle.xhci_machine.specs.Lacking.{stopping_wanted, stream_wanted}
 use Rattle.xhci_machine.specs.Orders.{begun_in, begun_told, dequeue_in, endpoint_of, home_in, moved, next_begun, order_coded, order_done, order_on, pointer_set, ring_stopped}
 use Rattle.xhci_machine.specs.Orders.{ring_of, state_in, stop_by, stop_done, stop_in, stop_told_from, stopped_on, stream_moved, stream_success, told_from}
 use Rattle.xhci_machine.specs.Orders.{told_or_not, with_dequeue, with_next, with_ring, with_slot, with_success}
+use Rattle.xhci_machine.specs.Contexts.{context_wanted}
 use Rattle.xhci_machine.specs.Ring.{ended, pointer_home}
 use Rattle.xhci_machine.specs.Steps.{endpoint_ended}
 use Rattle.xhci_machine.specs.Turns.{World}
@@ -73,7 +74,7 @@ begun_found : (w : World) (endpoint : Endpoint) (stream : ℕ) → begun_wanted 
     → is_some (looked w.memory (home_in w.machine endpoint stream)) ≡ true
 begun_found w Control stream none = look_there w.memory (home.Endpoint w.machine.control.home) none
 begun_found w Command stream none = look_there w.memory (home.Endpoint (pointer_home w.machine.slot.context 2)) none
-begun_found w (Streams name) stream none = front_there w.memory (pipe_of w.machine.transfers name) stream none
+begun_found w (Streams name) stream none = ring_there w.memory (pipe_of w.machine.transfers name) stream none
 
 tells_begun : (w : World) (endpoint : Endpoint) (stream : ℕ) → has_place w.memory w.events ≡ true
     → begun_wanted w.memory w.machine endpoint stream ≡ None → is_some (begun_told w endpoint stream) ≡ true
@@ -155,12 +156,13 @@ stream_moves w m name at cursor kind stream place none =
     by_test : (has alone : Bool)
         → (if has then front_wanted w.memory (pipe_of m.transfers name) stream else if alone then pointer_wanted w.memory at else None) ≡ None
         → Moves w (if has then option_map (stream_success m) (dequeue_moved w.memory m.transfers name stream cursor (kind % 8))
-        else if alone then option_map (with_success m) (pointer_set w.memory at cursor) else Some (w.memory, (m, 34)))
+        else if alone then option_map (with_success (record m { transfers = lone_forgotten m.transfers name })) (pointer_set w.memory at cursor)
+        else Some (w.memory, (m, 34)))
     by_test true alone none =
         let home = home_of (pipe_of m.transfers name) stream in
         let there = home_found w.memory home (front_there w.memory (pipe_of m.transfers name) stream none) in
         rw there (there_written w.memory (home_at home) _ (enqueue_pointer w.events) 16 place)
-    by_test false true none = pointer_moves w m at cursor place none
+    by_test false true none = pointer_moves w (record m { transfers = lone_forgotten m.transfers name }) at cursor place none
     by_test false false none = place
 
 moves_on : (w : World) (m : Machine) (endpoint : Endpoint) (at : ℕ) (cursor : Cursor) (kind stream : ℕ) → has_place w.memory w.events ≡ true
@@ -196,24 +198,27 @@ codes_well w endpoint id (SetDequeue cursor kind stream) place none =
     (moves_in w w.machine endpoint id cursor kind stream (state_in w.machine endpoint) place none)
 
 on_well : (w : World) (slot id : ℕ) (order : Order) (endpoint : Option Endpoint) → has_place w.memory w.events ≡ true
-    → order_wanted w.memory w.machine id order endpoint ≡ None → EndsWell (order_on w slot id order endpoint)
-on_well w slot id order None place none = place
-on_well w slot id order (Some endpoint) place none = named_well slot (order_coded w endpoint id order) (codes_well w endpoint id order place none)
+    → context_wanted w.memory w.machine.slot ≡ None → order_wanted w.memory w.machine id order endpoint ≡ None → EndsWell (order_on w slot id order endpoint)
+on_well w slot id order None place there none = place
+on_well w slot id order (Some endpoint) place there none =
+    rw there (named_well slot (order_coded w endpoint id order) (codes_well w endpoint id order place none))
 
-done_well : (w : World) (slot id : ℕ) (order : Order) → has_place w.memory w.events ≡ true
+done_well : (w : World) (slot id : ℕ) (order : Order) → has_place w.memory w.events ≡ true → context_wanted w.memory w.machine.slot ≡ None
     → (if slot == 1 && is_some w.machine.slot.state then order_wanted w.memory w.machine id order (endpoint_of id) else None) ≡ None
     → EndsWell (order_done w slot id order)
 unfolding order_done
-done_well w slot id order place none = by_test (slot == 1) (is_some w.machine.slot.state) none
+done_well w slot id order place there none = by_test (slot == 1) (is_some w.machine.slot.state) none
   where
     by_test : (one given : Bool) → (if one && given then order_wanted w.memory w.machine id order (endpoint_of id) else None) ≡ None
         → EndsWell (if not one || not given then (w, Some (Some (ended 11 slot))) else order_on w slot id order (endpoint_of id))
-    by_test true true none = on_well w slot id order (endpoint_of id) place none
+    by_test true true none = on_well w slot id order (endpoint_of id) place there none
     by_test true false none = place
     by_test false true none = place
     by_test false false none = place
 
 pub order_ends : (w : World) (cursor : Cursor) (slot id : ℕ) (order : Order) → has_place w.memory w.events ≡ true
+    → context_wanted w.memory w.machine.slot ≡ None
     → (if slot == 1 && is_some w.machine.slot.state then order_wanted w.memory w.machine id order (endpoint_of id) else None) ≡ None
     → (endpoint_ended cursor (order_done w slot id order)).1 ≡ true
-order_ends w cursor slot id order place none = endpoint_ends cursor (order_done w slot id order) (done_well w slot id order place none)
+order_ends w cursor slot id order place there none =
+    endpoint_ends cursor (order_done w slot id order) (done_well w slot id order place there none)

@@ -14,7 +14,7 @@ use Rattle.guest_rings.specs.Ends.{fetched, followed}
 use Rattle.guest_tasks.specs.declared.GuestTasks.{GuestTasks}
 use Rattle.guest_transfers.specs.declared.control.StreamPipe.{StreamPipe}
 use Rattle.guest_transfers.specs.declared.control.StreamPipe.TheVariants.{Status, DataOut, DataIn}
-use Rattle.guest_transfers.specs.Orders.{dequeue_moved, pipe_of}
+use Rattle.guest_transfers.specs.Orders.{dequeue_moved, lone_forgotten, pipe_of}
 use Rattle.guest_transfers.specs.State.{TransfersState}
 use Rattle.xhci_slots.specs.declared.Change.{Change}
 use Rattle.xhci_slots.specs.declared.Change.TheVariants.{Kept, Disabled, Set}
@@ -192,9 +192,10 @@ module _ (P : GuestTasks → Type 0) where
   stream_moved_kept memory m name at cursor kind stream p =
       let there : Option (Memory × TransfersState) = dequeue_moved memory m.transfers name stream cursor (kind % 8) in
       let alone : Bool = stream == 0 && not (has_stream (pipe_of m.transfers name) 1) in
-      let stands : Option (Memory × (Machine × ℕ)) = option_map (with_success m) (pointer_set memory at cursor) in
+      let forgets : Machine = record m { transfers = lone_forgotten m.transfers name } in
+      let stands : Option (Memory × (Machine × ℕ)) = option_map (with_success forgets) (pointer_set memory at cursor) in
       either IfCoded (has_stream (pipe_of m.transfers name) stream) (option_map (stream_success m) there) (cond alone stands (Some (memory, (m, 34))))
-      (stream_kept m there p) (either IfCoded alone stands (Some (memory, (m, 34))) (success_kept m (pointer_set memory at cursor) p) p)
+      (stream_kept m there p) (either IfCoded alone stands (Some (memory, (m, 34))) (success_kept forgets (pointer_set memory at cursor) p) p)
 
   moved_kept : (memory : Memory) (m : Machine) (endpoint : Endpoint) (at : ℕ) (cursor : Cursor) (kind stream : ℕ) → P m.device
       → IfCoded (moved memory m endpoint at cursor kind stream)
@@ -229,7 +230,9 @@ module _ (P : GuestTasks → Type 0) where
 
   order_on_kept : (w : World) (slot id : ℕ) (order : Order) (endpoint : Option Endpoint) → Holds w → Holds (order_on w slot id order endpoint).0
   order_on_kept w slot id order None p = p
-  order_on_kept w slot id order (Some endpoint) p = with_slot_kept slot (order_coded w endpoint id order) (coded_kept w endpoint id order p)
+  order_on_kept w slot id order (Some endpoint) p =
+      either (λ (x : World × Option (Option Ended)). Holds x.0) _ _ _ p
+      (with_slot_kept slot (order_coded w endpoint id order) (coded_kept w endpoint id order p))
 
   order_kept : (w : World) (slot id : ℕ) (order : Order) → Holds w → Holds (order_done w slot id order).0
   unfolding order_done

@@ -10,6 +10,7 @@ use Rattle.guest_rings.specs.declared.words.Words.{Words}
 use Rattle.guest_rings.specs.Ends.{fetched, followed}
 use Rattle.guest_rings.specs.Events.{EventEnd, has_room}
 use Rattle.guest_rings.specs.WantedLaws.{there_if}
+use Rattle.guest_pipes.specs.declared.acted.Acted.{Acted}
 use Rattle.guest_pipes.specs.declared.acted.Acted.TheVariants.{Full, Idle, Off}
 use Rattle.guest_pipes.specs.declared.consumer.Consumer.{Consumer}
 use Rattle.guest_pipes.specs.Gate.{gate, is_running, room_gate}
@@ -25,7 +26,8 @@ use Rattle.xhci_machine.specs.Ring.{command_cursor, ended, has_command, on_slot_
 use Rattle.xhci_machine.specs.Steps.{command_taken, commands_stepped, endpoint_command_taken, fetched_taken, front_taken, link_followed}
 use Rattle.xhci_machine.specs.Steps.{slot_command_taken, stop_posted, through, worked_if}
 use Rattle.xhci_machine.specs.Turns.{World}
-use Rattle.xhci_machine.specs.Wanted.{Look, acts, acts_in_context, commands_looked, context_wanted, is_due, lacks_nothing, needs, place_wanted, ring_wanted}
+use Rattle.xhci_machine.specs.Contexts.{context_wanted, in_context, is_asleep, is_due, of_endpoint}
+use Rattle.xhci_machine.specs.Wanted.{Look, acts, acts_in_context, commands_looked, lacks_nothing, needs, place_wanted, ring_wanted}
 use Rattle.xhci_machine.specs.Wanted.{then_look}
 use Rattle.xhci_machine.proofs.OrdersTaken.{order_ends}
 use Rattle.xhci_machine.proofs.SlotTaken.{Executes, ends, slot_done, slot_ends, stands}
@@ -47,6 +49,31 @@ pub wants_nothing : (due : Bool) (memory : Memory) (m : Machine) (wanted : Optio
 wants_nothing true memory m wanted idle is = acts_whole wanted (needs_nothing (context_wanted memory m.slot) (acts wanted) is).1
 wants_nothing false memory m wanted idle is = idle refl
 
+-- a step whose context is there where it is due
+in_there : (w : World) (due : Bool) (step : World × Option Acted) → (due ≡ true → context_wanted w.memory w.machine.slot ≡ None)
+    → is_some step.1 ≡ true → is_some (in_context w due step).1 ≡ true
+in_there w true step there is = by_room (has_room w.events)
+  where
+    by_room : (room : Bool) → is_some (if room && is_some (context_wanted w.memory w.machine.slot) then (w, None) else step).1 ≡ true
+    by_room true = rw (there refl) is
+    by_room false = is
+in_there w false step there is = is
+
+-- the same of a step of an endpoint, which has none while the port is suspended
+pub of_there : (w : World) (due : Bool) (step : World × Option Acted) → (due ≡ true → context_wanted w.memory w.machine.slot ≡ None)
+    → is_some step.1 ≡ true → is_some (of_endpoint w due step).1 ≡ true
+of_there w due step there is = by_port (is_asleep w.machine)
+  where
+    by_port : (asleep : Bool) → is_some (if asleep then (w, Some Idle) else in_context w due step).1 ≡ true
+    by_port true = refl
+    by_port false = in_there w due step there is
+
+-- a turn that is due needs the context
+pub needs_context : (due : Bool) (memory : Memory) (m : Machine) (wanted : Option Range)
+    → lacks_nothing (if due then acts_in_context memory m wanted else Ok tt) ≡ true → due ≡ true → context_wanted memory m.slot ≡ None
+needs_context true memory m wanted is due = (needs_nothing (context_wanted memory m.slot) (acts wanted) is).0
+needs_context false memory m wanted is due = absurd (false≢true due)
+
 -- a ring that isn't looked at
 pub idle_gate : (memory : Memory) (events : EventEnd) (consumer : Consumer) (rest : Option Range) → is_due consumer ≡ false
     → wanted_through (gate memory events consumer) events rest ≡ None
@@ -66,24 +93,25 @@ works (w, true) is = refl
 works (w, false) is = absurd (false≢true is)
 
 takes : Executes → (w : World) (cursor : Cursor) (command : Command) → has_place w.memory w.events ≡ true
-    → taken_wanted w.memory w.machine command ≡ None → is_some (command_taken w cursor command).1 ≡ true
+    → context_wanted w.memory w.machine.slot ≡ None → taken_wanted w.memory w.machine command ≡ None → is_some (command_taken w cursor command).1 ≡ true
 unfolding link_followed slot_command_taken endpoint_command_taken
-takes executes w cursor (Link pointer toggle ioc) place none = works _ (by_ioc ioc)
+takes executes w cursor (Link pointer toggle ioc) place context none = works _ (by_ioc ioc)
   where
     by_ioc : (told : Bool) → (link_followed w cursor (followed cursor pointer toggle) told).1 ≡ true
     by_ioc true = stands w cursor.place (ended 1 0) (followed cursor pointer toggle) place
     by_ioc false = refl
-takes executes w cursor NoOp place none = works _ (ends w cursor (ended 1 0) place)
-takes executes w cursor (OnSlot slot command) place none =
+takes executes w cursor NoOp place context none = works _ (ends w cursor (ended 1 0) place)
+takes executes w cursor (OnSlot slot command) place context none =
     works _ (slot_ends w cursor (on_slot_done w.memory w.machine slot command) (slot_done executes w.memory w.machine slot command w.events place none))
-takes executes w cursor (OnEndpoint slot id order) place none = works _ (order_ends w cursor slot id order place none)
-takes executes w cursor Foreign place none = works _ (ends w cursor (ended 5 0) place)
+takes executes w cursor (OnEndpoint slot id order) place context none = works _ (order_ends w cursor slot id order place context none)
+takes executes w cursor Foreign place context none = works _ (ends w cursor (ended 5 0) place)
 
 fetches : Executes → (w : World) (found : Option (Option Words)) → has_place w.memory w.events ≡ true
-    → words_wanted w.memory w.machine (command_cursor w.machine) found ≡ None → is_some (fetched_taken w found).1 ≡ true
-fetches executes w None place none = absurd (none-some _ (sym none))
-fetches executes w (Some None) place none = refl
-fetches executes w (Some (Some words)) place none = takes executes w (command_cursor w.machine) (command_in words) place none
+    → context_wanted w.memory w.machine.slot ≡ None → words_wanted w.memory w.machine (command_cursor w.machine) found ≡ None → is_some (fetched_taken w found).1 ≡ true
+fetches executes w None place context none = absurd (none-some _ (sym none))
+fetches executes w (Some None) place context none = refl
+fetches executes w (Some (Some words)) place context none =
+    takes executes w (command_cursor w.machine) (command_in words) place context none
 
 fronts : Executes → (w : World) → has_place w.memory w.events ≡ true → lacks_nothing (ring_wanted w.memory w.machine) ≡ true
     → is_some (front_taken w).1 ≡ true
@@ -95,8 +123,8 @@ fronts executes w place is = by_stop w.machine.commands.owes_stop is
         → is_some (if owes then stop_posted w else fetched_taken w (fetched w.memory (command_cursor w.machine))).1 ≡ true
     by_stop true is = rw place refl
     by_stop false is =
-        fetches executes w (fetched w.memory (command_cursor w.machine)) place
-        (acts_whole _ (needs_nothing (context_wanted w.memory w.machine.slot) _ is).1)
+        let parts = needs_nothing (context_wanted w.memory w.machine.slot) (acts (command_wanted w.memory w.machine)) is in
+        fetches executes w (fetched w.memory (command_cursor w.machine)) place parts.0 (acts_whole _ parts.1)
 
 pub commands_taken : Executes → (w : World) → lacks_nothing (commands_looked w.memory w.machine w.events) ≡ true → is_some (commands_stepped w).1 ≡ true
 unfolding commands_looked commands_stepped room_gate

@@ -1,27 +1,30 @@
 -- A turn of endpoint 0 or of a pipe that lacks nothing isn't refused.
-use Rattle.std.proofs.Common.{◌≡◌, ℕ, Bool, true, false, Option, Some, None, refl, sym, ap}
+use Rattle.std.proofs.Common.{◌≡◌, ℕ, ◌==◌, Bool, true, false, Option, Some, None, refl, sym, ap}
 use Rattle.std.proofs.lemmas.Bool.{false≢true}
-use Rattle.std.specs.Prelude.{is_some, if◌then◌else◌, ◌&&◌}
+use Rattle.std.specs.Prelude.{is_some, if◌then◌else◌, ◌&&◌, ◌||◌}
 use Rattle.guest_memory.specs.Bytes.{Memory}
+use Rattle.guest_rings.specs.declared.wanting.Range.{Range}
 use Rattle.guest_rings.specs.Events.{EventEnd}
 use Rattle.guest_pipes.specs.Gate.{is_running, room_gate}
-use Rattle.guest_pipes.specs.Pipe.{PipeState}
+use Rattle.guest_pipes.specs.Pipe.{PipeState, has_stray, loaded, rung_on}
 use Rattle.guest_pipes.specs.Wanted.{wanted_through}
 use Rattle.guest_tasks.specs.declared.GuestTasks.{GuestTasks}
 use Rattle.guest_tasks.specs.Tasks.{tasks_kind}
 use Rattle.guest_transfers.specs.declared.control.StreamPipe.{StreamPipe}
-use Rattle.guest_transfers.specs.Orders.{data_stepped, invalid_on, pipe_of}
+use Rattle.guest_transfers.specs.declared.control.StreamPipe.TheVariants.{Status, DataOut, DataIn}
+use Rattle.guest_transfers.specs.Orders.{data_stepped, pipe_of, stray_on}
 use Rattle.guest_transfers.specs.State.{TransfersState, TransfersWorld}
 use Rattle.guest_transfers.specs.Steps.{command_stepped, status_stepped}
-use Rattle.guest_transfers.specs.Wanted.{command_wanted, data_wanted, invalid_wanted, status_wanted}
+use Rattle.guest_transfers.specs.Wanted.{command_wanted, data_wanted, invalid_wanted, lone_wanted, status_wanted, stray_wanted}
 use Rattle.xhci_control.specs.declared.pipe.Served.{Served}
 use Rattle.xhci_control.specs.Steps.{ControlWorld, stepped}
 use Rattle.xhci_control.specs.Wanted.{control_wanted}
-use Rattle.xhci_machine.specs.Rounds.{command_pipe_stepped, control_stepped, control_world, data_of, invalid_stepped, served, status_of, transfers_world}
+use Rattle.xhci_machine.specs.Rounds.{command_pipe_stepped, control_stepped, control_world, data_of, ring_on, served, stall_error, status_of, stray_stepped, transfers_world}
 use Rattle.xhci_machine.specs.Turns.{World}
-use Rattle.xhci_machine.specs.Wanted.{acts_on_data, acts_on_status, command_pipe_looked, control_looked, invalid_looked, is_due, lacks_nothing, needs}
+use Rattle.xhci_machine.specs.Contexts.{context_wanted, is_due}
+use Rattle.xhci_machine.specs.Wanted.{acts_on_data, acts_on_status, command_pipe_looked, control_looked, lacks_nothing, needs, stray_looked}
 use Rattle.xhci_machine.specs.Wanted.{tag_context_wanted, tag_looked, then_look, unless}
-use Rattle.xhci_machine.proofs.Taken.{idle_gate, needs_nothing, wants_nothing}
+use Rattle.xhci_machine.proofs.Taken.{idle_gate, needs_context, needs_nothing, of_there, wants_nothing}
 
 -- ENDPOINT 0
 
@@ -33,9 +36,11 @@ pub control_taken : ((w : ControlWorld) → control_wanted w ≡ None → is_som
     → (w : World) → lacks_nothing (control_looked w.memory w.machine w.events) ≡ true → is_some (control_stepped w).1 ≡ true
 unfolding control_looked control_stepped
 control_taken law w is =
-    serves w (stepped (control_world w)) (law (control_world w)
-    (wants_nothing (is_due w.machine.control.consumer) w.memory w.machine (control_wanted (control_world w))
-    (idle_gate w.memory w.events w.machine.control.consumer _) is))
+    let due : Bool = is_due w.machine.control.consumer in
+    of_there w due _ (needs_context due w.memory w.machine (control_wanted (control_world w)) is)
+    (serves w (stepped (control_world w)) (law (control_world w)
+    (wants_nothing due w.memory w.machine (control_wanted (control_world w))
+    (idle_gate w.memory w.events w.machine.control.consumer _) is)))
 
 -- THE PIPES
 
@@ -43,40 +48,68 @@ pub command_pipe_taken : ((w : TransfersWorld GuestTasks) → command_wanted tas
     → (w : World) → lacks_nothing (command_pipe_looked w.memory w.machine w.events) ≡ true → is_some (command_pipe_stepped w).1 ≡ true
 unfolding command_pipe_looked command_pipe_stepped
 command_pipe_taken law w is =
-    law (transfers_world w)
-    (wants_nothing (is_due w.machine.transfers.command) w.memory w.machine (command_wanted tasks_kind (transfers_world w))
-    (idle_gate w.memory w.events w.machine.transfers.command _) is)
+    let due : Bool = is_due w.machine.transfers.command in
+    let wanted = command_wanted tasks_kind (transfers_world w) in
+    of_there w due _ (needs_context due w.memory w.machine wanted is)
+    (law (transfers_world w) (wants_nothing due w.memory w.machine wanted (idle_gate w.memory w.events w.machine.transfers.command _) is))
 
-not_invalid : (memory : Memory) (events : EventEnd) (p : PipeState) → (is_running p.state && p.invalid) ≡ false → invalid_wanted memory events p ≡ None
-not_invalid memory events p rests = ap (λ (b : Bool). if b then wanted_through (room_gate memory events) events None else None) rests
+not_stray : (memory : Memory) (events : EventEnd) (p : PipeState) → (is_running p.state && has_stray p) ≡ false → stray_wanted memory events p ≡ None
+not_stray memory events p rests = by_kind (p.streams == 0) rests
+  where
+    by_kind : (alone : Bool) → (is_running p.state && (if alone then rung_on p 0 else p.invalid)) ≡ false
+        → (if alone then lone_wanted memory events p else invalid_wanted memory events p) ≡ None
+    by_kind true rests = idle_gate memory events (loaded p 0) _ rests
+    by_kind false rests = ap (λ (b : Bool). if b then wanted_through (room_gate memory events) events None else None) rests
 
-pub invalid_taken : ((memory : Memory) (events : EventEnd) (t : TransfersState) (name : StreamPipe) → invalid_wanted memory events (pipe_of t name) ≡ None
-    → is_some (invalid_on memory events t name).1.1.1 ≡ true)
-    → (w : World) (name : StreamPipe) → lacks_nothing (invalid_looked w.memory w.machine w.events name) ≡ true → is_some (invalid_stepped w name).1 ≡ true
-unfolding invalid_looked invalid_stepped
-invalid_taken law w name is =
+pub stray_taken : ((memory : Memory) (events : EventEnd) (t : TransfersState) (name : StreamPipe) → stray_wanted memory events (pipe_of t name) ≡ None
+    → is_some (stray_on stall_error memory events t name).1.1.1 ≡ true)
+    → (w : World) (name : StreamPipe) → lacks_nothing (stray_looked w.memory w.machine w.events name) ≡ true → is_some (stray_stepped w name).1 ≡ true
+unfolding stray_looked stray_stepped
+stray_taken law w name is =
     let pipe = pipe_of w.machine.transfers name in
-    law w.memory w.events w.machine.transfers name
-    (wants_nothing (is_running pipe.state && pipe.invalid) w.memory w.machine (invalid_wanted w.memory w.events pipe)
-    (not_invalid w.memory w.events pipe) is)
+    let due : Bool = is_running pipe.state && has_stray pipe in
+    let wanted = stray_wanted w.memory w.events pipe in
+    of_there w due _ (needs_context due w.memory w.machine wanted is)
+    (law w.memory w.events w.machine.transfers name (wants_nothing due w.memory w.machine wanted (not_stray w.memory w.events pipe) is))
 
 -- A TAG
+
+-- a ring of a tag that is due needs the context
+due_in : (data_in data_out status : Bool) (wanted : Option Range) → (if data_in || (data_out || status) then wanted else None) ≡ None
+    → (data_in || data_out) ≡ true → wanted ≡ None
+due_in true data_out status wanted none due = none
+due_in false true status wanted none due = none
+due_in false false status wanted none due = absurd (false≢true due)
+
+due_last : (data_in data_out status : Bool) (wanted : Option Range) → (if data_in || (data_out || status) then wanted else None) ≡ None
+    → status ≡ true → wanted ≡ None
+due_last true data_out status wanted none due = none
+due_last false true status wanted none due = none
+due_last false false true wanted none due = none
+due_last false false false wanted none due = absurd (false≢true due)
 
 pub data_taken : ((w : TransfersWorld GuestTasks) (tag : ℕ) → data_wanted tasks_kind w tag ≡ None → is_some (data_stepped tasks_kind w tag).1 ≡ true)
     → (w : World) (tag : ℕ) → lacks_nothing (tag_looked w.memory w.machine w.events tag) ≡ true → is_some (data_of w tag).1 ≡ true
 unfolding tag_looked data_of
 data_taken law w tag is =
-    let behind = (needs_nothing (tag_context_wanted w.memory w.machine tag) _ is).1 in
-    law (transfers_world w) tag (needs_nothing (data_wanted tasks_kind (transfers_world w) tag) _ behind).0
+    let parts = needs_nothing (tag_context_wanted w.memory w.machine tag) _ is in
+    let data_in : Bool = is_due (ring_on w.machine DataIn tag) in
+    let data_out : Bool = is_due (ring_on w.machine DataOut tag) in
+    of_there w (data_in || data_out) _
+    (due_in data_in data_out (is_due (ring_on w.machine Status tag)) (context_wanted w.memory w.machine.slot) parts.0)
+    (law (transfers_world w) tag (needs_nothing (data_wanted tasks_kind (transfers_world w) tag) _ parts.1).0)
 
 pub status_taken : ((w : TransfersWorld GuestTasks) (tag : ℕ) → status_wanted tasks_kind w tag ≡ None → is_some (status_stepped tasks_kind w tag).1 ≡ true)
     → (w : World) (tag : ℕ) → lacks_nothing (tag_looked w.memory w.machine w.events tag) ≡ true → acts_on_data w.memory w.machine tag ≡ false
     → is_some (status_of w tag).1 ≡ true
 unfolding tag_looked status_of
 status_taken law w tag is idle =
-    let behind = (needs_nothing (tag_context_wanted w.memory w.machine tag) _ is).1 in
-    let last = (needs_nothing (data_wanted tasks_kind (transfers_world w) tag) _ behind).1 in
-    law (transfers_world w) tag (by_test (acts_on_data w.memory w.machine tag) idle last)
+    let parts = needs_nothing (tag_context_wanted w.memory w.machine tag) _ is in
+    let last = (needs_nothing (data_wanted tasks_kind (transfers_world w) tag) _ parts.1).1 in
+    let status : Bool = is_due (ring_on w.machine Status tag) in
+    of_there w status _
+    (due_last (is_due (ring_on w.machine DataIn tag)) (is_due (ring_on w.machine DataOut tag)) status (context_wanted w.memory w.machine.slot) parts.0)
+    (law (transfers_world w) tag (by_test (acts_on_data w.memory w.machine tag) idle last))
   where
     by_test : (acts : Bool) → acts ≡ false
         → lacks_nothing (then_look (unless acts) (then_look (needs (status_wanted tasks_kind (transfers_world w) tag)) (unless (acts_on_status w.memory w.machine tag)))) ≡ true

@@ -11,7 +11,7 @@ use Rattle.guest_pipes.specs.declared.consumer.EndpointState.{EndpointState}
 use Rattle.guest_pipes.specs.declared.consumer.EndpointState.TheVariants.{Disabled, Running, Halted, Stopped, Error}
 use Rattle.guest_pipes.specs.Gate.{is_running}
 use Rattle.guest_pipes.specs.Pipe.{has_stream}
-use Rattle.guest_pipes.specs.Wanted.{front_wanted}
+use Rattle.guest_pipes.specs.Wanted.{front_wanted, ring_wanted}
 use Rattle.guest_transfers.specs.declared.control.StreamPipe.{StreamPipe}
 use Rattle.guest_transfers.specs.Orders.{pipe_of}
 use Rattle.xhci_slots.specs.Slots.{World as SlotWorld}
@@ -36,7 +36,7 @@ slot_world memory m = record { memory = memory; slot = m.slot }
 abbrev pub begun_wanted : Memory → Machine → Endpoint → ℕ → Option Range
 begun_wanted memory m Control stream = look_wanted memory (home.Endpoint m.control.home)
 begun_wanted memory m CommandPipe stream = look_wanted memory (home.Endpoint (pointer_home m.slot.context 2))
-begun_wanted memory m (Streams name) stream = front_wanted memory (pipe_of m.transfers name) stream
+begun_wanted memory m (Streams name) stream = ring_wanted memory (pipe_of m.transfers name) stream
 
 abbrev pub begun_or_none : Memory → Machine → Endpoint → Option ℕ → Option Range
 begun_or_none memory m endpoint None = None

@@ -5,6 +5,7 @@ pub mod Commands
 pub mod Interrupter
 pub mod Ring
 pub mod Turns
+pub mod Contexts
 pub mod Orders
 pub mod Steps
 pub mod Rounds

@@ -10,11 +10,11 @@ use Rattle.guest_pipes.specs.declared.consumer.Consumer.{Consumer}
 use Rattle.guest_pipes.specs.declared.consumer.EndpointState.{EndpointState}
 use Rattle.guest_pipes.specs.declared.consumer.EndpointState.TheVariants.{Disabled, Running, Halted, Stopped, Error}
 use Rattle.guest_pipes.specs.Gate.{stop_looked}
-use Rattle.guest_pipes.specs.Pipe.{PipeState, has_stream, home_of, loaded, progress_on, stopped}
+use Rattle.guest_pipes.specs.Pipe.{PipeState, has_stream, loaded, progress_on, ring_home, stopped}
 use Rattle.guest_pipes.specs.Step.{World as RingWorld, has_place}
 use Rattle.guest_transfers.specs.declared.control.StreamPipe.{StreamPipe}
 use Rattle.guest_transfers.specs.declared.control.StreamPipe.TheVariants.{Status, DataOut, DataIn}
-use Rattle.guest_transfers.specs.Orders.{command_forgotten, command_stopped, dequeue_moved, pipe_of, pipe_reset, with_pipe}
+use Rattle.guest_transfers.specs.Orders.{command_forgotten, command_stopped, dequeue_moved, lone_forgotten, pipe_of, pipe_reset, with_pipe}
 use Rattle.guest_transfers.specs.State.{TransfersState}
 use Rattle.xhci_control.specs.Steps.{control_stopped as control_stop, forgotten as control_forgotten, halt_reset, stopped as control_stopped}
 use Rattle.xhci_machine.specs.declared.Machine.{Machine}
@@ -23,6 +23,7 @@ use Rattle.xhci_machine.specs.declared.command.Order.TheVariants.{Reset, Stop, S
 use Rattle.xhci_machine.specs.declared.orders.Endpoint.{Endpoint}
 use Rattle.xhci_machine.specs.declared.orders.Endpoint.TheVariants.{Control, Command, Streams}
 use Rattle.xhci_machine.specs.declared.ring.Ended.{Ended}
+use Rattle.xhci_machine.specs.Contexts.{context_wanted}
 use Rattle.xhci_machine.specs.Ring.{ended, pointer_home}
 use Rattle.xhci_machine.specs.Turns.{World}
 
@@ -52,7 +53,7 @@ consumer_in m (Streams name) stream = loaded (pipe_of m.transfers name) stream
 abbrev pub home_in : Machine → Endpoint → ℕ → Home
 home_in m Control stream = home.Endpoint m.control.home
 home_in m Command stream = home.Endpoint (pointer_home m.slot.context 2)
-home_in m (Streams name) stream = home_of (pipe_of m.transfers name) stream
+home_in m (Streams name) stream = ring_home (pipe_of m.transfers name) stream
 
 -- STOP ENDPOINT (4.6.9)
 
@@ -164,7 +165,8 @@ unfoldable pub stream_moved : Memory → Machine → StreamPipe → ℕ → Curs
 stream_moved memory m name at cursor kind stream =
     if has_stream (pipe_of m.transfers name) stream
     then option_map (stream_success m) (dequeue_moved memory m.transfers name stream cursor (kind % 8))
-    else if stream == 0 && not (has_stream (pipe_of m.transfers name) 1) then option_map (with_success m) (pointer_set memory at cursor)
+    else if stream == 0 && not (has_stream (pipe_of m.transfers name) 1)
+    then option_map (with_success (record m { transfers = lone_forgotten m.transfers name })) (pointer_set memory at cursor)
     else Some (memory, (m, 34))
 
 unfoldable pub moved : Memory → Machine → Endpoint → ℕ → Cursor → ℕ → ℕ → Option (Memory × (Machine × ℕ))
@@ -205,9 +207,11 @@ with_slot slot (w, None) = (w, None)
 with_slot slot (w, Some None) = (w, Some None)
 with_slot slot (w, Some (Some code)) = (w, Some (Some (ended code slot)))
 
+-- of one of the disk's endpoints once the device context is tested, as it may change the endpoint's state there
 abbrev pub order_on : World → ℕ → ℕ → Order → Option Endpoint → World × Option (Option Ended)
 order_on w slot id order None = (w, Some (Some (ended 12 slot)))
-order_on w slot id order (Some endpoint) = with_slot slot (order_coded w endpoint id order)
+order_on w slot id order (Some endpoint) =
+    if is_some (context_wanted w.memory w.machine.slot) then (w, None) else with_slot slot (order_coded w endpoint id order)
 
 -- another slot than 1, or one that isn't enabled, has no endpoints
 unfoldable pub order_done : World → ℕ → ℕ → Order → World × Option (Option Ended)

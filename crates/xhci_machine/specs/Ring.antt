@@ -94,11 +94,21 @@ command_changed m Kept = m
 command_changed m Disabled = record m { transfers = command_disabled m.transfers }
 command_changed m (Set pointer entries) = record m { transfers = command_configured m.transfers (pointer_home m.slot.context 2) }
 
+-- an endpoint's ID (4.5.1)
+abbrev pub endpoint_id : StreamPipe → ℕ
+endpoint_id Status = 3
+endpoint_id DataOut = 4
+endpoint_id DataIn = 5
+
+-- where the stream contexts of a pipe are; of one without streams where the dequeue pointer of its one ring is (6.2.3)
+abbrev pub array_of : Machine → StreamPipe → ℕ → ℕ → ℕ
+array_of m name pointer entries = if entries == 0 then pointer_home m.slot.context (endpoint_id name) else pointer
+
 -- a pipe has at most 256 streams
 unfoldable pub pipe_changed : Machine → StreamPipe → Change → Machine
 pipe_changed m name Kept = m
 pipe_changed m name Disabled = record m { transfers = dropped m.transfers name }
-pipe_changed m name (Set pointer entries) = record m { transfers = pipe_added m.transfers name pointer (min entries 256) }
+pipe_changed m name (Set pointer entries) = record m { transfers = pipe_added m.transfers name (array_of m name pointer entries) (min entries 256) }
 
 abbrev pub pipes_changed : Machine → Changes → Machine
 pipes_changed m changes =

@@ -1,19 +1,25 @@
--- The steps that a round takes in turns, beside the port's and the command ring's: endpoint 0, the command pipe, doorbells of streams that
--- aren't there, and a tag's data and status. None of what a step did, and the Bool false: memory isn't there, and nothing behind that is done.
-use Rattle.std.specs.Prelude.{ℕ, ◌-◌, ◌==◌, Bool, true, false, if◌then◌else◌, Option, Some, None}
+-- The steps that a round takes in turns, beside the port's and the command ring's: endpoint 0, the command pipe, doorbells that no tag's turn
+-- serves, and a tag's data and status, each once the device context is tested. None of what a step did, and the Bool false: memory isn't
+-- there, and nothing behind that is done.
+use Rattle.std.specs.Prelude.{ℕ, ◌-◌, ◌==◌, Bool, true, false, ◌&&◌, ◌||◌, if◌then◌else◌, Option, Some, None}
 use Rattle.guest_memory.specs.Bytes.{Memory}
 use Rattle.guest_pipes.specs.declared.acted.Acted.{Acted}
+use Rattle.guest_pipes.specs.declared.consumer.Consumer.{Consumer}
+use Rattle.guest_pipes.specs.Gate.{is_running}
+use Rattle.guest_pipes.specs.Pipe.{has_stray, loaded}
 use Rattle.guest_rings.specs.Events.{EventEnd}
 use Rattle.guest_tasks.specs.declared.GuestTasks.{GuestTasks}
 use Rattle.guest_tasks.specs.Tasks.{tasks_kind}
 use Rattle.guest_transfers.specs.declared.control.StreamPipe.{StreamPipe}
 use Rattle.guest_transfers.specs.declared.control.StreamPipe.TheVariants.{Status, DataOut, DataIn}
-use Rattle.guest_transfers.specs.Orders.{data_stepped, invalid_on, tags_cleared}
+use Rattle.guest_transfers.specs.Orders.{data_stepped, stray_on, pipe_of, tags_cleared}
 use Rattle.guest_transfers.specs.State.{TransfersState, TransfersWorld}
 use Rattle.guest_transfers.specs.Steps.{command_stepped, status_stepped}
 use Rattle.uas_tasks.specs.Machine.{tasks_ended}
 use Rattle.xhci_control.specs.declared.pipe.Served.{Served}
 use Rattle.xhci_control.specs.Steps.{ControlWorld, stepped}
+use Rattle.xhci_machine.specs.declared.Machine.{Machine}
+use Rattle.xhci_machine.specs.Contexts.{of_endpoint, is_due}
 use Rattle.xhci_machine.specs.Steps.{commands_stepped}
 use Rattle.xhci_machine.specs.Turns.{World, left_after, noted, port_turned, settled, tells_port}
 
@@ -60,15 +66,21 @@ served w (after, None) = (with_control w after, None)
 served w (after, Some how) = (restarted how.restarted (with_control w after), Some how.acted)
 
 unfoldable pub control_stepped : World → World × Option Acted
-control_stepped w = served w (stepped (control_world w))
+control_stepped w = of_endpoint w (is_due w.machine.control.consumer) (served w (stepped (control_world w)))
 
--- A DOORBELL OF A STREAM THAT ISN'T THERE
+-- A DOORBELL THAT NO TAG'S TURN SERVES: of a stream that isn't there, or of a pipe without streams
 
-abbrev pub with_invalid : World → Memory × (EventEnd × (TransfersState × Option Acted)) → World × Option Acted
-with_invalid w after = (record { memory = after.0; events = after.1.0; machine = record w.machine { transfers = after.1.1.0 } }, after.1.1.1)
+-- The disk has no ring without streams: a TD there is told with Stall Error (table 6-90).
+abbrev pub stall_error : ℕ
+stall_error = 6
 
-unfoldable pub invalid_stepped : World → StreamPipe → World × Option Acted
-invalid_stepped w name = with_invalid w (invalid_on w.memory w.events w.machine.transfers name)
+abbrev pub with_stray : World → Memory × (EventEnd × (TransfersState × Option Acted)) → World × Option Acted
+with_stray w after = (record { memory = after.0; events = after.1.0; machine = record w.machine { transfers = after.1.1.0 } }, after.1.1.1)
+
+unfoldable pub stray_stepped : World → StreamPipe → World × Option Acted
+stray_stepped w name =
+    of_endpoint w (is_running (pipe_of w.machine.transfers name).state && has_stray (pipe_of w.machine.transfers name))
+    (with_stray w (stray_on stall_error w.memory w.events w.machine.transfers name))
 
 -- THE PIPES OF THE TASKS
 
@@ -86,13 +98,21 @@ with_transfers w after = (
 )
 
 unfoldable pub command_pipe_stepped : World → World × Option Acted
-command_pipe_stepped w = with_transfers w (command_stepped tasks_kind (transfers_world w))
+command_pipe_stepped w =
+    of_endpoint w (is_due w.machine.transfers.command) (with_transfers w (command_stepped tasks_kind (transfers_world w)))
+
+-- one ring of a tag
+abbrev pub ring_on : Machine → StreamPipe → ℕ → Consumer
+ring_on m name tag = loaded (pipe_of m.transfers name) tag
 
 unfoldable pub data_of : World → ℕ → World × Option Acted
-data_of w tag = with_transfers w (data_stepped tasks_kind (transfers_world w) tag)
+data_of w tag =
+    of_endpoint w (is_due (ring_on w.machine DataIn tag) || is_due (ring_on w.machine DataOut tag))
+    (with_transfers w (data_stepped tasks_kind (transfers_world w) tag))
 
 unfoldable pub status_of : World → ℕ → World × Option Acted
-status_of w tag = with_transfers w (status_stepped tasks_kind (transfers_world w) tag)
+status_of w tag =
+    of_endpoint w (is_due (ring_on w.machine Status tag)) (with_transfers w (status_stepped tasks_kind (transfers_world w) tag))
 
 -- A ROUND, UP TO THE TAGS: each turn comes while memory is there
 
@@ -108,13 +128,13 @@ abbrev pub then_control : Turning → Turning
 then_control (at, false) = (at, false)
 then_control (at, true) = turned at.1 at.0 (control_stepped at.0)
 
-abbrev pub then_invalid : StreamPipe → Turning → Turning
-then_invalid name (at, false) = (at, false)
-then_invalid name (at, true) = turned at.1 at.0 (invalid_stepped at.0 name)
+abbrev pub then_stray : StreamPipe → Turning → Turning
+then_stray name (at, false) = (at, false)
+then_stray name (at, true) = turned at.1 at.0 (stray_stepped at.0 name)
 
--- the command pipe, and then doorbells of streams that aren't there
+-- the command pipe, and then doorbells that no tag's turn serves
 unfoldable pub pipes_turned : ℕ → World → Turning
-pipes_turned left w = then_invalid DataIn (then_invalid DataOut (then_invalid Status (turned left w (command_pipe_stepped w))))
+pipes_turned left w = then_stray DataIn (then_stray DataOut (then_stray Status (turned left w (command_pipe_stepped w))))
 
 abbrev pub then_pipes : Turning → Turning
 then_pipes (at, false) = (at, false)

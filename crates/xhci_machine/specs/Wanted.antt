@@ -9,7 +9,7 @@ use Rattle.guest_rings.specs.Events.{EventEnd, has_room}
 use Rattle.guest_rings.specs.Wanted.{missing}
 use Rattle.guest_pipes.specs.declared.consumer.Consumer.{Consumer}
 use Rattle.guest_pipes.specs.Gate.{is_running}
-use Rattle.guest_pipes.specs.Pipe.{home_of, loaded}
+use Rattle.guest_pipes.specs.Pipe.{has_stray, home_of}
 use Rattle.guest_pipes.specs.Wanted.{place_range}
 use Rattle.guest_tags.specs.declared.buffer.Buffer.{Buffer}
 use Rattle.guest_tags.specs.declared.device.Phase.{Phase}
@@ -22,13 +22,10 @@ use Rattle.guest_transfers.specs.declared.control.StreamPipe.{StreamPipe}
 use Rattle.guest_transfers.specs.declared.control.StreamPipe.TheVariants.{Status, DataOut, DataIn}
 use Rattle.guest_transfers.specs.Orders.{pipe_of}
 use Rattle.guest_transfers.specs.State.{TransfersWorld, slot_of}
-use Rattle.guest_transfers.specs.Wanted.{command_wanted as pipe_wanted, data_wanted, invalid_wanted, status_wanted}
+use Rattle.guest_transfers.specs.Wanted.{command_wanted as pipe_wanted, data_wanted, stray_wanted, status_wanted}
 use Rattle.marks.specs.Marks.{is_marked}
-use Rattle.xhci_contexts.specs.declared.SlotState.{SlotState}
-use Rattle.xhci_contexts.specs.declared.SlotState.TheVariants.{Enabled, Default, Addressed, Configured}
 use Rattle.xhci_control.specs.Wanted.{control_wanted}
 use Rattle.xhci_registers.specs.Signals.{detecting}
-use Rattle.xhci_slots.specs.declared.Slot.{Slot}
 use Rattle.xhci_slots.specs.Wanted.{tell_wanted}
 use Rattle.xhci_machine.specs.declared.Machine.{Machine}
 use Rattle.xhci_machine.specs.declared.interrupts.Seen.{Seen}
@@ -36,9 +33,11 @@ use Rattle.xhci_machine.specs.declared.interrupts.Seen.TheVariants.{Lacks as Lac
 use Rattle.xhci_machine.specs.declared.states.States.{States}
 use Rattle.xhci_machine.specs.declared.wanting.End.{End}
 use Rattle.xhci_machine.specs.declared.wanting.End.TheVariants.{Lacks, Acts}
+use Rattle.xhci_machine.specs.Contexts.{context_wanted, is_asleep, is_due}
 use Rattle.xhci_machine.specs.Interrupter.{seen}
 use Rattle.xhci_machine.specs.Lacking.{command_wanted}
 use Rattle.xhci_machine.specs.Ring.{has_command, states_of}
+use Rattle.xhci_machine.specs.Rounds.{ring_on}
 use Rattle.xhci_machine.specs.Turns.{same_state}
 use Rattle.xhci_machine.specs.Worked.{is_busy, is_gone}
 
@@ -76,24 +75,9 @@ lacks_nothing (Err Acts) = true
 abbrev pub place_wanted : Memory → EventEnd → Option Range
 place_wanted memory events = missing memory (place_range events) None
 
--- the device context, where the slot has one
-abbrev pub context_wanted_in : Memory → Slot → Option SlotState → Option Range
-context_wanted_in memory slot None = None
-context_wanted_in memory slot (Some Enabled) = None
-context_wanted_in memory slot (Some Default) = tell_wanted (record { memory = memory; slot = slot })
-context_wanted_in memory slot (Some Addressed) = tell_wanted (record { memory = memory; slot = slot })
-context_wanted_in memory slot (Some Configured) = tell_wanted (record { memory = memory; slot = slot })
-
-abbrev pub context_wanted : Memory → Slot → Option Range
-context_wanted memory slot = context_wanted_in memory slot slot.state
-
 -- the device context before a step that may change an endpoint's state, and then what the step needs
 abbrev pub acts_in_context : Memory → Machine → Option Range → Look
 acts_in_context memory m wanted = then_look (needs (context_wanted memory m.slot)) (acts wanted)
-
--- a ring that is looked at: its endpoint runs, and its doorbell was rung
-abbrev pub is_due : Consumer → Bool
-is_due consumer = is_running consumer.state && consumer.rung
 
 -- THE TURNS BEFORE THE TAGS'
 
@@ -122,11 +106,11 @@ unfoldable pub command_pipe_looked : Memory → Machine → EventEnd → Look
 command_pipe_looked memory m events =
     if is_due m.transfers.command then acts_in_context memory m (pipe_wanted tasks_kind (transfers_at memory m events)) else Ok tt
 
--- a doorbell of a stream that isn't there
-unfoldable pub invalid_looked : Memory → Machine → EventEnd → StreamPipe → Look
-invalid_looked memory m events name =
-    if is_running (pipe_of m.transfers name).state && (pipe_of m.transfers name).invalid
-    then acts_in_context memory m (invalid_wanted memory events (pipe_of m.transfers name)) else Ok tt
+-- a doorbell that no tag's turn serves
+unfoldable pub stray_looked : Memory → Machine → EventEnd → StreamPipe → Look
+stray_looked memory m events name =
+    if is_running (pipe_of m.transfers name).state && has_stray (pipe_of m.transfers name)
+    then acts_in_context memory m (stray_wanted memory events (pipe_of m.transfers name)) else Ok tt
 
 -- A TAG'S TURN
 
@@ -150,10 +134,6 @@ is_ended (Ended end) = true
 
 abbrev pub phase_on : Machine → ℕ → Phase
 phase_on m tag = tasks_kind.phase m.device tag
-
--- one ring of a tag
-abbrev pub ring_on : Machine → StreamPipe → ℕ → Consumer
-ring_on m name tag = loaded (pipe_of m.transfers name) tag
 
 abbrev pub has_due_ring : Machine → ℕ → Bool
 has_due_ring m tag = is_due (ring_on m DataIn tag) || (is_due (ring_on m DataOut tag) || is_due (ring_on m Status tag))
@@ -218,16 +198,22 @@ tags_looked memory m events (suc tag) = then_look (tags_looked memory m events t
 
 -- A ROUND
 
+-- the turns of endpoints
+unfoldable pub endpoints_looked : Memory → Machine → EventEnd → Look
+endpoints_looked memory m events =
+    then_look (control_looked memory m events)
+    (then_look (command_pipe_looked memory m events)
+    (then_look (stray_looked memory m events Status)
+    (then_look (stray_looked memory m events DataOut)
+    (then_look (stray_looked memory m events DataIn)
+    (tags_looked memory m events 241)))))
+
+-- while the port is suspended none of those is due
 unfoldable pub turns_looked : Memory → Machine → EventEnd → Look
 turns_looked memory m events =
     then_look (port_looked memory m events)
     (then_look (commands_looked memory m events)
-    (then_look (control_looked memory m events)
-    (then_look (command_pipe_looked memory m events)
-    (then_look (invalid_looked memory m events Status)
-    (then_look (invalid_looked memory m events DataOut)
-    (then_look (invalid_looked memory m events DataIn)
-    (tags_looked memory m events 241)))))))
+    (if is_asleep m then Ok tt else endpoints_looked memory m events))
 
 abbrev pub same_states : States → States → Bool
 same_states was now =

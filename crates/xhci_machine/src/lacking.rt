@@ -127,7 +127,7 @@ impl Machine {
                 let at = pointer_home(self.slot.context, 2);
                 look_wants(memory, Home::Endpoint { at })
             }
-            Endpoint::Streams(name) => self.transfers.pipe(name).front_wants(memory, stream),
+            Endpoint::Streams(name) => self.transfers.pipe(name).ring_wants(memory, stream),
         }
     }
 

@@ -1,9 +1,9 @@
 //! What follows of what a call of [`crate::Machine::work`] makes, as functions with empty bodies.
 ghost use Rattle.std.specs.Prelude.{◌≡◌, ℕ, ◌<◌, ◌≤◌, true, false, ◌⊎◌, is_some};
 ghost use Rattle.guest_transfers.specs.declared.control.StreamPipe.{StreamPipe};
-ghost use Rattle.xhci_machine.specs.Rounds.{command_pipe_stepped, control_stepped, data_of, invalid_stepped, status_of};
+ghost use Rattle.xhci_machine.specs.Rounds.{command_pipe_stepped, control_stepped, data_of, stray_stepped, status_of};
 ghost use Rattle.xhci_machine.specs.Steps.{commands_stepped};
-ghost use Rattle.xhci_machine.specs.Wanted.{acts_on_data, command_pipe_looked, commands_looked, control_looked, invalid_looked, lacks_nothing, tag_looked};
+ghost use Rattle.xhci_machine.specs.Wanted.{acts_on_data, command_pipe_looked, commands_looked, control_looked, stray_looked, lacks_nothing, tag_looked};
 ghost use Rattle.xhci_machine.specs.declared.work.Worked.{Worked};
 ghost use Rattle.xhci_machine.specs.Laws.{HasItsTurn, IsFailed, IsLastIdle, IsLeftIdle, IsTaskIdle};
 ghost use Rattle.guest_tasks.specs.Active.{TasksAreActive};
@@ -63,8 +63,8 @@ pub fn control_that_lacks_nothing_is_stepped()
 /// And one of the tasks' pipes: of a tag's status where the step is surely not of its data.
 pub fn pipes_that_lack_nothing_are_stepped()
     ensures of_command { (w : World) → lacks_nothing (command_pipe_looked w.memory w.machine w.events) ≡ true → is_some (command_pipe_stepped w).1 ≡ true }
-    ensures of_invalid { (w : World) (name : StreamPipe) → lacks_nothing (invalid_looked w.memory w.machine w.events name) ≡ true
-        → is_some (invalid_stepped w name).1 ≡ true }
+    ensures of_stray { (w : World) (name : StreamPipe) → lacks_nothing (stray_looked w.memory w.machine w.events name) ≡ true
+        → is_some (stray_stepped w name).1 ≡ true }
     ensures of_data { (w : World) (tag : ℕ) → lacks_nothing (tag_looked w.memory w.machine w.events tag) ≡ true → is_some (data_of w tag).1 ≡ true }
     ensures of_status { (w : World) (tag : ℕ) → lacks_nothing (tag_looked w.memory w.machine w.events tag) ≡ true
         → acts_on_data w.memory w.machine tag ≡ false → is_some (status_of w tag).1 ≡ true }

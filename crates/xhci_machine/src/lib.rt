@@ -16,9 +16,12 @@
 //! 3. Each step asks two free places of the event ring. Where there are none it isn't due, and Event Ring Full Error takes the last
 //!    place once.
 //! 4. Memory that isn't there, where the controller's own data structures should be, is a host system error: HSE is set, the
-//!    controller halts, and nothing else of that step happens. So is an ERDP outside the segment.
+//!    controller halts, and nothing else of that step happens. So is an ERDP outside the segment. A step that may change an endpoint's
+//!    state tests the device context first, and so posts nothing where it isn't there.
 //! 5. A doorbell starts an endpoint that is stopped; its context says so from the next step on.
 //! 6. A tag whose request is at the backend waits; no other tag does.
+//! 7. A pipe without streams has one ring, whose end is in the endpoint context. The disk serves none: a TD there is told with Stall Error.
+//! 8. While the port is suspended no endpoint has a step, and doorbells wait.
 //!
 //! What is promised: every call is safe and total, for any bytes in memory, any register access and any order; no step takes memory
 //! ([`Machine::new`] takes all). A read is `read_of`, and the interrupt's pin `is_asserted`. Of the whole machine, a write is `page_done`, with

@@ -73,7 +73,8 @@ fn set_pointer<M: GuestMemory>(memory: &mut M, at: u64, cursor: Cursor) -> Resul
 }
 
 impl Machine {
-    /// Executes a command on an endpoint; None where it isn't over yet.
+    /// Executes a command on an endpoint; None where it isn't over yet. It may change the endpoint's state, so the device context is
+    /// tested before. Refused where a byte of that or of what else it needs isn't there.
     #[tactic(auto, unfolding(crate::specs::Orders::order_done))]
     pub(crate) fn order<M: GuestMemory>(
         &mut self,
@@ -93,6 +94,9 @@ impl Machine {
         let Some(endpoint) = endpoint_of(id) else {
             return Ok(Some(end_with(ENDPOINT_NOT_ENABLED, slot)));
         };
+        if self.wants_context(memory).is_some() {
+            return Err(Outside);
+        }
         match self.order_on(memory, events, endpoint, id, order)? {
             Some(code) => Ok(Some(end_with(code, slot))),
             None => Ok(None),
@@ -362,6 +366,7 @@ impl Machine {
             Ok(SUCCESS)
         } else if stream == 0 && !pipe.has_stream(1) {
             set_pointer(memory, at, cursor)?;
+            self.transfers.forget_lone(name);
             Ok(SUCCESS)
         } else {
             Ok(INVALID_STREAM_ID)

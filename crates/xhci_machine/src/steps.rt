@@ -1,16 +1,48 @@
-//! The steps of endpoint 0, of the command pipe, for a doorbell of a stream that isn't there, and of a tag. Each is refused where memory that
-//! it needs isn't there.
-ghost use Rattle.std.specs.Prelude.{◌≡◌, ◌<◌};
+//! The steps of endpoint 0, of the command pipe, for a doorbell that no tag's turn serves, and of a tag. While the port is
+//! suspended none of them is due. Each tests the device context before it does anything, as it may change an endpoint's state there, and is refused
+//! where memory that it needs isn't there.
+ghost use Rattle.std.specs.Prelude.{◌≡◌, ◌<◌, is_ok, not};
 ghost use Rattle.std.specs.Result.{result_ok};
-ghost use Rattle.xhci_machine.specs.Rounds.{command_pipe_stepped, control_stepped, data_of, invalid_stepped, status_of};
+ghost use Rattle.xhci_machine.specs.Contexts.{is_asleep, lacks_context};
+ghost use Rattle.xhci_machine.specs.Rounds.{command_pipe_stepped, control_stepped, data_of, stray_stepped, status_of};
 
 use crate::Machine;
+use crate::wanting::is_due;
 use guest_memory::{GuestMemory, Outside};
 use guest_pipes::Acted;
 use guest_rings::EventRing;
 use guest_transfers::StreamPipe;
+use xhci_registers::Link;
+
+/// Completion code of a TD in a ring without streams, which the disk doesn't have (table 6-90).
+const STALL_ERROR: u8 = 6;
 
 impl Machine {
+    /// Whether the port is suspended: no endpoint has a step then, and the doorbells stay (4.15.1).
+    pub(crate) fn is_asleep(&self) -> bool
+        ensures { result ≡ is_asleep self.now }
+    {
+        matches!(self.registers.port.link, Link::U3)
+    }
+
+    /// Tests the device context before a step that may change an endpoint's state in it (4.8.3, 4.10.2.6). One that isn't due, or that a
+    /// full event ring holds back, doesn't need it. Refused where a byte of it isn't there.
+    fn test_context<M: GuestMemory>(
+        &self,
+        memory: &M,
+        events: &EventRing,
+        due: bool,
+    ) -> Result<(), Outside>
+        ensures { is_ok result
+            ≡ not (lacks_context (record { memory = M.contents memory.now; events = events.now; machine = self.now }) due) }
+    {
+        if due && events.has_room() && self.wants_context(memory).is_some() {
+            Err(Outside)
+        } else {
+            Ok(())
+        }
+    }
+
     /// A step of endpoint 0. One that configures the disk anew ends every task.
     #[tactic(auto, unfolding(crate::specs::Rounds::control_stepped))]
     pub(crate) fn step_control<M: GuestMemory>(
@@ -22,6 +54,10 @@ impl Machine {
             ≡ control_stepped (record { memory = M.contents memory.old; events = events.old; machine = self.old }) }
         ensures same_loan { M.loan memory.new ≡ M.loan memory.old }
     {
+        if self.is_asleep() {
+            return Ok(Acted::Idle);
+        }
+        self.test_context(memory, events, self.control.is_due())?;
         let served = self.control.step(memory, events)?;
         if served.restarted {
             self.device.end_tasks();
@@ -40,23 +76,32 @@ impl Machine {
             ≡ command_pipe_stepped (record { memory = M.contents memory.old; events = events.old; machine = self.old }) }
         ensures same_loan { M.loan memory.new ≡ M.loan memory.old }
     {
+        if self.is_asleep() {
+            return Ok(Acted::Idle);
+        }
+        self.test_context(memory, events, is_due(&self.transfers.command()))?;
         self.transfers
             .step_command(memory, events, &mut self.device)
     }
 
-    #[tactic(auto, unfolding(crate::specs::Rounds::invalid_stepped))]
-    pub(crate) fn step_invalid<M: GuestMemory>(
+    #[tactic(auto, unfolding(crate::specs::Rounds::stray_stepped))]
+    pub(crate) fn step_stray<M: GuestMemory>(
         &mut self,
         memory: &mut M,
         events: &mut EventRing,
         name: StreamPipe,
     ) -> Result<Acted, Outside>
         ensures stepped { (record { memory = M.contents memory.new; events = events.new; machine = self.new }, result_ok result)
-            ≡ invalid_stepped (record { memory = M.contents memory.old; events = events.old; machine = self.old }) name }
+            ≡ stray_stepped (record { memory = M.contents memory.old; events = events.old; machine = self.old }) name }
         ensures device { self.new.device ≡ self.old.device }
         ensures same_loan { M.loan memory.new ≡ M.loan memory.old }
     {
-        self.transfers.step_invalid(memory, events, name)
+        if self.is_asleep() {
+            return Ok(Acted::Idle);
+        }
+        let pipe = self.transfers.pipe(name);
+        self.test_context(memory, events, pipe.state().runs() && pipe.has_stray())?;
+        self.transfers.step_stray(memory, events, name, STALL_ERROR)
     }
 
     #[tactic(auto, unfolding(crate::specs::Rounds::data_of))]
@@ -71,6 +116,12 @@ impl Machine {
             ≡ data_of (record { memory = M.contents memory.old; events = events.old; machine = self.old }) tag }
         ensures same_loan { M.loan memory.new ≡ M.loan memory.old }
     {
+        if self.is_asleep() {
+            return Ok(Acted::Idle);
+        }
+        let due = is_due(&self.transfers.pipe(StreamPipe::DataIn).consumer(tag))
+            || is_due(&self.transfers.pipe(StreamPipe::DataOut).consumer(tag));
+        self.test_context(memory, events, due)?;
         self.transfers
             .step_data(memory, events, &mut self.device, tag)
     }
@@ -87,6 +138,11 @@ impl Machine {
             ≡ status_of (record { memory = M.contents memory.old; events = events.old; machine = self.old }) tag }
         ensures same_loan { M.loan memory.new ≡ M.loan memory.old }
     {
+        if self.is_asleep() {
+            return Ok(Acted::Idle);
+        }
+        let due = is_due(&self.transfers.pipe(StreamPipe::Status).consumer(tag));
+        self.test_context(memory, events, due)?;
         self.transfers
             .step_status(memory, events, &mut self.device, tag)
     }

@@ -2,7 +2,7 @@
 ghost use Rattle.std.specs.Prelude.{◌≡◌, ◌<◌, ◌≤◌, ◌-◌, ◌==◌, ◌&&◌, is_ok, true, false, if◌then◌else◌};
 ghost use Rattle.guest_pipes.specs.Step.{has_place};
 ghost use Rattle.guest_rings.specs.Events.{has_room};
-ghost use Rattle.xhci_machine.specs.Rounds.{command_pipe_stepped, control_stepped, data_of, front_turned, invalid_stepped, pipes_turned, port_in, status_of, turned};
+ghost use Rattle.xhci_machine.specs.Rounds.{command_pipe_stepped, control_stepped, data_of, front_turned, stray_stepped, pipes_turned, port_in, status_of, turned};
 ghost use Rattle.xhci_machine.specs.Steps.{commands_stepped};
 ghost use Rattle.xhci_machine.specs.Worked.{busy_turned, gone_dropped, is_busy, is_gone, tag_turned, tags_turned};
 ghost use Rattle.xhci_machine.specs.Turns.{interrupted, left_after, noted, port_turned, settled, tells_port, told_of_port};
@@ -191,8 +191,8 @@ impl Machine {
         self.note(memory, events, turn, acted)
     }
 
-    /// A doorbell of a stream that isn't there.
-    fn turn_invalid<M: GuestMemory>(
+    /// A doorbell that no tag's turn serves.
+    fn turn_stray<M: GuestMemory>(
         &mut self,
         memory: &mut M,
         events: &mut EventRing,
@@ -201,14 +201,14 @@ impl Machine {
     ) -> Result<(), Outside>
         ensures turned { ((record { memory = M.contents memory.new; events = events.new; machine = self.new }, turn.new.left), is_ok result)
             ≡ turned turn.old.left (record { memory = M.contents memory.old; events = events.old; machine = self.old })
-            (invalid_stepped (record { memory = M.contents memory.old; events = events.old; machine = self.old }) name) }
+            (stray_stepped (record { memory = M.contents memory.old; events = events.old; machine = self.old }) name) }
         ensures device { self.new.device ≡ self.old.device }
         ensures same_loan { M.loan memory.new ≡ M.loan memory.old }
     {
         if turn.is_over() {
             return Ok(());
         }
-        let acted = self.step_invalid(memory, events, name)?;
+        let acted = self.step_stray(memory, events, name)?;
         self.note(memory, events, turn, acted)
     }
 
@@ -252,7 +252,7 @@ impl Machine {
         self.note(memory, events, turn, acted)
     }
 
-    /// The command pipe, and then doorbells of streams that aren't there.
+    /// The command pipe, and then doorbells that no tag's turn serves.
     #[tactic(auto, unfolding(crate::specs::Rounds::pipes_turned))]
     fn turn_pipes<M: GuestMemory>(
         &mut self,
@@ -265,9 +265,9 @@ impl Machine {
         ensures same_loan { M.loan memory.new ≡ M.loan memory.old }
     {
         self.turn_command_pipe(memory, events, turn)?;
-        self.turn_invalid(memory, events, turn, StreamPipe::Status)?;
-        self.turn_invalid(memory, events, turn, StreamPipe::DataOut)?;
-        self.turn_invalid(memory, events, turn, StreamPipe::DataIn)
+        self.turn_stray(memory, events, turn, StreamPipe::Status)?;
+        self.turn_stray(memory, events, turn, StreamPipe::DataOut)?;
+        self.turn_stray(memory, events, turn, StreamPipe::DataIn)
     }
 
     /// The turns before the tags'.

@@ -11,7 +11,8 @@ ghost use Rattle.std.specs.Prelude.{◌≡◌, ◌<◌, None, IfSome, false};
 ghost use Rattle.guest_memory.specs.Bytes.{is_there};
 ghost use Rattle.xhci_machine.specs.Wanted.{acts, acts_for, acts_in, acts_on_data, acts_on_status, acts_out, busy_looked, command_pipe_looked};
 ghost use Rattle.xhci_machine.specs.Wanted.{commands_looked};
-ghost use Rattle.xhci_machine.specs.Wanted.{context_wanted, control_looked, has_due_ring, invalid_looked, is_due, is_ended, is_giving, is_taking};
+ghost use Rattle.xhci_machine.specs.Contexts.{context_wanted, is_due};
+ghost use Rattle.xhci_machine.specs.Wanted.{control_looked, endpoints_looked, has_due_ring, stray_looked, is_ended, is_giving, is_taking};
 ghost use Rattle.xhci_machine.specs.Wanted.{keeps_chunk, needs, port_looked, ring_looked, round_looked, same_states, tag_context_wanted, tag_looked};
 ghost use Rattle.xhci_machine.specs.Wanted.{tags_looked, told_wanted, turns_looked, unless, wanted};
 ghost use Rattle.xhci_machine.specs.Interrupter.{seen};
@@ -65,7 +66,7 @@ fn unless(acting: bool) -> Result<(), End>
 }
 
 /// Whether a consumer looks at its ring.
-fn is_due(consumer: &Consumer) -> bool
+pub(crate) fn is_due(consumer: &Consumer) -> bool
     ensures { result ≡ is_due consumer.now }
 {
     consumer.state.runs() && consumer.rung
@@ -163,23 +164,34 @@ impl Machine {
             && is_same(was.data_in, now.data_in)
     }
 
-    /// The turns, up to the one that acts.
+    /// The turns, up to the one that acts. While the port is suspended no endpoint has one.
     #[tactic(auto, unfolding(crate::specs::Wanted::turns_looked))]
     fn look_turns<M: GuestMemory>(&self, memory: &M, events: &EventRing) -> Result<(), End>
         ensures { result ≡ turns_looked (M.contents memory.now) self.now events.now }
     {
         self.look_port(memory, events)?;
         self.look_commands(memory, events)?;
+        if self.is_asleep() {
+            return Ok(());
+        }
+        self.look_endpoints(memory, events)
+    }
+
+    /// The turns of endpoints, up to the one that acts.
+    #[tactic(auto, unfolding(crate::specs::Wanted::endpoints_looked))]
+    fn look_endpoints<M: GuestMemory>(&self, memory: &M, events: &EventRing) -> Result<(), End>
+        ensures { result ≡ endpoints_looked (M.contents memory.now) self.now events.now }
+    {
         self.look_control(memory, events)?;
         self.look_command_pipe(memory, events)?;
-        self.look_invalid(memory, events, StreamPipe::Status)?;
-        self.look_invalid(memory, events, StreamPipe::DataOut)?;
-        self.look_invalid(memory, events, StreamPipe::DataIn)?;
+        self.look_stray(memory, events, StreamPipe::Status)?;
+        self.look_stray(memory, events, StreamPipe::DataOut)?;
+        self.look_stray(memory, events, StreamPipe::DataIn)?;
         self.look_tags(memory, events)
     }
 
     /// The device context, where the slot has one.
-    fn wants_context<M: GuestMemory>(&self, memory: &M) -> Option<Range>
+    pub(crate) fn wants_context<M: GuestMemory>(&self, memory: &M) -> Option<Range>
         ensures { result ≡ context_wanted (M.contents memory.now) self.now.slot }
     {
         match self.slot.state {
@@ -240,21 +252,21 @@ impl Machine {
         acts(self.transfers.wants_command(memory, events, &self.device))
     }
 
-    #[tactic(auto, unfolding(crate::specs::Wanted::invalid_looked))]
-    fn look_invalid<M: GuestMemory>(
+    #[tactic(auto, unfolding(crate::specs::Wanted::stray_looked))]
+    fn look_stray<M: GuestMemory>(
         &self,
         memory: &M,
         events: &EventRing,
         name: StreamPipe,
     ) -> Result<(), End>
-        ensures { result ≡ invalid_looked (M.contents memory.now) self.now events.now name }
+        ensures { result ≡ stray_looked (M.contents memory.now) self.now events.now name }
     {
         let pipe = self.transfers.pipe(name);
-        if !(pipe.state().runs() && pipe.is_invalid()) {
+        if !(pipe.state().runs() && pipe.has_stray()) {
             return Ok(());
         }
         needs(self.wants_context(memory))?;
-        acts(self.transfers.wants_invalid(memory, events, name))
+        acts(self.transfers.wants_stray(memory, events, name))
     }
 
     /// The active tags, up to the one that acts.

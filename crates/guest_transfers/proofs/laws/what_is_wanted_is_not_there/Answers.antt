@@ -1,6 +1,6 @@
 use Rattle.guest_transfers.proofs.DataSteps.{data_lacks}
 use Rattle.guest_transfers.proofs.Lacking.{command_lacks, status_lacks}
-use Rattle.guest_transfers.proofs.Invalid.{invalid_lacks}
+use Rattle.guest_transfers.proofs.Stray.{stray_lacks}
 use Rattle.guest_transfers.proofs.laws.what_is_wanted_is_not_there.Goals as goal
 
 pub returns : goal.returns
@@ -8,5 +8,5 @@ returns g c = record {
   of_data = λ w tag ends. data_lacks g.D.UasDevice.kind w tag ends;
   of_status = λ w tag ends. status_lacks g.D.UasDevice.kind w tag ends;
   of_command = λ w. command_lacks g.D.UasDevice.kind w;
-  of_invalid = λ memory events t name. invalid_lacks memory events t name;
+  of_stray = λ memory events t name. stray_lacks memory events t name;
 }

@@ -1,4 +1,5 @@
-use Rattle.xhci_machine.proofs.TurnsTaken.{command_pipe_taken, data_taken, invalid_taken, status_taken}
+use Rattle.xhci_machine.specs.Rounds.{stall_error}
+use Rattle.xhci_machine.proofs.TurnsTaken.{command_pipe_taken, data_taken, status_taken, stray_taken}
 use Rattle.xhci_machine.proofs.laws.pipes_that_lack_nothing_are_stepped.Goals as goal
 
 pub returns : goal.returns
@@ -6,7 +7,7 @@ returns c =
     let law = c.what_lacks_nothing_is_taken.ensures in
     record {
       of_command = command_pipe_taken law.of_command;
-      of_invalid = invalid_taken law.of_invalid;
+      of_stray = stray_taken (law.of_stray stall_error);
       of_data = data_taken law.of_data;
       of_status = status_taken law.of_status;
     }

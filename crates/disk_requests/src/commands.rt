@@ -1,5 +1,6 @@
 //! CDBs, and the UNMAP parameter list (SPC-4, SBC-3).
-ghost use Rattle.std.specs.Prelude.{◌≡◌};
+ghost use Rattle.std.specs.Prelude.{◌≡◌, ◌∷◌};
+ghost use Rattle.scsi_cmd.specs.Fields.{zeros};
 ghost use Rattle.disk_requests.specs.Commands.{asking_cdb, inquiry_cdb, is_wide, read_op, request_cdb, unmap_list, write_op};
 
 use crate::fields::{eight_bytes, four_bytes};
@@ -31,24 +32,7 @@ pub fn request_cdb(request: &Request, is_long: bool) -> [u8; 16]
     match *request {
         Request::Read { block, count } => cdb(&read_op(block, count, is_long)),
         Request::Write { block, count, fua } => cdb(&write_op(block, count, fua, is_long)),
-        Request::Sync if is_long => [
-            SYNCHRONIZE_CACHE_16,
-            0,
-            0,
-            0,
-            0,
-            0,
-            0,
-            0,
-            0,
-            0,
-            0,
-            0,
-            0,
-            0,
-            0,
-            0,
-        ],
+        Request::Sync if is_long => bare_command(SYNCHRONIZE_CACHE_16),
         Request::Sync => cdb(&Op::Sync { lba: 0, count: 0 }),
         Request::Unmap { .. } => [UNMAP, 0, 0, 0, 0, 0, 0, 0, UNMAP_BYTES, 0, 0, 0, 0, 0, 0, 0],
         Request::Ready => cdb(&Op::TestUnitReady),
@@ -94,6 +78,15 @@ fn is_wide(block: u64, count: u32, is_long: bool) -> bool
     ensures { result ≡ is_wide block count is_long }
 {
     is_long || block > u64::from(u32::MAX) || count > u32::from(u16::MAX)
+}
+
+/// A command without fields.
+fn bare_command(code: u8) -> [u8; 16]
+    ensures { result ≡ code ∷ zeros 15 }
+{
+    let mut bytes = [0; 16];
+    bytes[0] = code;
+    bytes
 }
 
 /// The CDB of a command of a bring-up.

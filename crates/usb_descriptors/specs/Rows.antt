@@ -1,9 +1,13 @@
--- Configurations byte by byte.
+-- Descriptors byte by byte.
 use Rattle.std.specs.Prelude.{◌≡◌, ℕ, List, [], ◌∷◌, ◌++◌, take, Ok, Err}
 use Rattle.usb_descriptors.specs.declared.Endpoint.{Endpoint}
 use Rattle.usb_descriptors.specs.declared.UasFunction.{UasFunction}
-use Rattle.usb_descriptors.specs.declared.DescriptorFault.TheVariants.{BadDescriptor, BadPipes, NoCompanion, NoUas}
+use Rattle.usb_descriptors.specs.declared.DescriptorFault.TheVariants.{BadDescriptor, BadPipes, Hub, LongConfiguration, NoCompanion, NoStreams, NoUas}
+use Rattle.usb_descriptors.specs.Device.{device_in}
+use Rattle.usb_descriptors.specs.Endpoints.{context_index}
 use Rattle.usb_descriptors.specs.Function.{uas_in}
+use Rattle.usb_descriptors.specs.Streams.{streams_of}
+use Rattle.usb_descriptors.specs.Totals.{bos_total_in, configuration_total_in}
 
 abbrev pub endpoint : ℕ → ℕ → Endpoint
 endpoint address max_streams = record { address = address; max_packet = 1024; burst = 15; max_streams = max_streams }
@@ -29,6 +33,19 @@ emulated_function = record {
 
 abbrev pub RowEmulated : Type 0
 RowEmulated = (name : ℕ) → uas_in (emulated name) ≡ Ok emulated_function
+
+-- its endpoint contexts, and the streams of 254 tags asked where the controller has arrays of at most 256 contexts: 15 tags, arrays of 16
+abbrev pub RowContexts : Type 0
+RowContexts =
+    (context_index emulated_function.pipes.command ≡ 2) × (context_index emulated_function.pipes.status ≡ 5)
+    × (context_index emulated_function.pipes.data_in ≡ 7) × (context_index emulated_function.pipes.data_out ≡ 8)
+
+abbrev pub RowStreams : Type 0
+RowStreams = streams_of 254 emulated_function.pipes 7 ≡ Ok (record { tags = 15; contexts = 16; max_primary_streams = 3 })
+
+-- of a controller whose arrays have 2 contexts
+abbrev pub RowNoStreams : Type 0
+RowNoStreams = streams_of 254 emulated_function.pipes 0 ≡ Err NoStreams
 
 -- the last byte is missing
 abbrev pub RowShort : Type 0
@@ -78,3 +95,31 @@ RowNoCompanion = uas_in (head ++ (7 ∷ 5 ∷ 0x01 ∷ 2 ∷ 0 ∷ 4 ∷ 0 ∷ 4
 
 abbrev pub RowOtherSize : Type 0
 RowOtherSize = uas_in (head ++ (7 ∷ 5 ∷ 0x01 ∷ 2 ∷ 0 ∷ 2 ∷ 0 ∷ 4 ∷ 0x24 ∷ 1 ∷ 0 ∷ [])) ≡ Err BadPipes
+
+-- THE DEVICE DESCRIPTOR of an emulated disk, and of a hub; the totals that the first bytes of a configuration and of a BOS tell
+
+abbrev pub RowDevice : Type 0
+RowDevice =
+    device_in (18 ∷ 1 ∷ 0 ∷ 3 ∷ 0 ∷ 0 ∷ 0 ∷ 9 ∷ 0xf4 ∷ 0x46 ∷ 3 ∷ 0 ∷ 0 ∷ 0 ∷ 1 ∷ 2 ∷ 3 ∷ 1 ∷ [])
+    ≡ Ok (record {
+      release = 0x0300;
+      class = 0;
+      subclass = 0;
+      protocol = 0;
+      max_packet_exponent = 9;
+      vendor = 0x46f4;
+      product = 0x0003;
+      device = 0;
+      manufacturer_string = 1;
+      product_string = 2;
+      serial_string = 3;
+      configurations = 1;
+    })
+
+abbrev pub RowHub : Type 0
+RowHub = device_in (18 ∷ 1 ∷ 0x10 ∷ 3 ∷ 9 ∷ 0 ∷ 3 ∷ 9 ∷ 0x09 ∷ 0x21 ∷ 0x12 ∷ 0x08 ∷ 0 ∷ 0 ∷ 1 ∷ 2 ∷ 0 ∷ 1 ∷ []) ≡ Err Hub
+
+abbrev pub RowTotals : Type 0
+RowTotals =
+    (configuration_total_in (9 ∷ 2 ∷ 86 ∷ 0 ∷ 1 ∷ 1 ∷ 0 ∷ 0xc0 ∷ 0 ∷ []) ≡ Ok 86) × (bos_total_in (5 ∷ 0x0f ∷ 22 ∷ 0 ∷ 2 ∷ []) ≡ Ok 22)
+    × (configuration_total_in (9 ∷ 2 ∷ 0x01 ∷ 0x10 ∷ 1 ∷ 1 ∷ 0 ∷ 0xc0 ∷ 0 ∷ []) ≡ Err LongConfiguration)

@@ -5,7 +5,8 @@ ghost use Rattle.usb_descriptors.specs.Cutting.{EachDescriptor, descriptors, is_
 ghost use Rattle.usb_descriptors.specs.Function.{uas_in};
 ghost use Rattle.usb_descriptors.specs.Pipes.{ContextsApart, FitsPipes};
 ghost use Rattle.usb_descriptors.specs.declared.Pipes.{Pipes};
-ghost use Rattle.usb_descriptors.specs.Rows.{RowBridge, RowBulkOnly, RowEmulated, RowNoCompanion, RowOne, RowOtherSize, RowShort};
+ghost use Rattle.usb_descriptors.specs.Rows.{RowBridge, RowBulkOnly, RowContexts, RowDevice, RowEmulated, RowHub, RowNoCompanion, RowNoStreams};
+ghost use Rattle.usb_descriptors.specs.Rows.{RowOne, RowOtherSize, RowShort, RowStreams, RowTotals};
 ghost use Rattle.usb_descriptors.specs.Texts.{function_text};
 
 /// Law: bytes that are cut are their descriptors one behind the other.
@@ -29,7 +30,7 @@ pub fn contexts_are_apart()
 {}
 
 /// Law: what these configurations are read as: of an emulated disk, whole and without its last byte; of a bridge, with its UAS setting and
-/// without; and with one endpoint alone.
+/// without; and with one endpoint alone. Endpoint contexts and streams of the emulated disk; device descriptors, and totals.
 pub fn rows_are_read()
     ensures emulated { RowEmulated }
     ensures short { RowShort }
@@ -38,4 +39,10 @@ pub fn rows_are_read()
     ensures one { RowOne }
     ensures no_companion { RowNoCompanion }
     ensures other_size { RowOtherSize }
+    ensures contexts { RowContexts }
+    ensures streams { RowStreams }
+    ensures no_streams { RowNoStreams }
+    ensures device { RowDevice }
+    ensures hub { RowHub }
+    ensures totals { RowTotals }
 {}

@@ -1,5 +1,6 @@
 use Rattle.std.proofs.Common.{refl}
 use Rattle.usb_descriptors.specs.Cutting.{descriptors, descriptors_within, is_cut, is_front}
+use Rattle.usb_descriptors.specs.Device.{device_in}
 use Rattle.usb_descriptors.specs.Endpoints.{endpoint_of}
 use Rattle.usb_descriptors.specs.Function.{uas_in}
 use Rattle.usb_descriptors.proofs.laws.rows_are_read.Goals as goal
@@ -31,3 +32,27 @@ returns-clause-no_companion c = refl
 pub returns-clause-other_size : goal.returns-clause-other_size
 unfolding uas_in is_cut descriptors descriptors_within is_front endpoint_of
 returns-clause-other_size c = refl
+
+pub returns-clause-contexts : goal.returns-clause-contexts
+unfolding device_in
+returns-clause-contexts c = (refl, refl, refl, refl)
+
+pub returns-clause-streams : goal.returns-clause-streams
+unfolding device_in
+returns-clause-streams c = refl
+
+pub returns-clause-no_streams : goal.returns-clause-no_streams
+unfolding device_in
+returns-clause-no_streams c = refl
+
+pub returns-clause-device : goal.returns-clause-device
+unfolding device_in
+returns-clause-device c = refl
+
+pub returns-clause-hub : goal.returns-clause-hub
+unfolding device_in
+returns-clause-hub c = refl
+
+pub returns-clause-totals : goal.returns-clause-totals
+unfolding device_in
+returns-clause-totals c = (refl, refl, refl)

@@ -15,7 +15,7 @@ use Rattle.host_layout.specs.declared.shape.Pieces.TheVariants.{Seven, Fifteen, 
 use Rattle.host_layout.specs.declared.shape.Shape.{Shape}
 use Rattle.host_layout.specs.Sizes.{page_bytes, ring_bytes}
 use Rattle.host_layout.specs.Shapes.{array_offset, bytes_of, empty_offset, plain_bytes, rings_offset, scratchpads_offset}
-use Rattle.host_layout.specs.Places.{area_bytes, fixed_bytes, fixed_offset, has_area, offset_of, tag_bytes, tag_offset}
+use Rattle.host_layout.specs.Places.{HasByte, area_bytes, fixed_bytes, fixed_offset, has_area, offset_of, tag_bytes, tag_offset}
 use Rattle.host_layout.proofs.Within.{context_size_within, fixed_below, fixed_within, plain_within, rings_within, streams_within, tag_within}
 
 -- the fixed area at an offset
@@ -300,10 +300,17 @@ found shape (Scratchpad number) i has h =
     let at : scratchpads_offset shape + number * bytes + i - scratchpads_offset shape ≡ number * bytes + i = omega arith in
     at_scratchpad shape _ (omega arith) ∙ ap (λ n. Scratchpad (n / bytes)) at ∙ ap Scratchpad (page_number shape.page number i h)
 
+-- the area that has a byte is found there
+area_is : (shape : Shape) (area : Area) (offset : ℕ) → HasByte shape area offset → area_at shape offset ≡ area
+area_is shape area offset h =
+    let from = h.from in
+    let below = h.below in
+    let same : offset ≡ offset_of shape area + (offset - offset_of shape area) = omega (arith, from) in
+    ap (area_at shape) same ∙ found shape area (offset - offset_of shape area) h.there (omega (arith, from, below))
+
 -- a byte of two areas makes them one
-pub apart : (shape : Shape) (first second : Area) (i j : ℕ) → has_area shape first ≡ true → has_area shape second ≡ true → i < area_bytes shape first
-    → j < area_bytes shape second → offset_of shape first + i ≡ offset_of shape second + j → first ≡ second
-apart shape first second i j a b c d same = sym (found shape first i a c) ∙ ap (area_at shape) same ∙ found shape second j b d
+pub apart : (shape : Shape) (first second : Area) (offset : ℕ) → HasByte shape first offset → HasByte shape second offset → first ≡ second
+apart shape first second offset a b = sym (area_is shape first offset a) ∙ area_is shape second offset b
 
 with_scratchpads : (shape : Shape) → 0 < shape.scratchpads → bytes_of shape ≡ scratchpads_offset shape + shape.scratchpads * page_bytes shape.page
 with_scratchpads shape some = grind (arith, nat_tests, some)

@@ -14,7 +14,7 @@ use Rattle.host_layout.specs.declared.shape.Pieces.TheVariants.{Seven, Fifteen, 
 use Rattle.host_layout.specs.Sizes.{page_bytes, pieces_number, ring_bytes, round_up}
 use Rattle.host_layout.specs.Shapes.{array_offset, plain_bytes}
 use Rattle.host_layout.specs.Places.{address_of, alignment_of}
-use Rattle.host_layout.specs.Rings.{places_of, segments_of, trb_offset}
+use Rattle.host_layout.specs.Rings.{places_of, segment_of, segments_of}
 
 -- behind a multiple of 65,536, the multiple of a page that is reached
 page_aligned : (page : PageSize) (base bytes number : ℕ) → base % 65536 ≡ 0
@@ -80,11 +80,8 @@ data_block ThirtyOne base tags before second segment b = omega (arith, b)
 data_block SixtyThree base tags before second segment b = omega (arith, b)
 data_block HundredTwentySeven base tags before second segment b = omega (arith, b)
 
-abbrev start_of : Layout → Ring → ℕ → ℕ
-start_of layout ring segment = layout.base + trb_offset layout.shape (record { ring = ring; segment = segment; place = 0 })
-
 pub segment_block : (layout : Layout) (ring : Ring) (segment : ℕ) → segment < segments_of ring
-    → start_of layout ring segment % 65536 + 16 * places_of layout.shape ring ≤ 65536
+    → segment_of layout ring segment % 65536 + 16 * places_of layout.shape ring ≤ 65536
 segment_block layout Command segment s = let b = layout.aligned in omega (arith, b, s)
 segment_block layout CommandPipe segment s = let b = layout.aligned in omega (arith, b, s)
 segment_block layout Control segment s = let b = layout.aligned in omega (arith, b, s)

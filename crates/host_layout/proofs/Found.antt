@@ -1,5 +1,5 @@
 -- The place that is guessed for an offset is the one whose TRB begins there.
-use Rattle.std.proofs.Common.{◌≡◌, ℕ, ◌+◌, ◌-◌, ◌*◌, ◌/◌, ◌%◌, ◌<◌, ◌≤◌, true, false, Some, nat_le, refl, ap, ◌∙◌, arith}
+use Rattle.std.proofs.Common.{◌≡◌, ℕ, ◌+◌, ◌-◌, ◌*◌, ◌/◌, ◌%◌, ◌<◌, ◌≤◌, ◌&&◌, true, false, Some, nat_le, nat_lt, refl, ap, ◌∙◌, arith}
 use Rattle.std.proofs.lemmas.Bool.{and_parts, le-leb, leb-true, lt-leb, ltb-true}
 use Rattle.std.proofs.lemmas.Option.{cond_some}
 use Rattle.host_layout.specs.declared.layout.Layout.{Layout}
@@ -138,8 +138,9 @@ guessed shape (DataOut tag) segment place a s p =
 pub guess_is : (layout : Layout) (at : RingPlace) (pointer : ℕ) → trb_of layout at ≡ Some pointer → guess_of layout.shape (pointer - layout.base) ≡ at
 guess_is layout at pointer e =
     let there : (has_place layout.shape at ≡ true) × (layout.base + trb_offset layout.shape at ≡ pointer) = cond_some _ _ _ e in
-    let parts = and_parts _ _ there.0 in
-    let inner = and_parts _ _ parts.0 in
+    let parts : (has_area layout.shape (area_of at.ring) && nat_lt at.segment (segments_of at.ring) ≡ true) × (nat_lt at.place (places_of layout.shape at.ring) ≡ true) =
+    and_parts _ _ there.0 in
+    let inner : (has_area layout.shape (area_of at.ring) ≡ true) × (nat_lt at.segment (segments_of at.ring) ≡ true) = and_parts _ _ parts.0 in
     let offset : pointer - layout.base ≡ trb_offset layout.shape at = omega (arith, there.1) in
     ap (guess_of layout.shape) offset
     ∙ guessed layout.shape at.ring at.segment at.place inner.0 (ltb-true _ _ inner.1) (ltb-true _ _ parts.1)

@@ -1,5 +1,5 @@
 -- Where each area of a driver's memory stands, and how many bytes it has.
-use Rattle.std.specs.Prelude.{ℕ, ◌+◌, ◌-◌, ◌*◌, ◌&&◌, nat_le, nat_lt, if◌then◌else◌, Bool, true, Option, Some, None}
+use Rattle.std.specs.Prelude.{◌≡◌, ℕ, ◌+◌, ◌-◌, ◌*◌, ◌<◌, ◌≤◌, ◌&&◌, nat_le, nat_lt, if◌then◌else◌, Bool, true, Option, Some, None}
 use Rattle.host_trbs.specs.Contexts.{context_size}
 use Rattle.host_layout.specs.declared.layout.Area.{Area}
 use Rattle.host_layout.specs.declared.layout.Area.TheVariants.{At, OfTag, EmptyPage, ScratchpadArray, Scratchpad}
@@ -81,6 +81,12 @@ area_bytes shape (OfTag tag area) = tag_bytes shape area
 area_bytes shape EmptyPage = 4096
 area_bytes shape ScratchpadArray = 8 * 1024
 area_bytes shape (Scratchpad number) = page_bytes shape.page
+
+-- the byte at an offset is of an area that there is
+pub record HasByte (shape : Shape) (area : Area) (offset : ℕ) : Type 0 where
+  pub there : has_area shape area ≡ true
+  pub from : offset_of shape area ≤ offset
+  pub below : offset < offset_of shape area + area_bytes shape area
 
 -- the address of an area
 abbrev pub address_of : Layout → Area → ℕ

@@ -48,6 +48,10 @@ trb_offset shape at = offset_of shape (area_of at.ring) + 16 * (at.segment * pla
 abbrev pub trb_of : Layout → RingPlace → Option ℕ
 trb_of layout at = if has_place layout.shape at then Some (layout.base + trb_offset layout.shape at) else None
 
+-- the address at which a segment of a ring begins
+abbrev pub segment_of : Layout → Ring → ℕ → ℕ
+segment_of layout ring segment = layout.base + trb_offset layout.shape (record { ring = ring; segment = segment; place = 0 })
+
 -- TD k stands alone at the beginning of third k mod 3
 abbrev pub td_of : Ring → ℕ → RingPlace
 td_of ring td = record { ring = ring; segment = td % 3; place = 0 }

@@ -1,16 +1,16 @@
 //! The laws of a layout, and of cut segments.
-ghost use Rattle.std.specs.Prelude.{◌≡◌, ◌+◌, ◌*◌, ◌%◌, ◌<◌, ◌≤◌, ℕ, All, true, false};
+ghost use Rattle.std.specs.Prelude.{◌≡◌, ◌+◌, ◌*◌, ◌%◌, ◌≤◌, ℕ, All, true, false};
 ghost use Rattle.std.specs.List.{list_any};
 ghost use Rattle.host_layout.specs.Cutting.{IsTrbData, addresses_in, addresses_of, is_empty, pieces_from};
-ghost use Rattle.host_layout.specs.Places.{address_of, alignment_of, area_bytes, has_area, offset_of};
-ghost use Rattle.host_layout.specs.Rings.{has_place, next_of, places_of, td_of, trb_offset};
+ghost use Rattle.host_layout.specs.Places.{HasByte, address_of, alignment_of, area_bytes, has_area, offset_of};
+ghost use Rattle.host_layout.specs.Rings.{has_place, next_of, places_of, segment_of, td_of};
 ghost use Rattle.host_layout.specs.Shapes.{bytes_of};
 
 use crate::{Area, Layout, Pieces, Ring, RingPlace, Segment, Shape, TagArea};
 
 /// No byte is of two areas.
 pub fn areas_apart(layout: &Layout, first: Area, second: Area)
-    ensures { (i j : ℕ) → has_area layout.now.shape first ≡ true → has_area layout.now.shape second ≡ true → i < area_bytes layout.now.shape first → j < area_bytes layout.now.shape second → offset_of layout.now.shape first + i ≡ offset_of layout.now.shape second + j → first ≡ second }
+    ensures { (offset : ℕ) → HasByte layout.now.shape first offset → HasByte layout.now.shape second offset → first ≡ second }
 {
     let _layout = *layout;
     let _areas = (first, second);
@@ -34,7 +34,7 @@ pub fn areas_aligned(layout: &Layout, area: Area)
 
 /// No segment of a ring crosses a 64 KiB boundary (table 6-1), since the layout's base is a multiple of 65,536.
 pub fn segments_in_blocks(layout: &Layout, at: RingPlace)
-    ensures { has_place layout.now.shape at ≡ true → (layout.now.base + trb_offset layout.now.shape (record { ring = at.ring; segment = at.segment; place = 0 })) % 65536 + 16 * places_of layout.now.shape at.ring ≤ 65536 }
+    ensures { has_place layout.now.shape at ≡ true → segment_of layout.now at.ring at.segment % 65536 + 16 * places_of layout.now.shape at.ring ≤ 65536 }
 {
     let _layout = *layout;
     let _at = at;

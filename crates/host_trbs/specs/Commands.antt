@@ -29,7 +29,7 @@ command_status _ = 0
 abbrev pub command_target : ℕ → ℕ → ℕ
 command_target endpoint slot = bits 20 16 endpoint + bits 31 24 slot
 
--- The control without its Cycle bit: TRB Type in bits 15:10 (table 6-91). The flags in bit 9 (Block Set Address Request,
+-- The control without its Cycle bit: TRB Type in bits 15:10 (6.4.6). The flags in bit 9 (Block Set Address Request,
 -- Deconfigure, Transfer State Preserve) and in bit 23 (Suspend) are 0.
 -- Worked: Enable Slot of type 0 is 2400h, Address Device of slot 1 is 01002C00h.
 abbrev pub command_control : Command → ℕ

@@ -31,7 +31,7 @@ input_control drop add = context_bytes drop add 0 0
 abbrev pub slot_context : SlotContext → List ℕ
 slot_context slot = context_bytes (bits 23 20 slot.speed + bits 31 27 slot.entries) (bits 23 16 slot.port) 0 0
 
--- EP Type (table 6-9)
+-- EP Type (6.2.3)
 abbrev pub endpoint_type : EndpointKind → ℕ
 endpoint_type BulkOut = 2
 endpoint_type Control = 4

@@ -24,7 +24,7 @@ endpoint_in w = w.control / 2 ^ 16 % 2 ^ 5
 abbrev pub slot_in : Words → ℕ
 slot_in w = w.control / 2 ^ 24
 
--- By TRB Type (table 6-91): 32, with TRB Transfer Length in status bits 23:0; 33, with Command TRB Pointer in parameter bits 63:4;
+-- By TRB Type (6.4.6): 32, with TRB Transfer Length in status bits 23:0; 33, with Command TRB Pointer in parameter bits 63:4;
 -- 34, with Port ID in parameter bits 31:24; 37.
 abbrev pub event_in : Words → Event
 event_in w =
@@ -38,7 +38,7 @@ event_in w =
 abbrev pub is_from : ℕ → ℕ → ℕ → Bool
 is_from first last n = nat_le first n && nat_le n last
 
--- 6.4.5, table 6-90. 192 to 223 are a vendor's errors, 224 to 255 a vendor's information, which is a success.
+-- 6.4.5. 192 to 223 are a vendor's errors, 224 to 255 a vendor's information, which is a success.
 abbrev pub completion_in : ℕ → Completion
 completion_in code =
     if code == 1 || is_from 224 255 code then Success

@@ -7,7 +7,7 @@ use Rattle.host_trbs.specs.declared.transfers.SetupPacket.{SetupPacket}
 use Rattle.host_trbs.specs.declared.words.Words.{Words}
 use Rattle.host_trbs.specs.Words.{aligned, bit, bits}
 
--- USB 3.2, table 9-3: the device sends the data where bmRequestType bit 7 is 1; without bytes there is no Data Stage
+-- USB 3.2, 9.3: the device sends the data where bmRequestType bit 7 is 1; without bytes there is no Data Stage
 abbrev pub has_data_in : SetupPacket → Bool
 has_data_in setup = not (setup.length == 0) && setup.request_type / 2 ^ 7 == 1
 
@@ -17,7 +17,7 @@ abbrev pub setup_parameter : SetupPacket → ℕ
 setup_parameter setup =
     bits 7 0 setup.request_type + bits 15 8 setup.request + bits 31 16 setup.value + bits 47 32 setup.index + bits 63 48 setup.length
 
--- Transfer Type (table 6-26): 0 No Data Stage, 2 OUT Data Stage, 3 IN Data Stage
+-- Transfer Type (6.4.1.2.1): 0 No Data Stage, 2 OUT Data Stage, 3 IN Data Stage
 abbrev pub transfer_type : SetupPacket → ℕ
 transfer_type setup = if setup.length == 0 then 0 else if has_data_in setup then 3 else 2
 
@@ -37,7 +37,7 @@ data_stage_words stage cycle = record {
   control = bits 16 16 (bit stage.is_in) + bits 15 10 3 + bits 2 2 1 + bit cycle;
 }
 
--- 6.4.1.2.3: IOC in control bit 5, TRB Type 4, DIR in bit 16: 0 behind data from the device, else 1 (4.11.2.2, table 4-7).
+-- 6.4.1.2.3: IOC in control bit 5, TRB Type 4, DIR in bit 16: 0 behind data from the device, else 1 (4.11.2.2).
 abbrev pub status_stage_words : SetupPacket → Bool → Words
 status_stage_words setup cycle = record {
   parameter = 0;

@@ -104,7 +104,7 @@ impl Command {
     }
 }
 
-// The TRB types of commands (table 6-91).
+// The TRB types of commands (6.4.6).
 const ENABLE_SLOT: u32 = 9;
 
 const DISABLE_SLOT: u32 = 10;
@@ -122,7 +122,7 @@ const SET_DEQUEUE: u32 = 16;
 // Dequeue Cycle State, bit 0 of a dequeue pointer.
 pub(crate) const CYCLE_STATE: u64 = 1;
 
-// Stream Context Type 1 in bits 3:1: the primary ring of a stream (table 6-13).
+// Stream Context Type 1 in bits 3:1: the primary ring of a stream (6.2.4.1).
 pub(crate) const PRIMARY_RING: u64 = 2;
 
 // The endpoint or slot type in control bits 20:16, the slot in 31:24.

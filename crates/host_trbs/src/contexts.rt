@@ -54,7 +54,7 @@ impl SlotContext {
     }
 }
 
-/// What an endpoint is (table 6-9).
+/// What an endpoint is (6.2.3).
 #[derive(Clone, Copy, Debug, PartialEq, Eq)]
 pub enum EndpointKind {
     Control,

@@ -73,7 +73,7 @@ fn event_of(words: Words) -> Event
     }
 }
 
-// The TRB types of events (table 6-91).
+// The TRB types of events (6.4.6).
 const TRANSFER_EVENT: u32 = 32;
 
 const COMMAND_COMPLETION_EVENT: u32 = 33;
@@ -82,7 +82,7 @@ const PORT_STATUS_CHANGE_EVENT: u32 = 34;
 
 const HOST_CONTROLLER_EVENT: u32 = 37;
 
-/// What a completion code says (table 6-90), as far as a host acts on it.
+/// What a completion code says (6.4.5), as far as a host acts on it.
 #[derive(Clone, Copy, Debug, PartialEq, Eq)]
 pub enum Completion {
     /// 1 Success, and 224 to 255, by which a vendor tells more about a success.
@@ -149,7 +149,7 @@ impl Completion {
     }
 }
 
-/// The state of an endpoint (EP State, table 6-8).
+/// The state of an endpoint (EP State, 6.2.3).
 #[derive(Clone, Copy, Debug, PartialEq, Eq)]
 pub enum EndpointState {
     Disabled,
@@ -174,7 +174,7 @@ pub fn endpoint_state(context: &[u8; 32]) -> EndpointState
     }
 }
 
-/// The state of a slot (Slot State, table 6-7).
+/// The state of a slot (Slot State, 6.2.2).
 #[derive(Clone, Copy, Debug, PartialEq, Eq)]
 pub enum SlotState {
     DisabledOrEnabled,

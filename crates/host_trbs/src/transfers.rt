@@ -146,7 +146,7 @@ impl LinkTrb {
     }
 }
 
-// The TRB types of transfer rings (table 6-91).
+// The TRB types of transfer rings (6.4.6).
 const NORMAL: u32 = 1;
 
 const SETUP_STAGE: u32 = 2;
@@ -173,7 +173,7 @@ const DIRECTION_IN: u32 = 1 << 16;
 // The bytes of a setup packet.
 const SETUP_BYTES: u32 = 8;
 
-// Transfer Type, control bits 17:16 of a Setup Stage TRB (table 6-26).
+// Transfer Type, control bits 17:16 of a Setup Stage TRB (6.4.1.2.1).
 const NO_DATA_STAGE: u32 = 0;
 
 const OUT_DATA_STAGE: u32 = 2;

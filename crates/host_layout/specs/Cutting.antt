@@ -1,6 +1,6 @@
 -- Segments of memory cut at 64 KiB boundaries.
-use Rattle.std.specs.Prelude.{ℕ, zero, suc, ◌+◌, ◌-◌, ◌*◌, ◌/◌, ◌%◌, ◌==◌, ◌≤◌, min, nat_lt, if◌then◌else◌, Bool, List, [], ◌∷◌, ◌++◌, length, Result, Ok, Err}
-use Rattle.std.specs.List.{list_any}
+use Rattle.std.specs.Prelude.{ℕ, zero, suc, ◌+◌, ◌-◌, ◌*◌, ◌/◌, ◌%◌, ◌==◌, ◌≤◌, min, nat_lt, if◌then◌else◌, Bool, List, [], ◌∷◌, ◌++◌, length, Option, Some, None, Result, Ok, Err}
+use Rattle.std.specs.List.{list_any, slice_index_or}
 use Rattle.host_trbs.specs.declared.transfers.DataTrb.{DataTrb}
 use Rattle.host_layout.specs.declared.segments.CutFault.{CutFault}
 use Rattle.host_layout.specs.declared.segments.CutFault.TheVariants.{Empty, Reach, TooMany}
@@ -87,3 +87,20 @@ trb_of_piece total is_last is_in piece = record {
   is_last = is_last;
   is_in = is_in;
 }
+
+-- the bytes of a TD: the end of its last piece
+abbrev pub no_piece : Piece
+no_piece = record { at = 0; length = 0; end = 0 }
+
+abbrev pub total_of : List Piece → ℕ
+total_of pieces = (slice_index_or pieces (length pieces - 1) no_piece).end
+
+-- the data TRB of a TD's piece of a number, from 0 on
+abbrev pub data_trb_of : List Piece → ℕ → Bool → Option DataTrb
+data_trb_of pieces number is_in =
+    if nat_lt number (length pieces) then Some (trb_of_piece (total_of pieces) (number + 1 == length pieces) is_in (slice_index_or pieces number no_piece))
+    else None
+
+-- the bytes of a TD that were moved where so many of a piece were not, and all pieces before it were
+abbrev pub moved_of : Piece → ℕ → ℕ
+moved_of piece residual = piece.end - min residual piece.length

@@ -1,7 +1,7 @@
 //! The laws of a layout, and of cut segments.
-ghost use Rattle.std.specs.Prelude.{◌≡◌, ◌+◌, ◌*◌, ◌%◌, ◌≤◌, ℕ, All, true, false};
+ghost use Rattle.std.specs.Prelude.{◌≡◌, [], ◌∷◌, ◌+◌, ◌*◌, ◌%◌, ◌≤◌, ℕ, All, true, false};
 ghost use Rattle.std.specs.List.{list_any};
-ghost use Rattle.host_layout.specs.Cutting.{IsTrbData, addresses_in, addresses_of, is_empty, pieces_from};
+ghost use Rattle.host_layout.specs.Cutting.{IsTrbData, addresses_in, addresses_of, cut_of, is_empty, packets_left, pieces_from};
 ghost use Rattle.host_layout.specs.Places.{HasByte, address_of, alignment_of, area_bytes, has_area, offset_of};
 ghost use Rattle.host_layout.specs.Rings.{has_place, next_of, places_of, segment_of, td_of};
 ghost use Rattle.host_layout.specs.Shapes.{bytes_of};
@@ -76,3 +76,10 @@ pub fn large_layout(shape: &Shape)
 {
     let _shape = *shape;
 }
+
+/// 4,096 bytes at 2000F800h are two pieces of 2,048 bytes, of which the first has 2 packets behind it and the last none.
+pub fn two_pieces()
+    ensures pieces { cut_of 31 (record { address = 536934400; length = 4096 } ∷ []) ≡ Ok (record { at = 536934400; length = 2048; end = 2048 } ∷ record { at = 536936448; length = 2048; end = 4096 } ∷ []) }
+    ensures left { packets_left 4096 2048 ≡ 2 }
+    ensures none_left { packets_left 4096 4096 ≡ 0 }
+{}

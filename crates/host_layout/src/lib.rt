@@ -16,7 +16,7 @@
 //! its last TRB.
 //!
 //! A [`Shape`] says how many tags, pieces and scratchpads there are, and how many bytes that takes; a [`Layout`] is a shape from an
-//! address on. [`cut`] cuts the segments of a command's data at 64 KiB boundaries, and [`Piece::trb`] makes a TRB of a piece.
+//! address on. [`cut`] cuts the segments of a command's data at 64 KiB boundaries, and [`data_trb`] makes the TRBs of the pieces.
 //!
 //! What is promised: each address is the definition of its name in specs/Places.antt. [`Layout::found`] is the inverse of
 //! [`Layout::trb`], for every address. [`laws`] says that areas lie apart, within the layout and aligned, that no segment of a ring
@@ -32,5 +32,5 @@ mod shape;
 
 pub use layout::{Area, Fixed, Layout, TagArea};
 pub use rings::{Ring, RingPlace};
-pub use segments::{CutFault, MOST_PIECES, Piece, Segment, cut};
+pub use segments::{CutFault, MOST_PIECES, Piece, Segment, cut, data_trb};
 pub use shape::{PageSize, Pieces, Shape};

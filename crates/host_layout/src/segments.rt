@@ -2,7 +2,7 @@
 ghost use Rattle.std.specs.Prelude.{◌≡◌, ◌<◌, ◌≤◌, ◌+◌, ◌*◌, ◌++◌, IfErr, MatchResult, OnOk, false};
 ghost use Rattle.std.specs.List.{list_any};
 ghost use Rattle.arrayvec.specs.ArrayVec.{array_vec_len};
-ghost use Rattle.host_layout.specs.Cutting.{count_of, cut_of, is_beyond, is_empty, packets_left, piece_of, pieces_of, trb_of_piece};
+ghost use Rattle.host_layout.specs.Cutting.{count_of, cut_of, data_trb_of, is_beyond, is_empty, moved_of, packets_left, piece_of, pieces_of, trb_of_piece};
 ghost use Rattle.host_layout.specs.Sizes.{pieces_number};
 
 use crate::Pieces;
@@ -26,8 +26,16 @@ pub struct Piece {
 }
 
 impl Piece {
-    /// The data TRB of a piece of a TD that has so many bytes, `is_last` for its last piece.
-    pub fn trb(&self, total: u32, is_last: bool, is_in: bool) -> DataTrb
+    /// The bytes of its TD that were moved where `residual` bytes of this piece were not, and all before it were. A residual above
+    /// the piece's length counts as that.
+    pub fn moved(&self, residual: u32) -> u32
+        ensures { result ≡ moved_of self.now residual }
+    {
+        self.end.saturating_sub(residual.min(self.length))
+    }
+
+    // The data TRB of a piece of a TD that has so many bytes.
+    fn trb(&self, total: u32, is_last: bool, is_in: bool) -> DataTrb
         ensures { result ≡ trb_of_piece total is_last is_in self.now }
     {
         let packets_left = if is_last {
@@ -43,6 +51,17 @@ impl Piece {
             is_in,
         }
     }
+}
+
+/// The data TRB of a TD's piece, counted from 0: TD Size counts down to 0 on the last, which alone doesn't chain. None behind the last.
+pub fn data_trb(pieces: &[Piece], number: usize, is_in: bool) -> Option<DataTrb>
+    ensures { result ≡ data_trb_of pieces.now number is_in }
+{
+    if number >= pieces.len() {
+        return None;
+    }
+    let last = pieces.len() - 1;
+    Some(pieces[number].trb(pieces[last].end, number == last, is_in))
 }
 
 /// The most pieces of a TD.

@@ -33,12 +33,16 @@ abbrev pub inquiry_cdb : Option ℕ → ℕ → List ℕ
 inquiry_cdb None length = cdb_bytes (op.Inquiry length)
 inquiry_cdb (Some page) length = (0x12 ∷ 1 ∷ page ∷ []) ++ two_bytes length ++ zeros 11
 
--- The CDB of a command of a bring-up. START STOP UNIT is 1Bh, with START in bit 0 of byte 4. Checked by hand: INQUIRY of page B0h and 64 bytes
+-- START STOP UNIT is 1Bh, with START in bit 0 of byte 4
+abbrev pub start_unit_cdb : List ℕ
+start_unit_cdb = 0x1b ∷ 0 ∷ 0 ∷ 0 ∷ 1 ∷ zeros 11
+
+-- The CDB of a command of a bring-up. Checked by hand: INQUIRY of page B0h and 64 bytes
 -- is 12 01 b0 00 40 and eleven zeros.
 abbrev pub asking_cdb : Asking → List ℕ
 asking_cdb (asking.Inquiry page length) = inquiry_cdb page length
 asking_cdb asking.TestUnitReady = cdb_bytes op.TestUnitReady
-asking_cdb asking.StartUnit = 0x1b ∷ 0 ∷ 0 ∷ 0 ∷ 1 ∷ zeros 11
+asking_cdb asking.StartUnit = start_unit_cdb
 asking_cdb asking.ReadCapacity10 = cdb_bytes op.ReadCapacity
 asking_cdb asking.ReadCapacity16 = cdb_bytes (op.ReadCapacity16 LONG_CAPACITY_BYTES)
 

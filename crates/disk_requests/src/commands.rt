@@ -1,7 +1,7 @@
 //! CDBs, and the UNMAP parameter list (SPC-4, SBC-3).
 ghost use Rattle.std.specs.Prelude.{◌≡◌, ◌∷◌};
 ghost use Rattle.scsi_cmd.specs.Fields.{zeros};
-ghost use Rattle.disk_requests.specs.Commands.{asking_cdb, inquiry_cdb, is_wide, read_op, request_cdb, unmap_list, write_op};
+ghost use Rattle.disk_requests.specs.Commands.{asking_cdb, inquiry_cdb, is_wide, read_op, request_cdb, start_unit_cdb, unmap_list, write_op};
 
 use crate::fields::{eight_bytes, four_bytes};
 use crate::{Asking, LONG_CAPACITY_BYTES, Request};
@@ -96,29 +96,21 @@ pub fn asking_cdb(asking: &Asking) -> [u8; 16]
     match *asking {
         Asking::Inquiry { page, length } => inquiry_cdb(page, length),
         Asking::TestUnitReady => cdb(&Op::TestUnitReady),
-        Asking::StartUnit => [
-            START_STOP_UNIT,
-            0,
-            0,
-            0,
-            START,
-            0,
-            0,
-            0,
-            0,
-            0,
-            0,
-            0,
-            0,
-            0,
-            0,
-            0,
-        ],
+        Asking::StartUnit => start_unit(),
         Asking::ReadCapacity10 => cdb(&Op::ReadCapacity),
         Asking::ReadCapacity16 => cdb(&Op::ReadCapacity16 {
             allocation: LONG_CAPACITY_BYTES,
         }),
     }
+}
+
+/// START STOP UNIT with START set.
+fn start_unit() -> [u8; 16]
+    ensures { result ≡ start_unit_cdb }
+{
+    let mut bytes = bare_command(START_STOP_UNIT);
+    bytes[4] = START;
+    bytes
 }
 
 fn inquiry_cdb(page: Option<u8>, length: u16) -> [u8; 16]

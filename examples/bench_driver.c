@@ -746,8 +746,8 @@ int main(int words, char **word)
         stop_data_stage();
         printf("  No Ops, Stop Endpoint in a TRB, Set TR Dequeue Pointer\n");
         bad_blocks(chunks[i]);
-        wrong_trbs();
         no_context();
+        wrong_trbs();
         suspended();
         printf("  bad blocks; buffers, streams and contexts that aren't there; a suspended port\n");
         random_commands(rounds);

@@ -1,5 +1,5 @@
 -- What is told of a log's text.
-use Rattle.std.specs.Prelude.{◌≡◌, ℕ, zero, suc, ◌==◌, Bool, true, false, nat_eq, if◌then◌else◌, List, [], ◌∷◌, ◌++◌, length, filter, map, codes, Option, Some, None, is_some, option_map, Ok, Err}
+use Rattle.std.specs.Prelude.{◌≡◌, ◌≢◌, ℕ, zero, suc, ◌==◌, Bool, true, false, nat_eq, if◌then◌else◌, List, [], ◌∷◌, ◌++◌, length, filter, map, codes, Option, Some, None, is_some, option_map, Ok, Err}
 use Rattle.std.specs.List.{starts_with}
 use Rattle.std.specs.Fmt.{decimal}
 use Rattle.std.specs.Int.{w32, to_be_bytes}
@@ -16,12 +16,12 @@ use Rattle.log_text.specs.Loading.{Loads}
 use Rattle.log_text.specs.Migration.{Migrates, migrated}
 use Rattle.log_text.specs.Reading.{whole_log}
 use Rattle.log_text.specs.Text.{Saved}
-use Rattle.log_replay.specs.declared.ReplayFault.{ReplayFault}
-use Rattle.log_replay.specs.Replaying.{IsReplayed, replayed_replies, steps_fault}
+use Rattle.audit_run.specs.declared.replay.ReplayFault.{ReplayFault}
+use Rattle.audit_run.specs.replay.Replaying.{IsReplayed, replayed_replies, steps_fault}
 use Rattle.audit_run.specs.declared.AuditFault.{AuditFault}
 use Rattle.audit_run.specs.declared.HeadAt.{HeadAt}
 use Rattle.audit_run.specs.declared.KeptState.{KeptState}
-use Rattle.audit_run.specs.declared.AuditFault.TheVariants.{File, TooLarge, Text, Kept, Old, OtherHead, Replay, Output, NoMemory}
+use Rattle.audit_run.specs.declared.AuditFault.TheVariants.{File, TooLarge, Text, Kept, Old, OtherTags, OtherHead, Replay, Output, NoMemory}
 
 -- LINES
 
@@ -101,11 +101,12 @@ pub record IsLogOf (bytes : List ℕ) (log : Saved) : Type 0 where
 abbrev pub state_of : Loaded → KeptState
 state_of loaded = record { steps = length loaded.log.entries; has_end = is_some loaded.log.ending; torn = loaded.torn }
 
--- a text of the third version is a log's, of which there is so much
+-- a text of the third version is a log's whose clients have 16 tags each, of which there is so much
 pub record IsKeptLogOf (bytes : List ℕ) (log : Saved) (state : KeptState) : Type 0 where
   pub loaded : Loaded
   pub third : is_kept bytes ≡ true
   pub read : IsLoaded bytes loaded
+  pub sixteen : loaded.log.tags ≡ 16
   pub log_is : log ≡ saved_of loaded.log
   pub state_is : state ≡ state_of loaded
 
@@ -133,6 +134,13 @@ pub record CantBeBrought (bytes : List ℕ) (fault : MigrateFault) : Type 0 wher
   pub read : whole_log bytes ≡ Ok saved
   pub because : Migrates (Err fault) (migrated saved)
 
+-- a text of the third version is a log's whose clients have another number of tags
+pub record HasOtherTags (bytes : List ℕ) : Type 0 where
+  pub loaded : Loaded
+  pub third : is_kept bytes ≡ true
+  pub read : IsLoaded bytes loaded
+  pub other : loaded.log.tags ≢ 16
+
 -- a log of which the checksum that is asked for is none
 pub record IsOtherLog (head : Option ℕ) (bytes : List ℕ) : Type 0 where
   pub log : Saved
@@ -157,6 +165,7 @@ IsRefusedBy head bytes TooLarge = ⊥
 IsRefusedBy head bytes (Text fault) = (is_kept bytes ≡ false) × Loads (Err fault) (whole_log bytes)
 IsRefusedBy head bytes (Kept fault) = (is_kept bytes ≡ true) × kept.IsRefusedBy bytes fault
 IsRefusedBy head bytes (Old fault) = CantBeBrought bytes fault
+IsRefusedBy head bytes OtherTags = HasOtherTags bytes
 IsRefusedBy head bytes OtherHead = IsOtherLog head bytes
 IsRefusedBy head bytes (Replay fault) = CantBeReplayed head bytes fault
 IsRefusedBy head bytes Output = ⊥

@@ -1,3 +1,4 @@
+pub mod replay
 pub mod Audits
 pub mod Faults
 pub mod Ends

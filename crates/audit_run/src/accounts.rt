@@ -1,7 +1,7 @@
 //! A client's own account of a file: its submissions and its replies.
 ghost use Rattle.std.specs.Prelude.{◌≡◌, ◌<◌, ◌==◌, length, filter, map, true, IfOk};
 ghost use Rattle.log_audit.specs.Audit.{submissions_of};
-ghost use Rattle.log_replay.specs.Replaying.{IsReplayOf};
+ghost use Rattle.audit_run.specs.replay.Replaying.{IsReplayOf};
 ghost use Rattle.audit_run.specs.Audits.{replies_to};
 
 use log_audit::{audit, is_asked_by};

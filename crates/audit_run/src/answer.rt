@@ -1,15 +1,15 @@
 //! What is told of a log's text.
 ghost use Rattle.std.specs.Prelude.{◌≡◌, ◌<◌, ◌++◌, [], length, true, false, IfOk, IfErr, IfSome, IsTrue, OnOk};
 ghost use Rattle.std.specs.String.{string_bytes};
-ghost use Rattle.log_replay.specs.Replaying.{IsReplayOf};
+ghost use Rattle.audit_run.specs.replay.Replaying.{IsReplayOf};
 ghost use Rattle.audit_run.specs.Audits.{audit_lines, audit_text, beginning_line, beginning_text, client_line, found_text, head_line, line_text, state_text, torn_line, torn_text};
 ghost use Rattle.audit_run.specs.Ends.{CantTell, IsTold};
 
 use crate::accounts::{is_true_of, replies_of};
+use crate::replay::replay_log;
 use crate::texts::file_log;
 use crate::{AuditFault, FileLog, HeadAt, KeptState, Told};
 use byte_io::Source;
-use log_replay::replay_log;
 use log_text::SavedLog;
 use std::alloc::{AllocError, Global};
 use std::io::Write;

@@ -2,9 +2,9 @@
 ghost use Rattle.std.specs.Prelude.{◌≡◌};
 ghost use Rattle.audit_run.specs.Faults.{line_of, status_of};
 
+use crate::replay::ReplayFault;
 use crate::{AuditFault, FAULT, NO_MEMORY};
 use kept_log::KeptFault;
-use log_replay::ReplayFault;
 use log_text::{LogFault, MigrateFault};
 use std::io::Write;
 
@@ -24,6 +24,7 @@ impl AuditFault {
             | AuditFault::Text(_)
             | AuditFault::Kept(_)
             | AuditFault::Old(_)
+            | AuditFault::OtherTags
             | AuditFault::OtherHead
             | AuditFault::Replay(_)
             | AuditFault::Output => FAULT,
@@ -38,7 +39,8 @@ impl AuditFault {
             AuditFault::File => "log: file",
             AuditFault::TooLarge => "log: too large",
             AuditFault::Text(LogFault::BadHeader)
-            | AuditFault::Kept(KeptFault::Head(LogFault::BadHeader)) => "log: BadHeader",
+            | AuditFault::Kept(KeptFault::Head(LogFault::BadHeader))
+            | AuditFault::OtherTags => "log: BadHeader",
             AuditFault::Text(LogFault::Truncated)
             | AuditFault::Kept(KeptFault::Head(LogFault::Truncated)) => "log: Truncated",
             AuditFault::Text(LogFault::BadField)
@@ -96,6 +98,7 @@ impl AuditFault {
             AuditFault::Old(MigrateFault::TooManyClients) => {
                 "a log of clients of 8 tags has at most 15 of them, to be brought over"
             }
+            AuditFault::OtherTags => "a log that is kept has clients of 16 tags, to be audited",
             AuditFault::OtherHead => "no whole record of it has this checksum, or it has none",
             AuditFault::Replay(ReplayFault::NotDue(_)) => "a step wasn't due in its turn",
             AuditFault::Replay(ReplayFault::Refused(_)) => "a step is a submission that is refused",

@@ -5,21 +5,22 @@
 //! them exactly where the text is a log's, its steps are all due and accepted in their turn, and its replies are those that come of
 //! them. Each such client's audit is true: so no line says `false`, and the exit status 1 never comes.
 //!
-//! A log that was kept as it grew (kept_log) may have no end and a torn tail. Both are told behind the clients' lines. Where a checksum is
+//! A log that was kept as it grew (kept_log), of clients of 16 tags, may have no end and a torn tail. Both are told behind the clients' lines. Where a checksum is
 //! asked for that somebody kept of a log, the step behind which it stands is told last (`head_text`).
 //!
 //! Else the first thing that is wrong is told in one line: of the file, of the text, of the checksum, of the steps, then of the replies
-//! (`IsRefusedBy`). It stands on log_audit, log_replay and kept_log.
+//! (`IsRefusedBy`). The replay is [`replay`]'s. It stands on log_audit, log_text, uas_work and kept_log.
 #![tactic(auto)]
 
 mod accounts;
 mod answer;
 mod faults;
+pub mod replay;
 mod run;
 mod texts;
 
+use crate::replay::ReplayFault;
 use kept_log::KeptFault;
-use log_replay::ReplayFault;
 use log_text::{LogFault, MigrateFault, SavedLog};
 pub use run::run_audit;
 
@@ -55,6 +56,8 @@ pub enum AuditFault {
     Kept(KeptFault),
     /// The log can't be brought over.
     Old(MigrateFault),
+    /// The clients of a log that was kept have another number of tags than 16.
+    OtherTags,
     /// The checksum that is asked for is none of the log's.
     OtherHead,
     /// The log isn't the replay of its own steps.

@@ -8,7 +8,7 @@ ghost use Rattle.audit_run.specs.Ends.{CantRead, CantTell, IsFileOf, IsOlder};
 
 use crate::{AuditFault, FileLog, HeadAt, KeptState, MAX_LOG_BYTES};
 use byte_io::{Source, StreamFault};
-use kept_log::{Loaded, PartsFault, load_from, read_at_least};
+use kept_log::{Loaded, PartsFault, SavedFault, load_from, read_at_least};
 use log_text::{SavedLog, load_log, migrate};
 use std::alloc::Global;
 
@@ -142,6 +142,7 @@ fn saved_in(alloc: Global, bytes: &[u8]) -> Result<SavedLog, AuditFault>
 }
 
 /// The log of a text of the third version, of whose front these bytes were read, without its refused steps.
+#[tactic(auto, using(crate::proofs::Files::other_tags))]
 fn kept_in<S: Source>(
     alloc: Global,
     source: &mut S,
@@ -159,18 +160,20 @@ fn kept_in<S: Source>(
         Err(PartsFault::Read(StreamFault::NoMemory)) => return Err(AuditFault::NoMemory),
         Err(PartsFault::Read(StreamFault::File)) => return Err(AuditFault::File),
     };
-    let state = state_of(&found.loaded);
-    let Some(head) = head_at(head, found.step) else {
+    let (state, step) = (state_of(&found.loaded), found.step);
+    let log = match found.loaded.log.into_saved(alloc) {
+        Ok(log) => log,
+        Err(SavedFault::OtherTags) => return Err(AuditFault::OtherTags),
+        Err(SavedFault::NoMemory) => return Err(AuditFault::NoMemory),
+    };
+    let Some(head) = head_at(head, step) else {
         return Err(AuditFault::OtherHead);
     };
-    match found.loaded.log.into_saved(alloc) {
-        Ok(log) => Ok(FileLog {
-            log,
-            state: Some(state),
-            head,
-        }),
-        Err(_) => Err(AuditFault::NoMemory),
-    }
+    Ok(FileLog {
+        log,
+        state: Some(state),
+        head,
+    })
 }
 
 /// What is told of the checksum that is asked for, where it stands behind so many steps: of one that stands nowhere nothing can be.

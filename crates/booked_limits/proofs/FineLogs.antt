@@ -1,12 +1,12 @@
 -- A true log fits its text: its steps and replies one by one, as they come of its replay.
-use Rattle.std.proofs.Common.{◌≡◌, ℕ, zero, suc, ◌+◌, ◌*◌, ◌^◌, ◌<◌, ◌≤◌, true, false, cond, List, [], ◌∷◌, ◌++◌, map, length, length-append, Option, Some, None}
+use Rattle.std.proofs.Common.{◌≡◌, ℕ, zero, suc, ◌≤◌, true, false, cond, List, [], ◌∷◌, ◌++◌, map, length, length-append, Option, Some, None}
 use Rattle.std.proofs.Common.{IfSome, inr, refl, arith, ap, sym, subst, ◌∙◌}
-use Rattle.std.specs.Prelude.{◌==◌, option_to_list, slice_get}
+use Rattle.std.specs.Prelude.{◌==◌, option_to_list}
 use Rattle.std.specs.List.{AllByRecursion}
 use Rattle.std.proofs.lemmas.Bool.{eqb-true}
 use Rattle.std.proofs.lemmas.Option.{none-some, same_Some}
 use Rattle.block_unit.specs.BlockMaps.{BlockMaps}
-use Rattle.uas_profile.specs.declared.TheConstants.{MAX_CLIENTS, TAGS}
+use Rattle.uas_profile.specs.declared.TheConstants.{USUAL_CLIENTS, TAGS}
 use Rattle.scsi_cmd.specs.declared.Reply.{Reply}
 use Rattle.shared_machine.specs.Bus.{AllTicketed}
 use Rattle.shared_machine.specs.Laws.{AllDue}
@@ -15,13 +15,14 @@ use Rattle.shared_machine.specs.Shared.{Shared, shared_step}
 use Rattle.shared_machine.specs.declared.Outcome.{Outcome}
 use Rattle.shared_machine.specs.declared.Step.{Step}
 use Rattle.shared_machine.proofs.NumberOfClients.{length-parts}
+use Rattle.shared_machine.proofs.NumberOfTags.{kept-tags}
 use Rattle.shared_machine.proofs.Opening.{length-new_parts}
 use Rattle.uas_log.specs.declared.FirstUnit.{FirstUnit}
 use Rattle.uas_log.specs.declared.Log.{Log}
 use Rattle.uas_log.specs.Booking.{IsReplay, first_maps, first_units, log_opening, log_replay, refusal_of, replies_of}
 use Rattle.log_text.specs.declared.Version.TheVariants.{Second}
 use Rattle.log_text.specs.Kept.{kept, version_with, with_client}
-use Rattle.log_text.specs.Text.{IsWithin, ReplyFits, StepFits, UnitFits}
+use Rattle.log_text.specs.Text.{IsWithin, ReplyFits, StepFits}
 use Rattle.booked_limits.specs.Fitting.{HasFields, TrueLogsFit}
 use Rattle.booked_limits.proofs.FineTasks.{IsWide}
 use Rattle.booked_limits.proofs.FineReplies.{Fits}
@@ -70,15 +71,15 @@ more-replies : (clients : ℕ) (told : Option Reply) (rest : List Reply) → IfS
 more-replies clients None rest fits all = all
 more-replies clients (Some reply) rest fits all = (fits, all)
 
-replay-fits : (units : List BlockMaps) → AreWide units → (clients : ℕ) (state : Shared) (steps : List Step) → length state.parts ≡ clients
-    → clients ≤ MAX_CLIENTS → AreFine units state.parts → AllDue state steps → AllTicketed steps → AllByRecursion HasFields steps
+replay-fits : (units : List BlockMaps) → AreWide units → (clients : ℕ) (state : Shared) (steps : List Step) → state.tags ≡ TAGS
+    → length state.parts ≡ clients → clients ≤ USUAL_CLIENTS → AreFine units state.parts → AllDue state steps → AllTicketed steps → AllByRecursion HasFields steps
     → FitsAll units clients steps (replayed state steps)
-replay-fits units wide clients state [] many most all due has fields = record { steps_fit = tt; replies_fit = tt; parts_fine = all }
-replay-fits units wide clients state (step ∷ rest) many most all due has fields =
+replay-fits units wide clients state [] number many most all due has fields = record { steps_fit = tt; replies_fit = tt; parts_fine = all }
+replay-fits units wide clients state (step ∷ rest) number many most all due has fields =
     let now : Shared × Outcome = shared_step state step in
-    let fine = shared_step-fine units wide clients state step many most has.0 all in
+    let fine = shared_step-fine units wide clients state step number many most has.0 all in
     let later : FitsAll units clients rest (replayed now.0 rest) =
-    replay-fits units wide clients now.0 rest (length-parts state step ∙ many) most fine.parts_fine due.1 has.1 fields.1 in
+    replay-fits units wide clients now.0 rest (kept-tags state step ∙ number) (length-parts state step ∙ many) most fine.parts_fine due.1 has.1 fields.1 in
     let numbers : List ℕ = map refusal_of (replayed now.0 rest).1 in
     record {
       steps_fit =
@@ -86,7 +87,7 @@ replay-fits units wide clients state (step ∷ rest) many most all due has field
           → AllByRecursion (StepFits Second clients) (cond b (step ∷ kept rest numbers) (kept rest numbers))) [
             | true ↦ λ is. (
               subst (λ n. StepFits Second n step) many
-                  (step-fits state step (omega (arith, many, most)) due.0 has.0 fields.0 (eqb-true (refusal_of now.1) 0 is)),
+                  (step-fits state step number (omega (arith, many, most)) due.0 has.0 fields.0 (eqb-true (refusal_of now.1) 0 is)),
               later.steps_fit,
             )
             | false ↦ λ is. later.steps_fit
@@ -102,9 +103,10 @@ first-wide [] client first is = absurd (none-some first is)
 first-wide (one ∷ rest) zero first is = subst (λ (unit : BlockMaps). IsWide unit) (same_Some (first_maps one) first is) (omega arith)
 first-wide (one ∷ rest) (suc client) first is = first-wide rest client first is
 
-log-fits : (log : Log) → IsReplay log → AllByRecursion HasFields log.steps → FitsAll (first_units log) (length log.units) log.steps (log_replay log)
-log-fits log is_true fields =
-    replay-fits (first_units log) (first-wide log.units) (length log.units) (log_opening log) log.steps
+log-fits : (log : Log) → IsReplay log → log.tags ≡ TAGS → AllByRecursion HasFields log.steps
+    → FitsAll (first_units log) (length log.units) log.steps (log_replay log)
+log-fits log is_true number fields =
+    replay-fits (first_units log) (first-wide log.units) (length log.units) (log_opening log) log.steps number
     (length-new_parts 0 (first_units log) ∙ mapped-length first_maps log.units) is_true.most (opening-fine 0 (first_units log)) is_true.acted is_true.ticketed fields
 
 -- its replay has a part for each of its units
@@ -117,12 +119,12 @@ log-parts log =
     replayed-parts state (step ∷ rest) = replayed-parts (shared_step state step).0 rest ∙ length-parts state step
 
 -- what a log's replay leaves is fine
-pub log-fine : (log : Log) → IsReplay log → AllByRecursion HasFields log.steps → AreFine (first_units log) (log_replay log).0.parts
-log-fine log is_true fields = (log-fits log is_true fields).parts_fine
+pub log-fine : (log : Log) → IsReplay log → log.tags ≡ TAGS → AllByRecursion HasFields log.steps → AreFine (first_units log) (log_replay log).0.parts
+log-fine log is_true number fields = (log-fits log is_true number fields).parts_fine
 
 pub true-logs-fit : TrueLogsFit
-true-logs-fit log is_true few units fields =
-    let it : FitsAll (first_units log) (length log.units) log.steps (log_replay log) = log-fits log is_true fields in
+true-logs-fit log is_true number few units fields =
+    let it : FitsAll (first_units log) (length log.units) log.steps (log_replay log) = log-fits log is_true number fields in
     let long : length (log_replay log).1 ≡ length log.steps = outcomes-length (log_opening log) log.steps in
     let within : IsWithin (record {
       version = version_with TAGS;
@@ -145,7 +147,7 @@ true-logs-fit log is_true few units fields =
       );
     } in
     record {
-      tags = inr is_true.tags;
+      tags = inr number;
       told = ap length is_true.refusals ∙ mapped-length refusal_of (log_replay log).1 ∙ long;
       within =
           subst (λ tags. IsWithin (record {
@@ -153,7 +155,7 @@ true-logs-fit log is_true few units fields =
             units = log.units;
             steps = kept log.steps log.refusals;
             replies = map (with_client tags) log.replies;
-          })) (sym is_true.tags)
+          })) (sym number)
           (subst (λ (refusals : List ℕ). IsWithin (record {
             version = version_with TAGS;
             units = log.units;

@@ -1,6 +1,6 @@
 -- What is so of every task of a client, and of its unit, stays so by each act on the client's part; and only a Take brings a reply. Cited by
 -- FineSteps.
-use Rattle.std.proofs.Common.{◌≡◌, ℕ, zero, suc, Bool, true, false, cond, List, [], ◌∷◌, map, length, length-set, Option, Some, None, option_map, IfSome}
+use Rattle.std.proofs.Common.{◌≡◌, ℕ, suc, Bool, List, [], ◌∷◌, map, length, length-set, Option, Some, None, option_map, IfSome}
 use Rattle.std.proofs.Common.{refl, arith, ap, sym, subst, ◌∙◌}
 use Rattle.std.specs.Prelude.{slice_set, option_and_then}
 use Rattle.std.proofs.lemmas.Option.{none-some}
@@ -11,19 +11,18 @@ use Rattle.uas_profile.specs.declared.Place.{Place}
 use Rattle.scsi_cmd.specs.Held.{AllHeld, held_at}
 use Rattle.scsi_cmd.specs.Laws.{AllHeld-held, AllHeld-set}
 use Rattle.scsi_cmd.specs.Request.{ended_by}
-use Rattle.scsi_cmd.specs.declared.Reply.{Reply}
 use Rattle.scsi_cmd.specs.declared.Request.{Request}
 use Rattle.scsi_cmd.specs.declared.Request.TheVariants.{Execute, Manage}
 use Rattle.solo_model.specs.TaggedTask.{TaggedTask, carried, finds, moved, sent}
 use Rattle.shared_machine.specs.declared.Completion.{Completion}
 use Rattle.shared_machine.specs.declared.Completion.TheVariants.{CommandDone, DataDone, StatusDone, EngineDone}
 use Rattle.shared_machine.specs.Td.{Entry, passed_on, passed_td, retired_on, trbs_on, with_trb_taken}
-use Rattle.shared_machine.specs.Part.{Part, Act, after_answer, after_event, carried_entry, carried_slot, carry_act, doomed, entries_after, entry_reply}
+use Rattle.shared_machine.specs.Part.{Part, Act, after_answer, after_event, carried_entry, carried_slot, carry_act, doomed, entries_after}
 use Rattle.shared_machine.specs.Part.{data_td_after, took_trb}
 use Rattle.shared_machine.specs.Part.{event_act, event_place, move_act, moved_entry, moved_slot, noted_entry, pass_act, passed_slot, retire_act, seen_by}
-use Rattle.shared_machine.specs.Part.{seen_entry, send_act, sent_entry, sent_slot, settled, slot_tag, stop_act, take_act, taken, tasks_in, with_entry}
+use Rattle.shared_machine.specs.Part.{seen_entry, send_act, sent_entry, sent_slot, stop_act, tasks_in}
 use Rattle.shared_machine.proofs.KeptTasks.{doomed-task, retired_on-task, seen_by-task, with_td_on-task}
-use Rattle.booked_limits.proofs.FineTasks.{IsFine, IsMoved, IsSameUnit, IsWide, carried-fine, carried-unit, moved-fine, noted-fine, same_unit, same_unit-then, sent-fine}
+use Rattle.booked_limits.proofs.FineTasks.{IsFine, IsMoved, IsSameUnit, IsWide, carried-fine, carried-unit, moved-fine, noted-fine, same_unit-then, sent-fine}
 
 abbrev pub IsFineEntry : ℕ → Entry → Type 0
 IsFineEntry count entry = IsFine count entry.task

@@ -1,9 +1,9 @@
 -- The reply of a task that is fine fits the fields of a reply's text. Cited by FineSteps.
-use Rattle.std.proofs.Common.{◌≡◌, ℕ, ◌+◌, ◌-◌, ◌*◌, ◌/◌, ◌^◌, ◌<◌, ◌≤◌, List, [], ◌∷◌, length, Option, Some, None, IfSome, inl, inr, refl, arith, subst}
+use Rattle.std.proofs.Common.{◌≡◌, ℕ, ◌-◌, ◌/◌, ◌^◌, ◌<◌, ◌≤◌, List, [], ◌∷◌, Option, Some, None, IfSome, inl, inr, refl, arith, subst, sym}
 use Rattle.std.specs.Prelude.{slice_set, option_and_then}
 use Rattle.std.proofs.lemmas.Option.{none-some, same_Some}
 use Rattle.block_unit.specs.BlockMaps.{BlockMaps}
-use Rattle.uas_profile.specs.declared.TheConstants.{MAX_CLIENTS, TAGS, WINDOW_BYTES}
+use Rattle.uas_profile.specs.declared.TheConstants.{USUAL_CLIENTS, TAGS, WINDOW_BYTES}
 use Rattle.scsi_cmd.specs.Held.{held_at}
 use Rattle.scsi_cmd.specs.declared.Reply.{Reply}
 use Rattle.scsi_cmd.specs.declared.Request.{Request}
@@ -34,8 +34,9 @@ record IsTag (clients tag : ℕ) : Type 0 where
   client : (tag - 1) / TAGS < clients
   small : tag < 2 ^ 16
 
-slot-tag : (clients client slot : ℕ) → clients ≤ MAX_CLIENTS → client < clients → slot < TAGS → IsTag clients (slot_tag client slot)
-slot-tag clients client slot most there within = record { client = omega arith; small = omega arith }
+slot-tag : (tags clients client slot : ℕ) → tags ≡ TAGS → clients ≤ USUAL_CLIENTS → client < clients → slot < TAGS → IsTag clients (slot_tag tags client slot)
+slot-tag tags clients client slot number most there within =
+    subst (λ t. IsTag clients (slot_tag t client slot)) (sym number) (record { client = omega arith; small = omega arith })
 
 answered-fits : (clients count tag : ℕ) (task : TaggedTask) (answer : TaskAnswer) (request : Request) (reply : Reply) → IsTag clients tag
     → task.ticket < 2 ^ 60 → IsSoundRequest count task request → request_bytes request ≤ WINDOW_BYTES
@@ -89,13 +90,13 @@ if_some : (P : Reply → Type 0) (told : Option Reply) → ((reply : Reply) → 
 if_some P None each = tt
 if_some P (Some reply) each = each reply refl
 
-held-replies : (clients client slot : ℕ) (first : BlockMaps) (part : Part) (held : Option Entry) → clients ≤ MAX_CLIENTS → client < clients
-    → IsFinePart first part → held_at part.entries slot ≡ held → IfSome (option_and_then (entry_reply (slot_tag client slot)) held) (Fits clients)
-held-replies clients client slot first part None most there fine is = tt
-held-replies clients client slot first part (Some entry) most there fine is =
+held-replies : (tags clients client slot : ℕ) (first : BlockMaps) (part : Part) (held : Option Entry) → tags ≡ TAGS → clients ≤ USUAL_CLIENTS
+    → client < clients → IsFinePart first part → held_at part.entries slot ≡ held → IfSome (option_and_then (entry_reply (slot_tag tags client slot)) held) (Fits clients)
+held-replies tags clients client slot first part None number most there fine is = tt
+held-replies tags clients client slot first part (Some entry) number most there fine is =
     let within : slot < TAGS = omega (arith, held-within part.entries slot entry is, fine.slots) in
-    if_some (Fits clients) (reply_of (slot_tag client slot) entry.task) (λ reply told.
-    reply-fits clients part.unit.count (slot_tag client slot) entry.task entry.task.phase reply (slot-tag clients client slot most there within)
+    if_some (Fits clients) (reply_of (slot_tag tags client slot) entry.task) (λ reply told.
+    reply-fits clients part.unit.count (slot_tag tags client slot) entry.task entry.task.phase reply (slot-tag tags clients client slot number most there within)
     (held-fine first part slot entry fine is) told)
 
 settled-fine : (clients : ℕ) (first : BlockMaps) (part : Part) (slot : ℕ) (rest : List ℕ) (reply : Option Reply) → IsFinePart first part
@@ -105,13 +106,13 @@ settled-fine clients first part slot rest (Some reply) fine fits =
     let wrote : IsFinePart first (record part { entries = slice_set part.entries slot None }) = written-fine first part slot None fine tt in
     record { part_fine = record { slots = wrote.slots; tasks = wrote.tasks; unit_same = wrote.unit_same }; reply_fits = fits }
 
-taken-fine : (clients client : ℕ) (first : BlockMaps) (part : Part) (ready : List ℕ) → clients ≤ MAX_CLIENTS → client < clients → IsFinePart first part
-    → IsFineTake clients first (taken client part ready)
-taken-fine clients client first part [] most there fine = record { part_fine = fine; reply_fits = tt }
-taken-fine clients client first part (slot ∷ rest) most there fine =
-    settled-fine clients first part slot rest (option_and_then (entry_reply (slot_tag client slot)) (held_at part.entries slot)) fine
-    (held-replies clients client slot first part (held_at part.entries slot) most there fine refl)
+taken-fine : (tags clients client : ℕ) (first : BlockMaps) (part : Part) (ready : List ℕ) → tags ≡ TAGS → clients ≤ USUAL_CLIENTS → client < clients
+    → IsFinePart first part → IsFineTake clients first (taken tags client part ready)
+taken-fine tags clients client first part [] number most there fine = record { part_fine = fine; reply_fits = tt }
+taken-fine tags clients client first part (slot ∷ rest) number most there fine =
+    settled-fine clients first part slot rest (option_and_then (entry_reply (slot_tag tags client slot)) (held_at part.entries slot)) fine
+    (held-replies tags clients client slot first part (held_at part.entries slot) number most there fine refl)
 
-pub take_act-fine : (clients client : ℕ) (first : BlockMaps) (part : Part) → clients ≤ MAX_CLIENTS → client < clients → IsFinePart first part
-    → IsFineTake clients first (take_act client part)
-take_act-fine clients client first part most there fine = taken-fine clients client first part part.ready most there fine
+pub take_act-fine : (tags clients client : ℕ) (first : BlockMaps) (part : Part) → tags ≡ TAGS → clients ≤ USUAL_CLIENTS → client < clients
+    → IsFinePart first part → IsFineTake clients first (take_act tags client part)
+take_act-fine tags clients client first part number most there fine = taken-fine tags clients client first part part.ready number most there fine

@@ -1,14 +1,14 @@
 -- Every step keeps what is so of all tasks and units, and its reply fits. Cited by FineLogs.
-use Rattle.std.proofs.Common.{◌≡◌, ℕ, zero, suc, ◌<◌, ◌≤◌, ◌^◌, Bool, true, false, cond, List, [], ◌∷◌, length, Option, Some, None, IfSome, is_some, replicate}
+use Rattle.std.proofs.Common.{◌≡◌, ℕ, zero, suc, ◌<◌, ◌≤◌, ◌^◌, true, false, cond, List, [], ◌∷◌, length, Option, Some, None, IfSome, is_some, replicate}
 use Rattle.std.proofs.Common.{refl, arith, ap, sym, subst, ◌∙◌}
 use Rattle.std.specs.Prelude.{slice_get, slice_set}
 use Rattle.std.proofs.lemmas.List.{length-replicate}
 use Rattle.std.proofs.lemmas.Option.{none-some, same_Some}
 use Rattle.block_unit.specs.BlockMaps.{BlockMaps}
-use Rattle.uas_profile.specs.declared.TheConstants.{MAX_CLIENTS, TAGS, TASK_SLOT}
+use Rattle.uas_profile.specs.declared.TheConstants.{USUAL_CLIENTS, MOST_TAGS, TAGS}
 use Rattle.uas_profile.specs.declared.Pipe.{Pipe}
 use Rattle.uas_profile.specs.declared.Place.{Place}
-use Rattle.uas_profile.specs.Places.{command_slot, place_of}
+use Rattle.uas_profile.specs.Tags.{command_slot, place_of, task_slot}
 use Rattle.uas_profile.specs.PipeStates.{stopped_pipe}
 use Rattle.scsi_cmd.specs.Laws.{moved-short, submit_fault-none}
 use Rattle.scsi_cmd.specs.Held.{AllHeld, held_at}
@@ -28,17 +28,17 @@ use Rattle.shared_machine.specs.declared.Step.TheVariants.{Submit, Task as TaskS
 use Rattle.shared_machine.specs.Td.{Entry}
 use Rattle.shared_machine.specs.Part.{Act, Part, carry_act, event_act, fault_at, managed_part, move_act, named_slot, new_entry, new_management, new_part}
 use Rattle.shared_machine.specs.Part.{noted_tickets, pass_act, retire_act, send_act, stop_act, submitted_part, take_act, task_fault_at}
-use Rattle.shared_machine.specs.Shared.{Shared, acted_on, accepted, answered, at_stage, carry_step, due, due_step, engine_did, engine_seen, engine_step, event_seen}
-use Rattle.shared_machine.specs.Shared.{event_step, idle, managed, managed_or, managed_to, new_parts, pipe_of, resumed, retire_step, routed, routed_by_tag, routed_to}
+use Rattle.shared_machine.specs.Shared.{Shared, answered, at_stage, carry_step, due, due_step, engine_did, engine_seen, engine_step, event_seen}
+use Rattle.shared_machine.specs.Shared.{event_step, idle, managed_or, managed_to, new_parts, pipe_of, resumed, retire_step, routed, routed_by_tag, routed_to}
 use Rattle.shared_machine.specs.Shared.{shared_step, stage_seen, streams_pending, submitted_to, submitted_under, with_pipe}
 use Rattle.shared_machine.proofs.NumberOfClients.{with_pipe-own}
 use Rattle.shared_machine.proofs.Standing.{get-within}
 use Rattle.machine_invariant.proofs.MatchedEnds.{unfaulted}
 use Rattle.machine_invariant.proofs.OrderedMessages.{part-written}
-use Rattle.booked_limits.proofs.FineTasks.{IsFine, IsWide, same_unit}
+use Rattle.booked_limits.proofs.FineTasks.{IsWide, same_unit}
 use Rattle.booked_limits.proofs.FineParts.{IsFineAct, IsFineEntry, IsFinePart, carry_act-fine, event_act-fine, move_act-fine, pass_act-fine, retire_act-fine}
 use Rattle.booked_limits.proofs.FineParts.{send_act-fine, stop_act-fine, written-fine}
-use Rattle.booked_limits.proofs.FineReplies.{Fits, IsFineTake, take_act-fine}
+use Rattle.booked_limits.proofs.FineReplies.{Fits, take_act-fine}
 
 -- a client's part is fine, over the unit that the client had at first
 pub record IsFineAt (units : List BlockMaps) (client : ℕ) (part : Part) : Type 0 where
@@ -142,10 +142,10 @@ module _ (units : List BlockMaps) (wide : AreWide units) (clients : ℕ) where
       → AreFine units state.parts → slice_get state.parts place.client ≡ Some part → ticket < 2 ^ 60
       → IsFineStep units clients (managed_or state part place slot ticket task fault)
   managed_or-fine state part place slot ticket task None all there below = record {
-    parts_fine = wrote-fine state.parts place.client part (managed_part part slot ticket task) there all (λ first big fine.
-        let entry = new_management ticket task (noted_tickets part slot task) in
+    parts_fine = wrote-fine state.parts place.client part (managed_part state.tags part slot ticket task) there all (λ first big fine.
+        let entry = new_management ticket task (noted_tickets state.tags part slot task) in
         let it : IsFineEntry part.unit.count entry = record { ticket = below; sound = tt; small = omega arith } in
-        let wrote = written-fine first part TASK_SLOT (Some entry) fine it in
+        let wrote = written-fine first part (task_slot state.tags) (Some entry) fine it in
         record { slots = wrote.slots; tasks = wrote.tasks; unit_same = wrote.unit_same });
     reply_fits = tt;
   }
@@ -156,7 +156,7 @@ module _ (units : List BlockMaps) (wide : AreWide units) (clients : ℕ) where
       → slice_get state.parts place.client ≡ found → ticket < 2 ^ 60 → IsFineStep units clients (managed_to state place slot ticket task found)
   managed-fine state place slot ticket task None all is below = unchanged state.parts (managed_to state place slot ticket task None) refl refl all
   managed-fine state place slot ticket task (Some part) all is below =
-      managed_or-fine state part place slot ticket task (task_fault_at part slot ticket task) all is below
+      managed_or-fine state part place slot ticket task (task_fault_at state.tags part slot ticket task) all is below
 
   -- RETIREMENT
 
@@ -220,48 +220,49 @@ module _ (units : List BlockMaps) (wide : AreWide units) (clients : ℕ) where
 
   -- TAKE
 
-  take_to-fine : (state : Shared) (client : ℕ) (found : Option Part) → length state.parts ≡ clients → clients ≤ MAX_CLIENTS → AreFine units state.parts
-      → slice_get state.parts client ≡ found → IsFineStep units clients (routed_to state client (take_act client) found)
-  take_to-fine state client None many most all is = unchanged state.parts (routed_to state client (take_act client) None) refl refl all
-  take_to-fine state client (Some part) many most all is =
+  take_to-fine : (state : Shared) (client : ℕ) (found : Option Part) → state.tags ≡ TAGS → length state.parts ≡ clients → clients ≤ USUAL_CLIENTS
+      → AreFine units state.parts → slice_get state.parts client ≡ found
+      → IsFineStep units clients (routed_to state client (take_act state.tags client) found)
+  take_to-fine state client None number many most all is = unchanged state.parts (routed_to state client (take_act state.tags client) None) refl refl all
+  take_to-fine state client (Some part) number many most all is =
       let it = all client part is in
       let there : client < clients = omega (arith, get-within state.parts client part is, many) in record {
-        parts_fine = wrote-fine state.parts client part (take_act client part).part is all (λ first big fine.
-            (take_act-fine clients client first part most there fine).part_fine);
-        reply_fits = (take_act-fine clients client it.first part most there it.fine).reply_fits;
+        parts_fine = wrote-fine state.parts client part (take_act state.tags client part).part is all (λ first big fine.
+            (take_act-fine state.tags clients client first part number most there fine).part_fine);
+        reply_fits = (take_act-fine state.tags clients client it.first part number most there it.fine).reply_fits;
       }
 
   -- EVERY STEP
 
-  due_step-fine : (state : Shared) (step : Step) → length state.parts ≡ clients → clients ≤ MAX_CLIENTS → HasTicket step → AreFine units state.parts
-      → IsFineStep units clients (due_step state step)
-  due_step-fine state (Submit client tag ticket command) many most has all =
-      submitted-fine state client tag ticket command (command_slot (length state.parts) client tag) all has
-  due_step-fine state (TaskStep client ticket task) many most has all =
-      managed-fine state (record { client = client; slot = TASK_SLOT }) (named_slot (length state.parts) client task) ticket task
+  due_step-fine : (state : Shared) (step : Step) → state.tags ≡ TAGS → length state.parts ≡ clients → clients ≤ USUAL_CLIENTS → HasTicket step
+      → AreFine units state.parts → IsFineStep units clients (due_step state step)
+  due_step-fine state (Submit client tag ticket command) number many most has all =
+      submitted-fine state client tag ticket command (command_slot state.tags (length state.parts) client tag) all has
+  due_step-fine state (TaskStep client ticket task) number many most has all =
+      managed-fine state (record { client = client; slot = task_slot state.tags }) (named_slot state.tags (length state.parts) client task) ticket task
       (slice_get state.parts client) all refl has
-  due_step-fine state CommandPipe many most has all = carry-fine state state.messages all
-  due_step-fine state (Data tag) many most has all =
-      tagged-fine state move_act (place_of (length state.parts) tag) all (λ at first part big fine. move_act-fine first big at part fine)
-  due_step-fine state (Status tag) many most has all =
-      tagged-fine state send_act (place_of (length state.parts) tag) all (λ at first part big fine. send_act-fine first at part fine)
-  due_step-fine state Engine many most has all = engine-fine state state.retirement all
-  due_step-fine state Event many most has all = event-fine state state.events all
-  due_step-fine state (Retire pipe tag) many most has all = retire-fine state pipe (place_of (length state.parts) tag) all
-  due_step-fine state (Take client) many most has all = take_to-fine state client (slice_get state.parts client) many most all refl
+  due_step-fine state CommandPipe number many most has all = carry-fine state state.messages all
+  due_step-fine state (Data tag) number many most has all =
+      tagged-fine state move_act (place_of state.tags (length state.parts) tag) all (λ at first part big fine. move_act-fine first big at part fine)
+  due_step-fine state (Status tag) number many most has all =
+      tagged-fine state send_act (place_of state.tags (length state.parts) tag) all (λ at first part big fine. send_act-fine first at part fine)
+  due_step-fine state Engine number many most has all = engine-fine state state.retirement all
+  due_step-fine state Event number many most has all = event-fine state state.events all
+  due_step-fine state (Retire pipe tag) number many most has all = retire-fine state pipe (place_of state.tags (length state.parts) tag) all
+  due_step-fine state (Take client) number many most has all = take_to-fine state client (slice_get state.parts client) number many most all refl
 
-  pub shared_step-fine : (state : Shared) (step : Step) → length state.parts ≡ clients → clients ≤ MAX_CLIENTS → HasTicket step → AreFine units state.parts
-      → IsFineStep units clients (shared_step state step)
-  shared_step-fine state step many most has all =
+  pub shared_step-fine : (state : Shared) (step : Step) → state.tags ≡ TAGS → length state.parts ≡ clients → clients ≤ USUAL_CLIENTS → HasTicket step
+      → AreFine units state.parts → IsFineStep units clients (shared_step state step)
+  shared_step-fine state step number many most has all =
       elim (due state step) as (λ b. IsFineStep units clients (cond b (due_step state step) (state, idle))) [
-        | true ↦ due_step-fine state step many most has all
+        | true ↦ due_step-fine state step number many most has all
         | false ↦ unchanged state.parts (state, idle) refl refl all
       ]
 
 -- THE OPENING
 
 new-fine : (number : ℕ) (unit : BlockMaps) → IsFinePart unit (new_part number unit)
-new-fine number unit = record { slots = length-replicate {A = Option Entry} TAGS None; tasks = none-fine unit.count TAGS; unit_same = same_unit unit }
+new-fine number unit = record { slots = length-replicate {A = Option Entry} MOST_TAGS None; tasks = none-fine unit.count MOST_TAGS; unit_same = same_unit unit }
   where
     none-fine : (count n : ℕ) → AllHeld (IsFineEntry count) (replicate n None)
     none-fine count zero = tt

@@ -32,7 +32,7 @@ use Rattle.solo_model.specs.declared.Phase.{Phase}
 use Rattle.solo_model.specs.declared.Phase.TheVariants.{Queued, Begun, Sent, Gone}
 use Rattle.solo_model.specs.declared.TaskAnswer.{TaskAnswer}
 use Rattle.solo_model.specs.declared.TaskProgress.TheVariants.{Moving, Ended}
-use Rattle.solo_model.specs.Soundness.{IsSound, IsSoundOp, IsSoundProgress, IsSoundRequest}
+use Rattle.solo_model.specs.Soundness.{IsSound, IsSoundProgress, IsSoundRequest}
 use Rattle.solo_model.specs.TaggedTask.{TaggedTask, after_notes, can_be_ended, carried_from, carried_request, chunk_brought, is_noted, moved, of_command}
 use Rattle.solo_model.specs.TaggedTask.{request_begun, sent_from, unit_managed}
 use Rattle.solo_model.proofs.Carried.{sound-heeded}

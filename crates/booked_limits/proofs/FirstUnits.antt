@@ -1,11 +1,10 @@
 -- The first units of a log fit its text, where the units that its replay leaves are units. Cited by BookedLogs.
-use Rattle.std.proofs.Common.{◌≡◌, ℕ, zero, suc, ◌+◌, ◌*◌, ◌<◌, ◌≤◌, List, [], ◌∷◌, map, length, Option, Some, None, All, refl, arith, ap, sym, subst, ◌∙◌}
+use Rattle.std.proofs.Common.{◌≡◌, ℕ, zero, suc, ◌+◌, ◌<◌, List, [], ◌∷◌, map, length, Some, None, All, refl, arith, ap, sym, subst, ◌∙◌}
 use Rattle.std.specs.Prelude.{slice_get}
 use Rattle.std.specs.List.{AllByRecursion}
 use Rattle.std.proofs.lemmas.Option.{none-some, same_Some}
 use Rattle.block_unit.specs.BlockMaps.{BlockMaps, block_count}
 use Rattle.block_unit.proofs.Rising.{RisesFrom, RisesFrom-increasing, RisesFrom-weaker}
-use Rattle.uas_profile.specs.declared.TheConstants.{BLOCK_BYTES}
 use Rattle.shared_machine.specs.Part.{Part}
 use Rattle.shared_machine.proofs.Standing.{get-none, get-within}
 use Rattle.uas_log.specs.declared.FirstUnit.{FirstUnit}

@@ -3,7 +3,7 @@ use Rattle.std.specs.Prelude.{◌≡◌, ℕ, ◌*◌, ◌^◌, ◌<◌, ◌≤�
 use Rattle.std.specs.List.{AllByRecursion}
 use Rattle.std.specs.List.Sorted.{IsStrictlyIncreasing}
 use Rattle.block_unit.specs.BlockMaps.{BlockMaps}
-use Rattle.uas_profile.specs.declared.TheConstants.{BLOCK_BYTES, MAX_BLOCKS}
+use Rattle.uas_profile.specs.declared.TheConstants.{BLOCK_BYTES, MAX_BLOCKS, TAGS}
 use Rattle.shared_machine.specs.Part.{Part}
 use Rattle.shared_machine.specs.declared.Step.{Step}
 use Rattle.shared_machine.specs.declared.Step.TheVariants.{Submit, Task, CommandPipe, Data, Status, Engine, Event, Retire, Take}
@@ -24,10 +24,12 @@ HasFields Event = Unit {0}
 HasFields (Retire pipe tag) = Unit {0}
 HasFields (Take client) = Unit {0}
 
--- A true log of fewer than 2^32 steps has a text, where its units have whole blocks and its operations are those of CDBs.
+-- A true log of 16 tags of each client and fewer than 2^32 steps has a text, where its units have whole blocks and its operations are
+-- those of CDBs.
 abbrev pub TrueLogsFit : Type 0
 TrueLogsFit =
-    (log : Log) → IsReplay log → length log.steps < 2 ^ 32 → AllByRecursion UnitFits log.units → AllByRecursion HasFields log.steps → IsSavable log
+    (log : Log) → IsReplay log → log.tags ≡ TAGS → length log.steps < 2 ^ 32 → AllByRecursion UnitFits log.units → AllByRecursion HasFields log.steps
+    → IsSavable log
 
 -- a unit has 1 to 65,536 whole blocks, and its bad blocks are among them, rising
 pub record IsUnit (unit : BlockMaps) : Type 0 where

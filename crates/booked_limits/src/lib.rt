@@ -23,7 +23,8 @@ mod fields;
 pub use booked::booked_logs_fit;
 pub use fields::have_fields;
 
-/// A true log of fewer than 2^32 steps fits the limits of its text, where its units and the numbers of its operations do.
+/// A true log of 16 tags of each client and fewer than 2^32 steps fits the limits of its text, where its units and the numbers of its
+/// operations do.
 pub fn true_logs_fit()
     ensures { TrueLogsFit }
 {}

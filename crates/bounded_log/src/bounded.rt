@@ -5,21 +5,22 @@ ghost use Rattle.shared_machine.specs.Rooms.{step_len};
 ghost use Rattle.shared_machine.specs.Shared.{due};
 ghost use Rattle.uas_work.specs.Booked.{booked_step};
 ghost use Rattle.bounded_log.specs.Bytes.{bytes_after, log_bytes};
+ghost use Rattle.bounded_log.specs.declared.LimitFault.TheVariants.{TooLow};
 
 use crate::counting::{log_bytes, with_bytes, with_step};
-use crate::{BoundedBooked, BoundedBooking};
+use crate::{BoundedBooked, BoundedBooking, LimitFault};
 use bus_core::Bus;
 use shared_machine::{Outcome, Step};
 use std::alloc::Global;
 use uas_work::{Booked, Booking};
 
 impl BoundedBooked {
-    /// The booked bus, whose log's entries may take `limit` bytes; those that it has are counted. It comes back exactly where they take
-    /// more. Takes no memory.
-    pub fn new(booked: Booked, limit: usize) -> Result<BoundedBooked, Booked>
+    /// The booked bus, whose log's entries may take `limit` bytes; those that it has are counted. It comes back with `TooLow` exactly where
+    /// they take more. Takes no memory.
+    pub fn new(booked: Booked, limit: usize) -> Result<BoundedBooked, (LimitFault, Booked)>
         ensures made { IfOk result (λ it. it ≡ record { booked = booked; limit = limit; bytes = log_bytes booked.log }) }
         ensures fits { IsOk result ↔ (log_bytes booked.log ≤ limit) }
-        ensures back { IfErr result (λ back. back ≡ booked) }
+        ensures back { IfErr result (λ back. back ≡ (TooLow, booked)) }
     {
         match log_bytes(booked.log(), limit) {
             Some(bytes) => Ok(BoundedBooked {
@@ -27,7 +28,7 @@ impl BoundedBooked {
                 limit,
                 bytes,
             }),
-            None => Err(booked),
+            None => Err((LimitFault::TooLow, booked)),
         }
     }
 

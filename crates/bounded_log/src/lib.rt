@@ -35,6 +35,13 @@ pub enum BoundedBooking {
     NoMemory,
 }
 
+/// Why a booked bus was not taken.
+#[derive(Clone, Copy, Debug, PartialEq, Eq, Error)]
+pub enum LimitFault {
+    #[error("the log's entries take more bytes than they may")]
+    TooLow,
+}
+
 /// A bus and its log, whose entries take no more bytes than they may.
 #[derive(Debug, Drop)]
 pub struct BoundedBooked {

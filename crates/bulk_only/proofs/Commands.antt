@@ -70,7 +70,7 @@ flags_back byte small =
     cond_both (nat_le (2 ^ 7) byte) (2 ^ 7) 0 (λ (n : ℕ). n ≡ 2 ^ 7 * (byte / 2 ^ 7))
     (λ yes. omega (arith, leb-true (2 ^ 7) byte yes)) (λ no. omega (arith, leb-false (2 ^ 7) byte no))
 
-small_number : (at : ℕ) (bytes : List ℕ) → AreBytes bytes → little_number 4 (drop at bytes) < 2 ^ 32
+pub small_number : (at : ℕ) (bytes : List ℕ) → AreBytes bytes → little_number 4 (drop at bytes) < 2 ^ 32
 small_number at bytes are = let small = little_from-lt 0 4 (drop at bytes) (bytes_dropped at bytes are) in omega (arith, small)
 
 fits_read : (bytes : List ℕ) → length bytes ≡ 31 → is_cdb_length (slice_index bytes 14 % 2 ^ 5) ≡ true → AreBytes bytes → FitsCbw (cbw_of bytes)

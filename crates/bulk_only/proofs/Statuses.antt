@@ -1,17 +1,16 @@
 -- CSWs and their bytes give each other back.
-use Rattle.std.proofs.Common.{◌≡◌, ℕ, ◌^◌, ◌<◌, ◌==◌, ◌&&◌, List, [], ◌∷◌, ◌++◌, length, take, drop, slice_index}
+use Rattle.std.proofs.Common.{◌≡◌, ℕ, ◌==◌, ◌&&◌, List, [], ◌∷◌, ◌++◌, length, take, drop, slice_index}
 use Rattle.std.proofs.Common.{Option, Some, None, refl, ap, ap₂, subst, ◌∙◌, arith}
 use Rattle.std.specs.Prelude.{IfSome}
 use Rattle.std.proofs.lemmas.Bool.{and_parts, cond_both, eqb-true}
 use Rattle.byteorder.specs.Endian.{little_bytes, little_number}
-use Rattle.byteorder.specs.Numbers.{little_from-lt, little_number-reads_back}
+use Rattle.byteorder.specs.Numbers.{little_number-reads_back}
 use Rattle.byte_numbers.specs.Bytes.{AreBytes}
-use Rattle.byte_numbers.proofs.Bytes.{bytes_dropped}
 use Rattle.bulk_only.specs.declared.status.Csw.{Csw}
 use Rattle.bulk_only.specs.declared.status.CswStatus.{CswStatus}
 use Rattle.bulk_only.specs.declared.status.CswStatus.TheVariants.{Passed, Failed, PhaseError}
 use Rattle.bulk_only.specs.Status.{FitsCsw, csw_in, csw_text, csw_with, status_byte, status_in}
-use Rattle.bulk_only.proofs.Commands.{twelve_back}
+use Rattle.bulk_only.proofs.Commands.{small_number, twelve_back}
 
 same_csw : (t r : ℕ) (s : CswStatus) (csw : Csw) → t ≡ csw.tag → r ≡ csw.residue → s ≡ csw.status
     → ◌≡◌ {A = Csw} (record { tag = t; residue = r; status = s }) csw
@@ -37,9 +36,6 @@ byte_back byte =
     cond_both (byte == 0) (Some Passed) _ P (λ e. omega (arith, eqb-true byte 0 e))
     (λ other. cond_both (byte == 1) (Some Failed) _ P (λ e. omega (arith, eqb-true byte 1 e))
     (λ another. cond_both (byte == 2) (Some PhaseError) None P (λ e. omega (arith, eqb-true byte 2 e)) (λ none. tt)))
-
-small_number : (at : ℕ) (bytes : List ℕ) → AreBytes bytes → little_number 4 (drop at bytes) < 2 ^ 32
-small_number at bytes are = let small = little_from-lt 0 4 (drop at bytes) (bytes_dropped at bytes are) in omega (arith, small)
 
 last_byte : (bytes : List ℕ) → length bytes ≡ 13 → take 12 bytes ++ (slice_index bytes 12 ∷ []) ≡ bytes
 last_byte (a ∷ b ∷ c ∷ d ∷ e ∷ f ∷ g ∷ h ∷ i ∷ j ∷ k ∷ l ∷ m ∷ []) size = refl

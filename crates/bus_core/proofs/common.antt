@@ -1,8 +1,10 @@
 -- What several steps share: one cell changes and all others fit, the event ring read both ways, the world that a bus's fields hold.
 pub mod EventTexts
+pub mod AtTags
 pub mod Framing
 pub mod EventTds
 pub mod ReadBack
+pub mod ReadBackCells
 pub mod OpeningFits
 pub mod OutcomeMarks
 pub mod ActFits

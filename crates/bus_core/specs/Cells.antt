@@ -17,7 +17,7 @@ use Rattle.uas_profile.specs.declared.TdState.TheVariants.{Pending, Seen, LeftOv
 use Rattle.uas_host.specs.declared.HostAnswer.{HostAnswer}
 use Rattle.uas_host.specs.declared.HostAnswer.TheVariants.{Unanswered, Status as AnsweredStatus, Response as AnsweredResponse}
 use Rattle.uas_host.specs.declared.HostEntry.{HostEntry}
-use Rattle.uas_profile.specs.Places.{tag_of}
+use Rattle.uas_profile.specs.Tags.{tag_of}
 use Rattle.uas_host.specs.Tasks.{named_tag}
 use Rattle.uas_host.specs.Tds.{data_td, status_td}
 use Rattle.shared_machine.specs.declared.Td.{Td}
@@ -111,18 +111,18 @@ HasNoBytes (Manage what noted) buffer = buffer ≡ []
 -- ONE CELL
 
 -- a cell with an entry of a client whose unit has so many blocks
-pub record FitsCell (client count : ℕ) (place : Place) (entry : Entry) (cell : Cell) : Type 0 where
+pub record FitsCell (tags client count : ℕ) (place : Place) (entry : Entry) (cell : Cell) : Type 0 where
   pub held : cell.held ≡ Some (host_side entry)
   pub task : cell.task ≡ device_task client entry
-  pub status : HoldsTd cell.status (status_td (tag_of place)) entry.status_td
-  pub data_in : HoldsData cell.data_in (data_td (tag_of place) (request_bytes entry.task.request))
+  pub status : HoldsTd cell.status (status_td (tag_of tags place)) entry.status_td
+  pub data_in : HoldsData cell.data_in (data_td (tag_of tags place) (request_bytes entry.task.request))
       (data_in_td (request_direction entry.task.request) entry.data_td)
-  pub data_out : HoldsData cell.data_out (data_td (tag_of place) (request_bytes entry.task.request))
+  pub data_out : HoldsData cell.data_out (data_td (tag_of tags place) (request_bytes entry.task.request))
       (data_out_td (request_direction entry.task.request) entry.data_td)
   pub lent : cell.buffers.lent ≡ lent_for entry.task.request entry.task.buffer
   pub bytes : HasNoBytes entry.task.request entry.task.buffer
-  pub unit : HasUnitIn client (tag_of place) entry.task.request cell.buffers.command
-  pub answer : HasAnswerIn entry.task.phase (tag_of place) cell.buffers.status
+  pub unit : HasUnitIn client (tag_of tags place) entry.task.request cell.buffers.command
+  pub answer : HasAnswerIn entry.task.phase (tag_of tags place) cell.buffers.status
   pub sound : IsSound count entry.task
 
 -- a cell with nothing
@@ -134,6 +134,6 @@ pub record IsEmptyCell (cell : Cell) : Type 0 where
   pub data_out : HoldsTrbs cell.data_out [] 0
   pub lent : cell.buffers.lent ≡ None
 
-abbrev pub FitsHeld : ℕ → ℕ → Place → Option Entry → Cell → Type 0
-FitsHeld client count place None cell = IsEmptyCell cell
-FitsHeld client count place (Some entry) cell = FitsCell client count place entry cell
+abbrev pub FitsHeld : ℕ → ℕ → ℕ → Place → Option Entry → Cell → Type 0
+FitsHeld tags client count place None cell = IsEmptyCell cell
+FitsHeld tags client count place (Some entry) cell = FitsCell tags client count place entry cell

@@ -9,7 +9,7 @@ use Rattle.uas_profile.specs.declared.Pipe.{Pipe}
 use Rattle.uas_profile.specs.declared.Pipe.TheVariants.{Command, Status, DataIn, DataOut}
 use Rattle.uas_profile.specs.declared.Direction.{Direction}
 use Rattle.uas_profile.specs.declared.Direction.TheVariants.{Nothing, ToHost, ToDevice}
-use Rattle.uas_profile.specs.declared.TheConstants.{TAGS}
+use Rattle.uas_profile.specs.declared.TheConstants.{MOST_TAGS}
 use Rattle.uas_profile.specs.declared.Place.{Place}
 use Rattle.uas_profile.specs.declared.TdState.{TdState}
 use Rattle.uas_profile.specs.declared.TdState.TheVariants.{Pending, Seen, LeftOver, Retired}
@@ -19,7 +19,7 @@ use Rattle.uas_host.specs.declared.EndedTd.{EndedTd}
 use Rattle.uas_host.specs.declared.Retirement.{Retirement as HostRetirement}
 use Rattle.uas_host.specs.declared.RetirementStage.{RetirementStage as HostStage}
 use Rattle.uas_host.specs.declared.RetirementStage.TheVariants.{Stopping, Moving as HostMoving}
-use Rattle.uas_profile.specs.Places.{place_of}
+use Rattle.uas_profile.specs.Tags.{place_of}
 use Rattle.uas_host.specs.Events.{command_tag, ended_at}
 use Rattle.shared_machine.specs.declared.Td.{Td}
 use Rattle.shared_machine.specs.declared.Completion.{Completion}
@@ -37,13 +37,13 @@ use Rattle.bus_core.specs.Fits.{Fits, place_in}
 
 -- MESSAGES AND EVENTS
 
--- the place whose command TRB this is, of so many clients
-abbrev pub message_in : ℕ → Item → Option Place
-message_in clients item = option_and_then (place_of clients) (option_and_then command_tag (known_of item))
+-- the place whose command TRB this is, of so many clients with so many tags
+abbrev pub message_in : ℕ → ℕ → Item → Option Place
+message_in tags clients item = option_and_then (place_of tags clients) (option_and_then command_tag (known_of item))
 
 -- the messages are the TRBs of the command pipe that are pending
 abbrev pub decoded_messages : World → List Place
-decoded_messages world = filter_map (message_in (length world.host.clients)) (drop world.lines.command.got world.lines.command.put)
+decoded_messages world = filter_map (message_in world.host.tags (length world.host.clients)) (drop world.lines.command.got world.lines.command.put)
 
 -- which TD of a place an event is of, by its pipe
 abbrev pub completion_on : Pipe → Place → Completion
@@ -52,13 +52,13 @@ completion_on Status place = StatusDone place
 completion_on DataIn place = DataDone place
 completion_on DataOut place = DataDone place
 
-abbrev pub completion_of_td : ℕ → EndedTd → Option Completion
-completion_of_td clients td = option_map (completion_on td.pipe) (place_of clients td.tag)
+abbrev pub completion_of_td : ℕ → ℕ → EndedTd → Option Completion
+completion_of_td tags clients td = option_map (completion_on td.pipe) (place_of tags clients td.tag)
 
 -- The TD that the host finds for an event is the one that it is of; an event of the controller's own commands is of the retirement.
 abbrev pub completion_of : World → Event → Option Completion
 completion_of world (Transfer pointer residual code endpoint slot) =
-    option_and_then (completion_of_td (length world.host.clients)) (ended_at world.lines pointer)
+    option_and_then (completion_of_td world.host.tags (length world.host.clients)) (ended_at world.lines pointer)
 completion_of world (CommandCompletion pointer code slot) = option_map (λ retirement. EngineDone retirement.place) world.host.retirement
 
 abbrev pub decoded_events : World → List Completion
@@ -99,10 +99,10 @@ abbrev pub decoded_cell : Cell → ℕ → Option Entry
 decoded_cell cell waiting = option_map (decoded_held waiting cell) cell.held
 
 abbrev pub decoded_slot : World → List Place → ℕ → ℕ → Option Entry
-decoded_slot world messages client slot = decoded_cell (cell_at world (place_in client slot)) (times (place_in client slot) messages)
+decoded_slot world messages client slot = decoded_cell (cell_at world.host.tags world (place_in client slot)) (times (place_in client slot) messages)
 
 abbrev pub decoded_entries : World → List Place → ℕ → List (Option Entry)
-decoded_entries world messages client = map (decoded_slot world messages client) (range_with_len 0 TAGS)
+decoded_entries world messages client = map (decoded_slot world messages client) (range_with_len 0 MOST_TAGS)
 
 -- PARTS
 
@@ -138,6 +138,7 @@ decoded_retirement world retirement =
 -- the whole
 abbrev pub decoded : World → Shared
 decoded world = record {
+  tags = world.host.tags;
   parts = decoded_parts world (decoded_messages world) 0 world.host.clients world.device.units;
   messages = decoded_messages world;
   events = decoded_events world;

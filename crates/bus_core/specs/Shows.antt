@@ -1,5 +1,5 @@
 -- The rings show the shared machine: what it has waiting stands in them, in order, and nothing else does. The buffers show its units and vectors.
-use Rattle.std.specs.Prelude.{◌≡◌, ℕ, suc, ◌*◌, ◌<◌, ◌≤◌, ◌==◌, if◌then◌else◌, List, [], ◌∷◌, drop, length, map, Option, None, Some}
+use Rattle.std.specs.Prelude.{◌≡◌, ℕ, suc, ◌<◌, ◌≤◌, ◌==◌, if◌then◌else◌, List, [], ◌∷◌, drop, length, map, Option, None, Some}
 use Rattle.xhci_trb.specs.declared.Trb.{Trb}
 use Rattle.cycle_ring.specs.Ring.{cycle_of, pointer_of}
 use Rattle.cycle_ring.specs.Items.{Item, ItemRing, known}
@@ -8,7 +8,7 @@ use Rattle.event_ring.specs.declared.Event.TheVariants.{Transfer, Command as Com
 use Rattle.uas_profile.specs.declared.Pipe.{Pipe}
 use Rattle.uas_profile.specs.declared.Pipe.TheVariants.{Command, Status, DataIn, DataOut}
 use Rattle.stream_array.specs.declared.Dequeue.{Dequeue}
-use Rattle.uas_profile.specs.declared.TheConstants.{TAGS, STREAM_RING_PLACES, COMMAND_RING_PLACES, ENGINE_RING_PLACES, SUCCESS, SHORT_PACKET}
+use Rattle.uas_profile.specs.declared.TheConstants.{STREAM_RING_PLACES, COMMAND_RING_PLACES, ENGINE_RING_PLACES, SUCCESS, SHORT_PACKET}
 use Rattle.uas_profile.specs.declared.TheConstants.{MOST_DATA_TRBS, MOST_EVENTS_PENDING, MOST_MESSAGES}
 use Rattle.stream_array.specs.Contexts.{Contexts, entry_of}
 use Rattle.uas_profile.specs.Pipes.{HasStreams}
@@ -20,7 +20,7 @@ use Rattle.uas_profile.specs.declared.Place.{Place}
 use Rattle.uas_profile.specs.declared.TdState.{TdState}
 use Rattle.uas_profile.specs.declared.TdState.TheVariants.{Pending, Seen, LeftOver, Retired}
 use Rattle.uas_host.specs.Retirement.{move_trb, stop_trb}
-use Rattle.uas_profile.specs.Places.{tag_of}
+use Rattle.uas_profile.specs.Tags.{tag_of}
 use Rattle.uas_host.specs.Tds.{data_td, status_td}
 use Rattle.xhci_ctl.specs.Steps.{endpoint_of}
 use Rattle.shared_machine.specs.declared.Td.{Td}
@@ -30,7 +30,7 @@ use Rattle.shared_machine.specs.declared.Retirement.{Retirement}
 use Rattle.shared_machine.specs.declared.RetirementStage.{RetirementStage}
 use Rattle.shared_machine.specs.declared.RetirementStage.TheVariants.{StopAsked, StopAnswered, MoveAsked, MoveAnswered}
 use Rattle.shared_machine.specs.Td.{Entry}
-use Rattle.shared_machine.specs.Shared.{Shared, request_direction}
+use Rattle.shared_machine.specs.Shared.{Shared, greatest_tag, request_direction}
 use Rattle.machine_invariant.specs.Matched.{request_bytes, under}
 use Rattle.bus_core.specs.Cells.{HasAnswerIn, HasUnitIn, data_in_td, data_out_td, lent_for}
 use Rattle.bus_core.specs.Fits.{AreUnused, command_item, last_pointer}
@@ -61,13 +61,13 @@ engine_tells ring = record { pointer = pointer_of ENGINE_RING_PLACES ring 0; cod
 
 -- What the events tell that wait, the oldest first: the k-th command event points at TRB k of the command pipe's ring, and an
 -- event of a stream at the last TRB of its TD.
-abbrev pub tells_of : LinesState → ℕ → List Completion → List (Option Tells)
-tells_of lines k [] = []
-tells_of lines k (CommandDone place ∷ rest) = Some (tells (pointer_of COMMAND_RING_PLACES lines.command k) SUCCESS Command) ∷ tells_of lines (suc k) rest
-tells_of lines k (DataDone place ∷ rest) =
-    Some (data_tells (stream_ring lines.data_in (tag_of place)) (stream_ring lines.data_out (tag_of place))) ∷ tells_of lines k rest
-tells_of lines k (EngineDone place ∷ rest) = Some (engine_tells lines.engine) ∷ tells_of lines k rest
-tells_of lines k (StatusDone place ∷ rest) = Some (tells (last_pointer (stream_ring lines.status (tag_of place))) SHORT_PACKET Status) ∷ tells_of lines k rest
+abbrev pub tells_of : ℕ → LinesState → ℕ → List Completion → List (Option Tells)
+tells_of tags lines k [] = []
+tells_of tags lines k (CommandDone place ∷ rest) = Some (tells (pointer_of COMMAND_RING_PLACES lines.command k) SUCCESS Command) ∷ tells_of tags lines (suc k) rest
+tells_of tags lines k (DataDone place ∷ rest) =
+    Some (data_tells (stream_ring lines.data_in (tag_of tags place)) (stream_ring lines.data_out (tag_of tags place))) ∷ tells_of tags lines k rest
+tells_of tags lines k (EngineDone place ∷ rest) = Some (engine_tells lines.engine) ∷ tells_of tags lines k rest
+tells_of tags lines k (StatusDone place ∷ rest) = Some (tells (last_pointer (stream_ring lines.status (tag_of tags place))) SHORT_PACKET Status) ∷ tells_of tags lines k rest
 
 -- TDS
 
@@ -87,38 +87,38 @@ left_of trbs None = []
 left_of trbs (Some td) = left_in trbs td.consumed td.state
 
 -- the TDs of an entry, and none where nothing stands
-abbrev pub status_left : Place → Option Entry → List Trb
-status_left place None = []
-status_left place (Some entry) = left_of (status_td (tag_of place)) (Some entry.status_td)
+abbrev pub status_left : ℕ → Place → Option Entry → List Trb
+status_left tags place None = []
+status_left tags place (Some entry) = left_of (status_td (tag_of tags place)) (Some entry.status_td)
 
-abbrev pub data_in_left : Place → Option Entry → List Trb
-data_in_left place None = []
-data_in_left place (Some entry) =
-    left_of (data_td (tag_of place) (request_bytes entry.task.request)) (data_in_td (request_direction entry.task.request) entry.data_td)
+abbrev pub data_in_left : ℕ → Place → Option Entry → List Trb
+data_in_left tags place None = []
+data_in_left tags place (Some entry) =
+    left_of (data_td (tag_of tags place) (request_bytes entry.task.request)) (data_in_td (request_direction entry.task.request) entry.data_td)
 
-abbrev pub data_out_left : Place → Option Entry → List Trb
-data_out_left place None = []
-data_out_left place (Some entry) =
-    left_of (data_td (tag_of place) (request_bytes entry.task.request)) (data_out_td (request_direction entry.task.request) entry.data_td)
+abbrev pub data_out_left : ℕ → Place → Option Entry → List Trb
+data_out_left tags place None = []
+data_out_left tags place (Some entry) =
+    left_of (data_td (tag_of tags place) (request_bytes entry.task.request)) (data_out_td (request_direction entry.task.request) entry.data_td)
 
 -- the three streams of a place have what is left of the TDs that stand there
-pub record ShowsPlace (lines : LinesState) (place : Place) (held : Option Entry) : Type 0 where
-  pub status : pending_in (stream_ring lines.status (tag_of place)) ≡ map known (status_left place held)
-  pub data_in : pending_in (stream_ring lines.data_in (tag_of place)) ≡ map known (data_in_left place held)
-  pub data_out : pending_in (stream_ring lines.data_out (tag_of place)) ≡ map known (data_out_left place held)
+pub record ShowsPlace (tags : ℕ) (lines : LinesState) (place : Place) (held : Option Entry) : Type 0 where
+  pub status : pending_in (stream_ring lines.status (tag_of tags place)) ≡ map known (status_left tags place held)
+  pub data_in : pending_in (stream_ring lines.data_in (tag_of tags place)) ≡ map known (data_in_left tags place held)
+  pub data_out : pending_in (stream_ring lines.data_out (tag_of tags place)) ≡ map known (data_out_left tags place held)
 
 -- THE CONTROLLER'S COMMAND RING
 
 -- the command that the controller may execute
-abbrev pub commands_at : LinesState → Pipe → Place → RetirementStage → List Trb
-commands_at lines pipe place StopAsked = stop_trb pipe ∷ []
-commands_at lines pipe place StopAnswered = []
-commands_at lines pipe place MoveAsked = move_trb lines pipe (tag_of place) ∷ []
-commands_at lines pipe place MoveAnswered = []
+abbrev pub commands_at : ℕ → LinesState → Pipe → Place → RetirementStage → List Trb
+commands_at tags lines pipe place StopAsked = stop_trb pipe ∷ []
+commands_at tags lines pipe place StopAnswered = []
+commands_at tags lines pipe place MoveAsked = move_trb lines pipe (tag_of tags place) ∷ []
+commands_at tags lines pipe place MoveAnswered = []
 
-abbrev pub commands_of : LinesState → Option Retirement → List Trb
-commands_of lines None = []
-commands_of lines (Some retirement) = commands_at lines retirement.pipe retirement.place retirement.stage
+abbrev pub commands_of : ℕ → LinesState → Option Retirement → List Trb
+commands_of tags lines None = []
+commands_of tags lines (Some retirement) = commands_at tags lines retirement.pipe retirement.place retirement.stage
 
 -- THE WHOLE
 
@@ -126,30 +126,30 @@ commands_of lines (Some retirement) = commands_at lines retirement.pipe retireme
 -- retirement that wasn't executed yet, the event ring an event for each event, and the streams of each place that is there what is left of
 -- its TDs; all in order. A stream that is no client's has nothing.
 pub record ShowsShared (state : Shared) (lines : LinesState) : Type 0 where
-  pub messages : pending_in lines.command ≡ map command_item state.messages
-  pub commands : pending_in lines.engine ≡ map known (commands_of lines state.retirement)
-  pub events : map told_in lines.events.pending ≡ tells_of lines 0 state.events
-  pub places : (place : Place) → place.client < length state.parts → place.slot < TAGS → ShowsPlace lines place (under state.parts place)
-  pub unused : (stream : ℕ) → TAGS * length state.parts < stream → AreUnused lines stream
+  pub messages : pending_in lines.command ≡ map (command_item state.tags) state.messages
+  pub commands : pending_in lines.engine ≡ map known (commands_of state.tags lines state.retirement)
+  pub events : map told_in lines.events.pending ≡ tells_of state.tags lines 0 state.events
+  pub places : (place : Place) → place.client < length state.parts → place.slot < state.tags → ShowsPlace state.tags lines place (under state.parts place)
+  pub unused : (stream : ℕ) → greatest_tag state < stream → AreUnused lines stream
 
 -- BUFFERS
 
 -- The buffers of an entry's tag: its unit in the command buffer, its answer at the front of the status buffer once it was sent, and the vector
 -- that a command lent.
-pub record ShowsEntry (place : Place) (entry : Entry) (held : TagBuffers) : Type 0 where
-  pub unit : HasUnitIn place.client (tag_of place) entry.task.request held.command
-  pub answer : HasAnswerIn entry.task.phase (tag_of place) held.status
+pub record ShowsEntry (tags : ℕ) (place : Place) (entry : Entry) (held : TagBuffers) : Type 0 where
+  pub unit : HasUnitIn place.client (tag_of tags place) entry.task.request held.command
+  pub answer : HasAnswerIn entry.task.phase (tag_of tags place) held.status
   pub lent : held.lent ≡ lent_for entry.task.request entry.task.buffer
 
 -- where no entry stands no vector is lent
-abbrev pub ShowsHeld : Place → Option Entry → TagBuffers → Type 0
-ShowsHeld place None held = held.lent ≡ None
-ShowsHeld place (Some entry) held = ShowsEntry place entry held
+abbrev pub ShowsHeld : ℕ → Place → Option Entry → TagBuffers → Type 0
+ShowsHeld tags place None held = held.lent ≡ None
+ShowsHeld tags place (Some entry) held = ShowsEntry tags place entry held
 
 -- the buffers of each place's tag
 abbrev pub ShowsFrames : Shared → List TagBuffers → Type 0
-ShowsFrames state frames = (place : Place) → place.client < length state.parts → place.slot < TAGS
-    → ShowsHeld place (under state.parts place) (held_for frames (tag_of place))
+ShowsFrames state frames = (place : Place) → place.client < length state.parts → place.slot < state.tags
+    → ShowsHeld state.tags place (under state.parts place) (held_for frames (tag_of state.tags place))
 
 -- CONTEXTS
 

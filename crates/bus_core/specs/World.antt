@@ -1,5 +1,5 @@
 -- The world of a bus over rings: everything that host, controller and device hold, and what of it stands under one tag.
-use Rattle.std.specs.Prelude.{List, Option}
+use Rattle.std.specs.Prelude.{ℕ, List, Option}
 use Rattle.cycle_ring.specs.Items.{ItemRing}
 use Rattle.stream_array.specs.Rings.{LinesState, stream_ring}
 use Rattle.frame_store.specs.declared.TagBuffers.{TagBuffers}
@@ -10,7 +10,7 @@ use Rattle.uas_target.specs.Device.{Device, task_of}
 use Rattle.uas_profile.specs.declared.Place.{Place}
 use Rattle.uas_host.specs.declared.HostEntry.{HostEntry}
 use Rattle.uas_host.specs.State.{HostState, client_of}
-use Rattle.uas_profile.specs.Places.{tag_of}
+use Rattle.uas_profile.specs.Tags.{tag_of}
 use Rattle.xhci_ctl.specs.Pipes.{ControllerState}
 use Rattle.xhci_ctl.specs.Steps.{Sides}
 
@@ -34,15 +34,15 @@ pub record Cell : Type 0 where
 abbrev pub entry_at : HostState → Place → Option HostEntry
 entry_at host place = held_at (client_of host place.client).entries place.slot
 
--- the cell of a place, whose tag is client * TAGS + slot + 1
-abbrev pub cell_at : World → Place → Cell
-cell_at world place = record {
+-- the cell of a place, of so many tags of each client
+abbrev pub cell_at : ℕ → World → Place → Cell
+cell_at tags world place = record {
   held = entry_at world.host place;
-  task = task_of world.device (tag_of place);
-  status = stream_ring world.lines.status (tag_of place);
-  data_in = stream_ring world.lines.data_in (tag_of place);
-  data_out = stream_ring world.lines.data_out (tag_of place);
-  buffers = held_for world.frames (tag_of place);
+  task = task_of world.device (tag_of tags place);
+  status = stream_ring world.lines.status (tag_of tags place);
+  data_in = stream_ring world.lines.data_in (tag_of tags place);
+  data_out = stream_ring world.lines.data_out (tag_of tags place);
+  buffers = held_for world.frames (tag_of tags place);
 }
 
 -- what a step of the controller may change

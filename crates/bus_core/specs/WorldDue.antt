@@ -8,7 +8,7 @@ use Rattle.uas_target.specs.Device.{answered, wanted}
 use Rattle.uas_profile.specs.declared.Place.{Place}
 use Rattle.uas_host.specs.State.{client_of}
 use Rattle.uas_host.specs.Retirement.{retirement_for}
-use Rattle.uas_profile.specs.Places.{place_of}
+use Rattle.uas_profile.specs.Tags.{place_of}
 use Rattle.xhci_ctl.specs.Own.{IsOwnCommandFront, IsOwnDataFront, IsOwnStatusFront}
 use Rattle.xhci_ctl.specs.Pipes.{has_pending, is_armed}
 use Rattle.shared_machine.specs.declared.Completion.{Completion}
@@ -113,7 +113,7 @@ CommandsAreMarked =
 -- a step of a tag's stream
 abbrev pub StreamsAreMarked : (ℕ → Step) → (ℕ → Mark) → Type 0
 StreamsAreMarked step mark =
-    (state : Shared) (tag : ℕ) (place : Place) → IsMatched state → place_of (length state.parts) tag ≡ Some place → due state (step tag) ≡ true
+    (state : Shared) (tag : ℕ) (place : Place) → IsMatched state → place_of state.tags (length state.parts) tag ≡ Some place → due state (step tag) ≡ true
     → (shared_step state (step tag)).1 ≡ marked place.client (mark (suc place.slot))
 
 abbrev pub DataAreMarked : Type 0
@@ -136,5 +136,5 @@ EnginesAreMarked =
 -- a retirement rings the controller's own doorbell
 abbrev pub RetirementsAreMarked : Type 0
 RetirementsAreMarked =
-    (state : Shared) (pipe : Pipe) (tag : ℕ) (place : Place) → place_of (length state.parts) tag ≡ Some place → due state (Retire pipe tag) ≡ true
+    (state : Shared) (pipe : Pipe) (tag : ℕ) (place : Place) → place_of state.tags (length state.parts) tag ≡ Some place → due state (Retire pipe tag) ≡ true
     → (shared_step state (Retire pipe tag)).1 ≡ ringing place.client (0 ∷ [])

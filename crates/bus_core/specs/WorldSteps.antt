@@ -1,10 +1,10 @@
 -- The steps of the world of rings, by the calls of host and controller, and what is claimed of them: each is the shared
 -- machine's step wherever the world fits a state.
-use Rattle.std.specs.Prelude.{◌≡◌, ℕ, ◌^◌, ◌<◌, true, false, List, [], ◌∷◌, fold, length, slice_get, ◌≤◌, Some, None, is_some, option_map}
+use Rattle.std.specs.Prelude.{◌≡◌, ℕ, ◌*◌, ◌^◌, ◌<◌, true, false, List, [], ◌∷◌, fold, length, slice_get, ◌≤◌, Some, None, is_some, option_map}
 use Rattle.block_unit.specs.BlockMaps.{BlockMaps}
 use Rattle.event_ring.specs.declared.Event.{Event}
 use Rattle.event_ring.specs.Events.{taken}
-use Rattle.uas_profile.specs.declared.TheConstants.{MAX_CLIENTS, EVENT_RING_PLACES}
+use Rattle.uas_profile.specs.declared.TheConstants.{MAX_CLIENTS, STREAMS, EVENT_RING_PLACES}
 use Rattle.stream_array.specs.Rings.{LinesState, IsOpeningLines, with_events}
 use Rattle.frame_store.specs.Buffers.{opening as opening_frames}
 use Rattle.scsi_cmd.specs.declared.Command.{Command}
@@ -23,7 +23,7 @@ use Rattle.uas_host.specs.Retirement.{HasEngineRoom, is_held, retirement_for, st
 use Rattle.uas_host.specs.Submit.{HasRoomFor, host_fault, lent, submitted}
 use Rattle.uas_host.specs.Tds.{HasTaskRoom, pushed, pushed_task}
 use Rattle.uas_host.specs.declared.RetirementStage.TheVariants.{Stopping}
-use Rattle.uas_profile.specs.Places.{place_of, tag_of}
+use Rattle.uas_profile.specs.Tags.{AreTags, place_of, tag_of}
 use Rattle.uas_host.specs.Events.{Sides as EventSides, event_doors, handled}
 use Rattle.uas_host.specs.Replies.{no_reply, replied}
 use Rattle.xhci_ctl.specs.declared.Acted.{Acted as ActedAnswer}
@@ -51,20 +51,21 @@ WorldReadsBack = (state : Shared) (world : World) → Fits state world → decod
 
 -- THE OPENING
 
-abbrev pub opening_world : List BlockMaps → ℕ → LinesState → World
-opening_world units clients lines = record {
-  host = opening_host clients;
+abbrev pub opening_world : ℕ → List BlockMaps → ℕ → LinesState → World
+opening_world tags units clients lines = record {
+  host = opening_host tags clients;
   controller = new_controller;
-  device = opening_device units;
+  device = opening_device STREAMS units;
   lines = lines;
   frames = opening_frames;
 }
 
--- a new bus of 1 to MAX_CLIENTS units fits the opening shared machine
+-- a new bus of 1 to 31 units with 2 to 16 tags of each client, 248 in all at most, fits the opening shared machine
 abbrev pub OpeningFits : Type 0
 OpeningFits =
-    (units : List BlockMaps) (lines : LinesState) → 1 ≤ length units → length units ≤ MAX_CLIENTS → IsOpeningLines lines
-    → IsSoundWorld (opening_world units (length units) lines) → Fits (opening units) (opening_world units (length units) lines)
+    (tags : ℕ) (units : List BlockMaps) (lines : LinesState) → AreTags tags → 1 ≤ length units → length units ≤ MAX_CLIENTS → length units * tags ≤ STREAMS
+    → IsOpeningLines lines
+    → IsSoundWorld (opening_world tags units (length units) lines) → Fits (opening tags units) (opening_world tags units (length units) lines)
 
 -- THE STEPS
 
@@ -123,9 +124,9 @@ submit_world world client tag ticket command = record world {
 abbrev pub task_world : World → ℕ → ℕ → Task → World
 task_world world client ticket task = record world {
   host = managed world.host client ticket task;
-  controller = rung_all world.controller (answer_doors (is_held world.host) (task_tag client));
-  lines = pushed_task world.lines (task_tag client);
-  frames = with_task_unit world.frames client task;
+  controller = rung_all world.controller (answer_doors (is_held world.host) (task_tag world.host.tags client));
+  lines = pushed_task world.lines (task_tag world.host.tags client);
+  frames = with_task_unit world.host.tags world.frames client task;
 }
 
 -- the host gives the client's reply that was ready first
@@ -137,7 +138,7 @@ take_world world client = record world { host = (replied world.host world.frames
 -- CommandPipe: the TRB in front is the host's own, and the step is the shared machine's
 pub record CommandFits (state : Shared) (world : World) (place : Place) : Type 0 where
   pub own : IsOwnCommandFront world.lines world.frames
-  pub acted : (commanded (sides_in world)).1 ≡ Acted (tag_of place)
+  pub acted : (commanded (sides_in world)).1 ≡ Acted (tag_of state.tags place)
   pub fits : IsSoundWorld (command_world world) → Fits (shared_step state CommandPipe).0 (command_world world)
 
 abbrev pub CommandsFit : Type 0
@@ -179,14 +180,14 @@ abbrev pub StatusIsIdle : Type 0
 StatusIsIdle = StreamsAreIdle Status sent_by
 
 -- Event: the first event is matched to the TD that it is of, or to the command of the retirement; none is stray
-abbrev pub handled_for : Completion → Handled
-handled_for (CommandDone place) = Matched (tag_of place)
-handled_for (DataDone place) = Matched (tag_of place)
-handled_for (StatusDone place) = Matched (tag_of place)
-handled_for (EngineDone place) = EngineHandled
+abbrev pub handled_for : ℕ → Completion → Handled
+handled_for tags (CommandDone place) = Matched (tag_of tags place)
+handled_for tags (DataDone place) = Matched (tag_of tags place)
+handled_for tags (StatusDone place) = Matched (tag_of tags place)
+handled_for tags (EngineDone place) = EngineHandled
 
 pub record EventFits (state : Shared) (world : World) (event : Event) (done : Completion) : Type 0 where
-  pub matched : (handled (event_sides world) world.frames event).1 ≡ handled_for done
+  pub matched : (handled (event_sides world) world.frames event).1 ≡ handled_for state.tags done
   pub doors : event_doors (event_sides world) event ≡ (shared_step state EventStep).1.doors
   pub fits : IsSoundWorld (event_world world event) → Fits (shared_step state EventStep).0 (event_world world event)
 
@@ -210,7 +211,7 @@ EngineIsIdle = (state : Shared) (world : World) → Fits state world → due sta
 -- Retire: the host finds the TD left over exactly where the shared machine does
 pub record RetireFits (state : Shared) (world : World) (pipe : Pipe) (tag : ℕ) : Type 0 where
   pub place : Place
-  pub named : place_of (length state.parts) tag ≡ Some place
+  pub named : place_of state.tags (length state.parts) tag ≡ Some place
   pub begins : retirement_for world.host pipe tag ≡ Some (record { pipe = pipe; place = place; stage = Stopping })
   pub room : HasEngineRoom world.lines
   pub fits : IsSoundWorld (retire_world world pipe place) → Fits (shared_step state (Retire pipe tag)).0 (retire_world world pipe place)
@@ -250,7 +251,7 @@ TaskFaultsAgree =
     → task_fault world.host client ticket task ≡ option_map fault_in (task_step state client ticket task).1.refused
 
 pub record TaskFits (state : Shared) (world : World) (client ticket : ℕ) (task : Task) : Type 0 where
-  pub room : HasTaskRoom world.lines (task_tag client)
+  pub room : HasTaskRoom world.lines (task_tag world.host.tags client)
   pub fits : IsSoundWorld (task_world world client ticket task) → Fits (task_step state client ticket task).0 (task_world world client ticket task)
 
 abbrev pub TasksFit : Type 0

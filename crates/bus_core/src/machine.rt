@@ -1,11 +1,12 @@
 //! The bus with its rings in sight: what stands in it, where a step is due, and a step by its kind.
 ghost use Rattle.std.specs.Prelude.{◌≡◌, suc, true, false, ◌*◌, ◌<◌, ◌≤◌, IfSome, IfNone, length, IfOk, slice_get, vec_len};
-ghost use Rattle.uas_profile.specs.declared.TheConstants.{TAGS, MAX_CLIENTS};
+ghost use Rattle.uas_profile.specs.declared.TheConstants.{TAGS, MAX_CLIENTS, STREAMS, USUAL_CLIENTS};
+ghost use Rattle.uas_profile.specs.Tags.{AreTags};
 ghost use Rattle.stream_array.specs.Rings.{IsOpeningLines};
 ghost use Rattle.frame_store.specs.Buffers.{IsWhole};
 ghost use Rattle.shared_machine.specs.Bus.{HasTicket};
 ghost use Rattle.shared_machine.specs.Drain.{AreNotLeftOver, AreQuiet};
-ghost use Rattle.shared_machine.specs.Shared.{due, opening, shared_step};
+ghost use Rattle.shared_machine.specs.Shared.{due, greatest_tag, opening, shared_step};
 ghost use Rattle.bus_core.specs.Busy.{IsNextBusy};
 ghost use Rattle.bus_core.specs.Decoded.{decoded};
 ghost use Rattle.bus_core.specs.OwnEvents.{TakesOfOneTag};
@@ -22,23 +23,37 @@ use std::alloc::{AllocError, Global};
 use stream_array::{Lines, Pipe};
 use uas_host::Host;
 use uas_iu::lun_bytes;
-use uas_profile::EVENT_RING_PLACES;
+use uas_profile::{EVENT_RING_PLACES, STREAMS, TAGS};
 use uas_target::{Phase, Target};
 use xhci_ctl::Controller;
 
 impl RingBus {
-    /// The bus of these units, the unit of client c at place c: 1 to `MAX_CLIENTS` of them. `AllocError` where there is no memory
-    /// for its tables; no step takes any.
+    /// The bus of these units, the unit of client c at place c: 1 to 15 (`USUAL_CLIENTS`) of them, with `TAGS` tags of each client.
+    /// `AllocError` where there is no memory for its tables; no step takes any.
     pub fn new(alloc: Global, units: Vec<Unit>) -> Result<RingBus, AllocError>
         requires some { 1 ≤ vec_len units }
+        requires most { vec_len units ≤ USUAL_CLIENTS }
+        ensures opening { IfOk result (λ bus. decoded bus ≡ opening TAGS units.items) }
+        ensures lines { IfOk result (λ bus. IsOpeningLines bus.lines) }
+        ensures world { IfOk result (λ bus. bus ≡ opening_world TAGS units.items (length units.items) bus.lines) }
+    {
+        RingBus::with_tags(alloc, units, TAGS)
+    }
+
+    /// The same of 1 to 31 (`MAX_CLIENTS`) units with another number of tags of each client, 2 to 16, the last of them for task
+    /// management; of all clients there are 248 (`STREAMS`) at most.
+    pub fn with_tags(alloc: Global, units: Vec<Unit>, tags: usize) -> Result<RingBus, AllocError>
+        requires number { AreTags tags }
+        requires some { 1 ≤ vec_len units }
         requires most { vec_len units ≤ MAX_CLIENTS }
-        ensures opening { IfOk result (λ bus. decoded bus ≡ opening units.items) }
+        requires streams { vec_len units * tags ≤ STREAMS }
+        ensures opening { IfOk result (λ bus. decoded bus ≡ opening tags units.items) }
         // The rings are empty, and nothing else was made.
         ensures lines { IfOk result (λ bus. IsOpeningLines bus.lines) }
-        ensures world { IfOk result (λ bus. bus ≡ opening_world units.items (length units.items) bus.lines) }
+        ensures world { IfOk result (λ bus. bus ≡ opening_world tags units.items (length units.items) bus.lines) }
     {
-        let host = Host::new(alloc, units.len())?;
-        let target = Target::new(alloc, units)?;
+        let host = Host::with_tags(alloc, units.len(), tags)?;
+        let target = Target::with_tags(alloc, units, STREAMS)?;
         let lines = Lines::new(alloc)?;
         let frames = Frames::new(alloc)?;
         stand(&host, &lines, &frames);
@@ -57,8 +72,17 @@ impl RingBus {
         ensures count { result ≡ length (decoded self.now).parts }
         ensures some { 1 ≤ length (decoded self.now).parts }
         ensures most { length (decoded self.now).parts ≤ MAX_CLIENTS }
+        ensures streams { length (decoded self.now).parts * (decoded self.now).tags ≤ STREAMS }
     {
         self.host.clients()
+    }
+
+    /// How many tags each client has, which never changes.
+    pub fn tags(&self) -> usize
+        ensures tags { result ≡ (decoded self.now).tags }
+        ensures number { AreTags result }
+    {
+        self.host.tags()
     }
 
     /// The unit of a client of the bus.
@@ -143,8 +167,8 @@ impl RingBus {
     #[inline(always)]
     pub fn next_busy(&self, tag: u16) -> Option<u16>
         ensures busy { IsNextBusy (decoded self.now) tag result }
-        ensures next { IfSome result (λ next. (tag < next) × (next ≤ length (decoded self.now).parts * TAGS) × AreQuiet (decoded self.now) tag next) }
-        ensures none { IfNone result (AreQuiet (decoded self.now) tag (suc (length (decoded self.now).parts * TAGS))) }
+        ensures next { IfSome result (λ next. (tag < next) × (next ≤ greatest_tag (decoded self.now)) × AreQuiet (decoded self.now) tag next) }
+        ensures none { IfNone result (AreQuiet (decoded self.now) tag (suc (greatest_tag (decoded self.now)))) }
     {
         self.target.next_task(tag)
     }
@@ -179,8 +203,8 @@ impl RingBus {
 
     /// The least tag above this one whose TD on a pipe is left over. None is due while a retirement is under way.
     pub fn next_left_over(&self, pipe: Pipe, tag: u16) -> Option<u16>
-        ensures next { IfSome result (λ next. (tag < next) × (next ≤ length (decoded self.now).parts * TAGS) × AreNotLeftOver (decoded self.now) pipe tag next) }
-        ensures none { IfNone result (AreNotLeftOver (decoded self.now) pipe tag (suc (length (decoded self.now).parts * TAGS))) }
+        ensures next { IfSome result (λ next. (tag < next) × (next ≤ greatest_tag (decoded self.now)) × AreNotLeftOver (decoded self.now) pipe tag next) }
+        ensures none { IfNone result (AreNotLeftOver (decoded self.now) pipe tag (suc (greatest_tag (decoded self.now)))) }
     {
         if self.host.retirement().is_some() {
             return None;
@@ -210,6 +234,7 @@ impl RingBus {
         ensures shared { shared_step (decoded self.old) step ≡ (decoded self.new, result) }
         ensures world { self.new ≡ world_after self.old step }
     {
+        let tags = self.host.tags();
         match step {
             Step::Task {
                 client,
@@ -224,11 +249,11 @@ impl RingBus {
             } => {
                 let mut doors = Doorbells::none();
                 let answer = self.submit(client, tag, ticket, command, &mut doors);
-                outcomes::submitted(client, tag, answer, doors)
+                outcomes::submitted(tags, client, tag, answer, doors)
             }
-            Step::CommandPipe => outcomes::on_pipe(Pipe::Command, self.carry()),
-            Step::Data(tag) => outcomes::on_pipe(Pipe::DataIn, self.move_chunk(tag)),
-            Step::Status(tag) => outcomes::on_pipe(Pipe::Status, self.send(tag)),
+            Step::CommandPipe => outcomes::on_pipe(tags, Pipe::Command, self.carry()),
+            Step::Data(tag) => outcomes::on_pipe(tags, Pipe::DataIn, self.move_chunk(tag)),
+            Step::Status(tag) => outcomes::on_pipe(tags, Pipe::Status, self.send(tag)),
             Step::Engine => self.execute(),
             Step::Event => {
                 let mut doors = Doorbells::none();
@@ -236,7 +261,7 @@ impl RingBus {
                 outcomes::seen(client, doors)
             }
             Step::Retire(pipe, tag) => self.retire(pipe, tag),
-            Step::Take(client) => outcomes::taken(client, self.take(client)),
+            Step::Take(client) => outcomes::taken(tags, client, self.take(client)),
         }
     }
 }

@@ -5,6 +5,7 @@ ghost use Rattle.bus_core.specs.Owners.{acted_as, executed_as, managed_as, mark_
 ghost use Rattle.shared_machine.specs.declared.Mark.{Mark};
 ghost use Rattle.shared_machine.specs.Shared.{acceptance, idle, refusal, ringing, task_refusal};
 ghost use Rattle.bus_core.specs.WorldDue.{marked};
+ghost use Rattle.uas_profile.specs.Tags.{AreTags};
 
 use crate::owners::{index_of, mark_of, owner_of};
 use crate::{Doorbells, Mark, Outcome, Refusal};
@@ -59,19 +60,20 @@ fn marked(client: usize, mark: Mark) -> Outcome
 
 /// The outcome of a step on a pipe; those on the two data pipes are alike.
 #[inline(always)]
-pub(crate) fn on_pipe(pipe: Pipe, acted: Acted) -> Outcome
-    ensures { result ≡ acted_as (mark_on pipe) acted }
+pub(crate) fn on_pipe(tags: usize, pipe: Pipe, acted: Acted) -> Outcome
+    requires { AreTags tags }
+    ensures { result ≡ acted_as tags (mark_on pipe) acted }
 {
     let Acted::Acted(tag) = acted else {
         return idle();
     };
-    let index = index_of(tag);
+    let index = index_of(tags, tag);
     let mark = match pipe {
         Pipe::Command => Mark::Carry(index),
         Pipe::Status => Mark::Send(index),
         Pipe::DataIn | Pipe::DataOut => Mark::Move(index),
     };
-    marked(owner_of(tag), mark)
+    marked(owner_of(tags, tag), mark)
 }
 
 /// The outcome of a step that acted for a client, told nothing and rang these doorbells.
@@ -107,27 +109,36 @@ pub(crate) fn seen(client: Option<usize>, doors: Doorbells) -> Outcome
 
 /// The outcome of a Take: that of its reply, where there is one.
 #[inline(always)]
-pub(crate) fn taken(client: usize, reply: Option<Reply>) -> Outcome
-    ensures { result ≡ taken_as client reply }
+pub(crate) fn taken(tags: usize, client: usize, reply: Option<Reply>) -> Outcome
+    requires { AreTags tags }
+    ensures { result ≡ taken_as tags client reply }
 {
     if reply.is_none() {
         return idle();
     }
-    acting(client, mark_of(&reply), reply, None, Doorbells::none())
+    acting(
+        client,
+        mark_of(tags, &reply),
+        reply,
+        None,
+        Doorbells::none(),
+    )
 }
 
 /// The outcome of a submission under a tag, by the host's answer and the doorbells that were rung.
 #[inline(always)]
 pub(crate) fn submitted(
+    tags: usize,
     client: usize,
     tag: u16,
     answer: Result<(), (SubmitFault, Command)>,
     doors: Doorbells,
 ) -> Outcome
-    ensures { result ≡ submitted_as client tag doors answer }
+    requires { AreTags tags }
+    ensures { result ≡ submitted_as tags client tag doors answer }
 {
     match answer {
-        Ok(()) => accepted(client, Mark::Submit(index_of(tag)), doors),
+        Ok(()) => accepted(client, Mark::Submit(index_of(tags, tag)), doors),
         Err((fault, command)) => refused(client, fault, command),
     }
 }

@@ -4,7 +4,7 @@ ghost use Rattle.shared_machine.specs.Drain.{all_tags, drained, retirements, rou
 ghost use Rattle.shared_machine.specs.declared.Step.TheVariants as Step;
 ghost use Rattle.isolation.specs.Isolation.{IsIsolated};
 ghost use Rattle.shared_machine.specs.Replay.{replayed};
-ghost use Rattle.shared_machine.specs.Shared.{shared_step};
+ghost use Rattle.shared_machine.specs.Shared.{greatest_tag, shared_step};
 ghost use Rattle.bus_core.specs.Decoded.{decoded};
 
 use crate::{Bus, Doorbells, Outcome, RingBus, Step, Trace};
@@ -128,7 +128,7 @@ impl RingBus {
 
     /// The data streams of all tags, rising.
     fn try_data(&mut self, left: usize) -> usize
-        ensures { (decoded self.new, result) ≡ tried (decoded self.old, left) (map Step.Data (all_tags (length (decoded self.old).parts))) }
+        ensures { (decoded self.new, result) ≡ tried (decoded self.old, left) (map Step.Data (all_tags (greatest_tag (decoded self.old)))) }
     {
         let mut left = left;
         let mut tag = 0;
@@ -153,7 +153,7 @@ impl RingBus {
 
     /// The status streams of all tags, rising.
     fn try_statuses(&mut self, left: usize) -> usize
-        ensures { (decoded self.new, result) ≡ tried (decoded self.old, left) (map Step.Status (all_tags (length (decoded self.old).parts))) }
+        ensures { (decoded self.new, result) ≡ tried (decoded self.old, left) (map Step.Status (all_tags (greatest_tag (decoded self.old)))) }
     {
         let mut left = left;
         let mut tag = 0;
@@ -179,7 +179,7 @@ impl RingBus {
     /// The retirements on a pipe, by rising tag.
     #[inline(always)]
     fn try_retirements(&mut self, pipe: Pipe, left: usize) -> usize
-        ensures { (decoded self.new, result) ≡ tried (decoded self.old, left) (retirements (length (decoded self.old).parts) pipe) }
+        ensures { (decoded self.new, result) ≡ tried (decoded self.old, left) (retirements (greatest_tag (decoded self.old)) pipe) }
     {
         let Some(_) = self.next_left_over(pipe, 0) else {
             return left;
@@ -190,7 +190,7 @@ impl RingBus {
     /// The same, of the tags whose TD is left over.
     #[inline(never)]
     fn try_left_over(&mut self, pipe: Pipe, left: usize) -> usize
-        ensures { (decoded self.new, result) ≡ tried (decoded self.old, left) (retirements (length (decoded self.old).parts) pipe) }
+        ensures { (decoded self.new, result) ≡ tried (decoded self.old, left) (retirements (greatest_tag (decoded self.old)) pipe) }
     {
         let mut left = left;
         let mut tag = 0;

@@ -1,11 +1,12 @@
 //! The bus as the shared machine: each call is the one of the bus with its rings in sight.
 ghost use Rattle.std.specs.Prelude.{◌≡◌, ℕ, suc, ◌+◌, ◌*◌, ◌<◌, ◌≤◌, IfSome, IfNone, length, IfOk, slice_get, vec_len};
-ghost use Rattle.uas_profile.specs.declared.TheConstants.{TAGS, MAX_CLIENTS};
+ghost use Rattle.uas_profile.specs.declared.TheConstants.{TAGS, MAX_CLIENTS, STREAMS, USUAL_CLIENTS};
+ghost use Rattle.uas_profile.specs.Tags.{AreTags};
 ghost use Rattle.frame_store.specs.Buffers.{IsWhole};
 ghost use Rattle.shared_machine.specs.Bus.{HasTicket};
 ghost use Rattle.shared_machine.specs.Drain.{AreNotLeftOver, AreQuiet, drained};
 ghost use Rattle.shared_machine.specs.Laws.{next_len};
-ghost use Rattle.shared_machine.specs.Shared.{due, opening, shared_step};
+ghost use Rattle.shared_machine.specs.Shared.{due, greatest_tag, opening, shared_step};
 ghost use Rattle.isolation.specs.Refusals.{IsRefusedAsOwn};
 ghost use Rattle.isolation.specs.StepIsolation.{IsIsolatedStep};
 ghost use Rattle.machine_invariant.specs.Reach.{EndsAsNoted, KeepsOthers};
@@ -18,16 +19,29 @@ use block_unit::Unit;
 use frame_store::Frames;
 use std::alloc::{AllocError, Global};
 use stream_array::{Lines, Pipe};
+use uas_profile::TAGS;
 
 impl Bus {
-    /// The bus of these units, the unit of client c at place c: 1 to `MAX_CLIENTS` of them. `AllocError` where there is no memory
-    /// for its tables; no step takes any.
+    /// The bus of these units, the unit of client c at place c: 1 to 15 (`USUAL_CLIENTS`) of them, with `TAGS` tags of each client.
+    /// `AllocError` where there is no memory for its tables; no step takes any.
     pub fn new(alloc: Global, units: Vec<Unit>) -> Result<Bus, AllocError>
         requires some { 1 ≤ vec_len units }
-        requires most { vec_len units ≤ MAX_CLIENTS }
-        ensures { IfOk result (λ bus. bus ≡ opening units.items) }
+        requires most { vec_len units ≤ USUAL_CLIENTS }
+        ensures { IfOk result (λ bus. bus ≡ opening TAGS units.items) }
     {
-        let rings = RingBus::new(alloc, units)?;
+        Bus::with_tags(alloc, units, TAGS)
+    }
+
+    /// The same of 1 to 31 (`MAX_CLIENTS`) units with another number of tags of each client, 2 to 16, the last of them for task
+    /// management; of all clients there are 248 (`STREAMS`) at most.
+    pub fn with_tags(alloc: Global, units: Vec<Unit>, tags: usize) -> Result<Bus, AllocError>
+        requires number { AreTags tags }
+        requires some { 1 ≤ vec_len units }
+        requires most { vec_len units ≤ MAX_CLIENTS }
+        requires streams { vec_len units * tags ≤ STREAMS }
+        ensures { IfOk result (λ bus. bus ≡ opening tags units.items) }
+    {
+        let rings = RingBus::with_tags(alloc, units, tags)?;
         Ok(Bus { rings })
     }
 
@@ -37,8 +51,18 @@ impl Bus {
         ensures count { result ≡ length self.now.parts }
         ensures some { 1 ≤ length self.now.parts }
         ensures most { length self.now.parts ≤ MAX_CLIENTS }
+        ensures streams { length self.now.parts * self.now.tags ≤ STREAMS }
     {
         self.rings.clients()
+    }
+
+    /// How many tags each client has, which never changes.
+    #[inline(always)]
+    pub fn tags(&self) -> usize
+        ensures tags { result ≡ self.now.tags }
+        ensures number { AreTags result }
+    {
+        self.rings.tags()
     }
 
     /// The unit of a client of the bus.
@@ -87,8 +111,8 @@ impl Bus {
     #[inline(always)]
     pub fn next_busy(&self, tag: u16) -> Option<u16>
         ensures busy { IsNextBusy self.now tag result }
-        ensures next { IfSome result (λ next. (tag < next) × (next ≤ length self.now.parts * TAGS) × AreQuiet self.now tag next) }
-        ensures none { IfNone result (AreQuiet self.now tag (suc (length self.now.parts * TAGS))) }
+        ensures next { IfSome result (λ next. (tag < next) × (next ≤ greatest_tag self.now) × AreQuiet self.now tag next) }
+        ensures none { IfNone result (AreQuiet self.now tag (suc (greatest_tag self.now))) }
     {
         self.rings.next_busy(tag)
     }
@@ -96,8 +120,8 @@ impl Bus {
     /// The least tag above this one whose TD on a pipe is left over. None is due while a retirement is under way.
     #[inline(always)]
     pub fn next_left_over(&self, pipe: Pipe, tag: u16) -> Option<u16>
-        ensures next { IfSome result (λ next. (tag < next) × (next ≤ length self.now.parts * TAGS) × AreNotLeftOver self.now pipe tag next) }
-        ensures none { IfNone result (AreNotLeftOver self.now pipe tag (suc (length self.now.parts * TAGS))) }
+        ensures next { IfSome result (λ next. (tag < next) × (next ≤ greatest_tag self.now) × AreNotLeftOver self.now pipe tag next) }
+        ensures none { IfNone result (AreNotLeftOver self.now pipe tag (suc (greatest_tag self.now))) }
     {
         self.rings.next_left_over(pipe, tag)
     }

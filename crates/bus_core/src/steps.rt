@@ -37,7 +37,7 @@ impl RingBus {
     ) -> Result<(), (SubmitFault, Command)>
         requires ticket { ticket < 2 ^ 60 }
         requires doors { doors.old ≡ [] }
-        ensures shared { shared_step (decoded self.old) (Step.Submit client tag ticket command) ≡ (decoded self.new, submitted_as client tag doors.new result) }
+        ensures shared { shared_step (decoded self.old) (Step.Submit client tag ticket command) ≡ (decoded self.new, submitted_as (decoded self.old).tags client tag doors.new result) }
         ensures world { self.new ≡ submit_after self.old client tag ticket command }
     {
         self.doors.clear();
@@ -84,7 +84,7 @@ impl RingBus {
     /// The device receives the oldest unit in the command pipe.
     #[inline(never)]
     pub(crate) fn carry(&mut self) -> Acted
-        ensures shared { shared_step (decoded self.old) Step.CommandPipe ≡ (decoded self.new, acted_as Mark.Carry result) }
+        ensures shared { shared_step (decoded self.old) Step.CommandPipe ≡ (decoded self.new, acted_as (decoded self.old).tags Mark.Carry result) }
         ensures world { self.new ≡ command_world self.old }
     {
         let acted = self
@@ -97,7 +97,7 @@ impl RingBus {
     /// The controller moves a chunk of a tag's data.
     #[inline(never)]
     pub(crate) fn move_chunk(&mut self, tag: u16) -> Acted
-        ensures shared { shared_step (decoded self.old) (Step.Data tag) ≡ (decoded self.new, acted_as Mark.Move result) }
+        ensures shared { shared_step (decoded self.old) (Step.Data tag) ≡ (decoded self.new, acted_as (decoded self.old).tags Mark.Move result) }
         ensures world { self.new ≡ data_world self.old tag }
     {
         let acted = self
@@ -110,7 +110,7 @@ impl RingBus {
     /// The controller moves a tag's status.
     #[inline(never)]
     pub(crate) fn send(&mut self, tag: u16) -> Acted
-        ensures shared { shared_step (decoded self.old) (Step.Status tag) ≡ (decoded self.new, acted_as Mark.Send result) }
+        ensures shared { shared_step (decoded self.old) (Step.Status tag) ≡ (decoded self.new, acted_as (decoded self.old).tags Mark.Send result) }
         ensures world { self.new ≡ status_world self.old tag }
     {
         let acted = self
@@ -141,6 +141,7 @@ impl RingBus {
         ensures shared { shared_step (decoded self.old) Step.Event ≡ (decoded self.new, option_map_or (λ client. ringing client doors.new) result idle) }
         ensures world { self.new ≡ event_after self.old }
     {
+        let tags = self.host.tags();
         let event = self.lines.take()?;
         match event {
             Event::Transfer {
@@ -154,7 +155,7 @@ impl RingBus {
                     .on_transfer(&mut self.lines, &self.frames, pointer, residual, code);
                 stand(&self.host, &self.lines, &self.frames);
                 match handled {
-                    Handled::Matched(tag) => Some(owner_of(tag)),
+                    Handled::Matched(tag) => Some(owner_of(tags, tag)),
                     Handled::Stray => None,
                     Handled::Engine => None,
                 }
@@ -168,7 +169,7 @@ impl RingBus {
                 ring(&mut self.controller, &self.doors);
                 stand(&self.host, &self.lines, &self.frames);
                 match handled {
-                    Handled::Matched(tag) => Some(owner_of(tag)),
+                    Handled::Matched(tag) => Some(owner_of(tags, tag)),
                     Handled::Stray => None,
                     Handled::Engine => {
                         // Each event of the controller's own command ring is of the retirement (`EventsFit`).
@@ -187,6 +188,7 @@ impl RingBus {
         ensures shared { shared_step (decoded self.old) (Step.Retire pipe tag) ≡ (decoded self.new, result) }
         ensures world { self.new ≡ retire_after self.old pipe tag }
     {
+        let tags = self.host.tags();
         self.doors.clear();
         let began = self
             .host
@@ -194,7 +196,7 @@ impl RingBus {
         ring(&mut self.controller, &self.doors);
         stand(&self.host, &self.lines, &self.frames);
         if began {
-            outcomes::ringing(owner_of(tag), Doorbells::single(&self.doors))
+            outcomes::ringing(owner_of(tags, tag), Doorbells::single(&self.doors))
         } else {
             outcomes::idle()
         }
@@ -203,7 +205,7 @@ impl RingBus {
     /// A client takes the reply that was ready first, where there is one.
     #[inline(never)]
     pub(crate) fn take(&mut self, client: usize) -> Option<Reply>
-        ensures shared { shared_step (decoded self.old) (Step.Take client) ≡ (decoded self.new, taken_as client result) }
+        ensures shared { shared_step (decoded self.old) (Step.Take client) ≡ (decoded self.new, taken_as (decoded self.old).tags client result) }
         ensures world { self.new ≡ take_world self.old client }
     {
         let reply = self.host.take_reply(&mut self.frames, client);

@@ -1,3 +1,5 @@
+pub mod faults
+pub mod trb
 -- What the libraries for C have in common: doors and handles, records in place of values.
 pub mod Door
 pub mod Handed

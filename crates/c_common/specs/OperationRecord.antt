@@ -5,8 +5,8 @@ use Rattle.scsi_cmd.specs.declared.Op.{Op}
 use Rattle.scsi_cmd.specs.declared.Op.TheVariants.{TestUnitReady, Inquiry, ReadCapacity, Read, Write, Sync, Read16, Write16, ReadCapacity16}
 use Rattle.uas_profile.specs.declared.Direction.{Direction}
 use Rattle.uas_profile.specs.declared.Direction.TheVariants.{Nothing, ToHost, ToDevice}
-use Rattle.trb_record.specs.RecordFault.{fault_of}
-use Rattle.c_faults.specs.declared.TheConstants.{CDB_UNFIT, CDB_UNKNOWN_OPCODE}
+use Rattle.c_common.specs.trb.RecordFault.{fault_of}
+use Rattle.c_common.specs.declared.faults.TheConstants.{CDB_UNFIT, CDB_UNKNOWN_OPCODE}
 use Rattle.c_common.specs.Bytes.{yes}
 use Rattle.c_common.specs.declared.operation.UasOperation.{UasOperation}
 

@@ -4,8 +4,8 @@ use Rattle.std.specs.Prelude.{slice_get, slice_index, Result, Ok, Err}
 use Rattle.std.specs.List.{list_all, range_with_len}
 use Rattle.std.specs.Option.{option_map_or}
 use Rattle.block_unit.specs.BlockMaps.{BlockMaps, fresh, imaged}
-use Rattle.uas_profile.specs.declared.TheConstants.{MAX_CLIENTS}
-use Rattle.c_faults.specs.declared.TheConstants.{BAD_BLOCK, BLOCKS, IMAGE, NO_MEMORY, UNITS}
+use Rattle.uas_profile.specs.declared.TheConstants.{MAX_UNITS}
+use Rattle.c_common.specs.declared.faults.TheConstants.{BAD_BLOCK, BLOCKS, IMAGE, NO_MEMORY, UNITS}
 use Rattle.c_common.specs.declared.units.UasBadBlock.{UasBadBlock}
 use Rattle.c_common.specs.declared.units.UnitsFault.{UnitsFault}
 use Rattle.c_common.specs.declared.units.UnitsFault.TheVariants as faults
@@ -47,7 +47,7 @@ is_bad_block counts bad = option_map_or (λ blocks. nat_lt bad.lba blocks) (slic
 -- the first of these that holds: no unit or more than 15, a unit of another number of blocks, another length of the image, no bad block
 abbrev pub units_fault : List ℕ → List ℕ → List UasBadBlock → ℕ
 units_fault counts image bad =
-    if length counts == 0 || nat_lt MAX_CLIENTS (length counts) then UNITS
+    if length counts == 0 || nat_lt MAX_UNITS (length counts) then UNITS
     else (if not (list_all is_size counts) then BLOCKS
     else (if not (is_image counts image) then IMAGE
     else (if not (list_all (is_bad_block counts) bad) then BAD_BLOCK else 0)))

@@ -7,6 +7,8 @@
 //! | sense.rt | sense data in a room of fixed size |
 //! | shown.rt | [`show`], a look at a unit's blocks |
 //! | text.rt | [`put_unit`], an information unit as its bytes |
+//! | faults.rt | the number of each fault |
+//! | trb.rt | [`trb::UasTrb`], a TRB as a record |
 //! | units.rt | [`UasBadBlock`], units of zeros or from an image, and handles of what is made of them |
 //!
 //! What is promised: [`open_handle`] makes units exactly as `opened_units` of `specs/Units.antt` says, each of its own part of the image and
@@ -18,14 +20,16 @@
 //! `proofs/Closed.antt` prove, once for every handle, that an export which lends that memory to a function meets its contract, and one
 //! that ends a handle. `specs/Door.antt` has the words for what a call through a door makes.
 //!
-//! It stands on `c_faults` for the numbers, and on `block_unit`, `scsi_cmd` and `trb_record` by their contracts alone.
+//! It stands on `block_unit`, `scsi_cmd` and `xhci_trb` by their contracts alone.
 #![tactic(auto)]
 
+pub mod faults;
 mod handle;
 mod operation;
 mod sense;
 mod shown;
 mod text;
+pub mod trb;
 mod units;
 
 pub use handle::{hand_out, hand_out_made};

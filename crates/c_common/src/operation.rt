@@ -1,12 +1,12 @@
 //! An operation as C has it: a record of fixed layout in place of the enum.
 ghost use Rattle.std.specs.Prelude.{◌≡◌, ◌<◌, ◌≤◌, ◌==◌, IfOk, IfErr, OnOk, OnErr, Some};
-ghost use Rattle.c_faults.specs.declared.TheConstants.{CDB_UNFIT, CDB_UNKNOWN_OPCODE};
-ghost use Rattle.trb_record.specs.declared.fault.RecordFault.{RecordFault};
-ghost use Rattle.trb_record.specs.RecordFault.{record_fault};
+ghost use Rattle.c_common.specs.declared.faults.TheConstants.{CDB_UNFIT, CDB_UNKNOWN_OPCODE};
+ghost use Rattle.c_common.specs.declared.trb.fault.RecordFault.{RecordFault};
+ghost use Rattle.c_common.specs.trb.RecordFault.{record_fault};
 ghost use Rattle.c_common.specs.OperationRecord.{named_operation, operation_fault, operation_fields, operation_record, way_number};
 
+use crate::trb::RecordFault;
 use scsi_cmd::{Direction, Op, moves};
-use trb_record::RecordFault;
 
 /// An operation as C has it.
 #[repr(C)]

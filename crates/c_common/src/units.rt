@@ -3,16 +3,16 @@ ghost use Rattle.std.specs.Prelude.{◌≡◌, ◌≤◌, ◌<◌, ◌*◌, List
 ghost use Rattle.std.specs.List.{list_all};
 ghost use types.Logic.{sem};
 ghost use Rattle.block_unit.specs.BlockMaps.{BlockMaps};
-ghost use Rattle.uas_profile.specs.declared.TheConstants.{MAX_CLIENTS};
+ghost use Rattle.uas_profile.specs.declared.TheConstants.{MAX_UNITS};
 ghost use Rattle.c_common.specs.Units.{bad_of, image_of, is_bad_block, is_image, is_size, opened_unit, opened_units, units_fault_number};
 ghost use Rattle.c_common.specs.Units.{units_number, units_told};
 ghost use Rattle.c_common.specs.HandedOut.{handed_out, made_number};
 
+use crate::faults::{BAD_BLOCK, BLOCKS, IMAGE, NO_MEMORY, UNITS};
 use crate::handle::hand_out_made;
 use block_unit::Unit;
-use c_faults::{BAD_BLOCK, BLOCKS, IMAGE, NO_MEMORY, UNITS};
 use std::alloc::{AllocError, Global};
-use uas_profile::{BLOCK_BYTES, MAX_BLOCKS, MAX_CLIENTS};
+use uas_profile::{BLOCK_BYTES, MAX_BLOCKS, MAX_UNITS};
 
 /// A bad block as C has it: one of the logical unit of this number.
 #[repr(C)]
@@ -59,7 +59,7 @@ pub trait OfUnits: Sized {
     /// Of these units, 1 to 15 of them.
     fn of_units(alloc: Global, units: Vec<Unit>) -> Result<Self, AllocError>
         requires some { 1 ≤ vec_len units }
-        requires most { vec_len units ≤ MAX_CLIENTS }
+        requires most { vec_len units ≤ MAX_UNITS }
         ensures { IfOk result (is_of units.items) };
 }
 
@@ -146,10 +146,10 @@ fn opened_units(
 ) -> Result<Vec<Unit>, UnitsFault>
     ensures units { IfOk result (λ units. units.items ≡ opened_units blocks.now image.now bad.now) }
     ensures some { IfOk result (λ units. 1 ≤ vec_len units) }
-    ensures most { IfOk result (λ units. vec_len units ≤ MAX_CLIENTS) }
+    ensures most { IfOk result (λ units. vec_len units ≤ MAX_UNITS) }
     ensures fault { units_told (units_number result) blocks.now image.now bad.now ≡ true }
 {
-    if blocks.is_empty() || blocks.len() > MAX_CLIENTS {
+    if blocks.is_empty() || blocks.len() > MAX_UNITS {
         return Err(UnitsFault::Count);
     }
     if !are_sizes(blocks) {
@@ -174,7 +174,7 @@ fn are_sizes(blocks: &[u32]) -> bool
 
 /// Whether an image is empty, or as long as the blocks of all units.
 fn is_image(blocks: &[u32], image: &[u8]) -> bool
-    requires { length blocks.now ≤ MAX_CLIENTS }
+    requires { length blocks.now ≤ MAX_UNITS }
     ensures { result ≡ is_image blocks.now image.now }
 {
     image.is_empty() || image.len() == bytes_of(blocks)
@@ -182,7 +182,7 @@ fn is_image(blocks: &[u32], image: &[u8]) -> bool
 
 /// The bytes of so many blocks each, together.
 fn bytes_of(blocks: &[u32]) -> usize
-    requires { length blocks.now ≤ MAX_CLIENTS }
+    requires { length blocks.now ≤ MAX_UNITS }
     ensures { result ≡ 512 * sum blocks.now }
 {
     let mut bytes = 0;
@@ -214,7 +214,7 @@ fn opened(
     image: &[u8],
     bad: &[UasBadBlock],
 ) -> Result<Vec<Unit>, AllocError>
-    requires count { length blocks.now ≤ MAX_CLIENTS }
+    requires count { length blocks.now ≤ MAX_UNITS }
     requires sizes { list_all is_size blocks.now ≡ true }
     requires image { is_image blocks.now image.now ≡ true }
     ensures units { IfOk result (λ units. units.items ≡ opened_units blocks.now image.now bad.now) }
@@ -235,7 +235,7 @@ fn opened_unit(
     bad: &[UasBadBlock],
     unit: usize,
 ) -> Result<Unit, AllocError>
-    requires count { length blocks.now ≤ MAX_CLIENTS }
+    requires count { length blocks.now ≤ MAX_UNITS }
     requires there { unit < length blocks.now }
     requires size { is_size (slice_index blocks.now unit) ≡ true }
     requires image { is_image blocks.now image.now ≡ true }
@@ -263,7 +263,7 @@ fn bad_of(alloc: Global, bad: &[UasBadBlock], unit: usize) -> Result<Vec<u32>, A
 
 /// The part of the image that is of the unit of this number.
 fn image_of<'a>(blocks: &[u32], image: &'a [u8], unit: usize) -> &'a [u8]
-    requires count { length blocks.now ≤ MAX_CLIENTS }
+    requires count { length blocks.now ≤ MAX_UNITS }
     requires there { unit < length blocks.now }
     requires whole { length image.now ≡ 512 * sum blocks.now }
     ensures { result.now ≡ image_of blocks.now image.now unit }

@@ -6,8 +6,8 @@ use Rattle.host_commands.specs.declared.BlockLength.TheVariants.{Bytes512, Bytes
 use Rattle.host_commands.specs.declared.CommandSet.{CommandSet}
 use Rattle.host_commands.specs.declared.CommandSet.TheVariants.{Profile, Host}
 use Rattle.host_commands.specs.Shapes.{Shape, plain_shape}
-use Rattle.c_faults.specs.declared.TheConstants.{BLOCKS, NO_MEMORY, TASKS_BLOCK_BYTES, TASKS_CHUNK, TASKS_SERIAL, TASKS_SET, UNITS}
-use Rattle.uas_profile.specs.declared.TheConstants.{MAX_CLIENTS}
+use Rattle.c_common.specs.declared.faults.TheConstants.{BLOCKS, NO_MEMORY, TASKS_BLOCK_BYTES, TASKS_CHUNK, TASKS_SERIAL, TASKS_SET, UNITS}
+use Rattle.uas_profile.specs.declared.TheConstants.{MAX_UNITS}
 use Rattle.uas_tasks.specs.declared.LogicalUnit.{LogicalUnit}
 use Rattle.uas_tasks.specs.Machine.{Machine, greatest_block, opening, quiet}
 use Rattle.c_tasks.specs.declared.UasTasksUnit.{UasTasksUnit}
@@ -34,7 +34,7 @@ is_chunk blocks = not (blocks == 0) && not (nat_lt 128 blocks)
 -- the first fault of what is asked for
 abbrev pub making_fault : List UasTasksUnit → ℕ → ℕ → ℕ → Option ℕ
 making_fault units number most chunk =
-    if length units == 0 || nat_lt MAX_CLIENTS (length units) then Some UNITS
+    if length units == 0 || nat_lt MAX_UNITS (length units) then Some UNITS
     else (if not (list_all has_blocks units) then Some BLOCKS
     else (if not (list_all has_block_bytes units) then Some TASKS_BLOCK_BYTES
     else (if not (list_all has_serial units) then Some TASKS_SERIAL

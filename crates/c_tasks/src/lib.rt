@@ -3,23 +3,24 @@
 //! What is promised: [`making_fault`] is the first fault of what is asked for, in the order of specs/Making.antt; where there is none,
 //! [`make_tasks`] makes that very device, without a task (`made_tasks`), or finds too little memory.
 //!
-//! `proofs/MadeExport.antt` proves, once for every handle of such units, that an export which makes a box and hands it out meets its contract.
+//! `proofs/MadeExport.antt` proves, once for every handle of such units, that an export which makes a box and hands it out meets its
+//! contract.
 //!
 //! It stands on `host_commands` and `uas_tasks`, and for that proof on `c_common`.
 #![tactic(auto)]
 
 ghost use Rattle.std.specs.Prelude.{◌≡◌, ◌<◌, ◌≤◌, IfOk, IfSome, None, length, map, true};
 ghost use Rattle.std.specs.List.{list_all};
-ghost use Rattle.uas_profile.specs.declared.TheConstants.{MAX_CLIENTS};
+ghost use Rattle.uas_profile.specs.declared.TheConstants.{MAX_UNITS};
 ghost use Rattle.c_tasks.specs.Making.{block_length_of, has_block_bytes, has_blocks, has_serial, is_chunk, is_set, made_tasks, making_fault};
 ghost use Rattle.c_tasks.specs.Making.{set_of, shape_of};
 
-use c_faults::{BLOCKS, TASKS_BLOCK_BYTES, TASKS_CHUNK, TASKS_SERIAL, TASKS_SET, UNITS};
+use c_common::faults::{BLOCKS, TASKS_BLOCK_BYTES, TASKS_CHUNK, TASKS_SERIAL, TASKS_SET, UNITS};
 use host_commands::{
     BlockLength, CommandSet, LogicalUnitShape, MOST_BLOCKS, SERIAL_NUMBERS, SerialNumber,
 };
 use std::alloc::{AllocError, Global};
-use uas_profile::MAX_CLIENTS;
+use uas_profile::MAX_UNITS;
 use uas_tasks::{MOST_CHUNK_BLOCKS, Tasks};
 
 /// A logical unit as C has it.
@@ -85,11 +86,11 @@ fn is_chunk(blocks: u16) -> bool
 /// The first fault of what is asked for.
 pub fn making_fault(units: &[UasTasksUnit], set: u8, most: u16, chunk: u16) -> Option<u8>
     ensures fault { result ≡ making_fault units.now set most chunk }
-    ensures units { result ≡ None → length units.now ≤ MAX_CLIENTS }
+    ensures units { result ≡ None → length units.now ≤ MAX_UNITS }
     ensures chunk { result ≡ None → is_chunk chunk ≡ true }
     ensures not_0 { IfSome result (λ fault. 0 < fault) }
 {
-    if units.is_empty() || units.len() > MAX_CLIENTS {
+    if units.is_empty() || units.len() > MAX_UNITS {
         Some(UNITS)
     } else if !all_have_blocks(units) {
         Some(BLOCKS)
@@ -156,7 +157,7 @@ pub fn make_tasks(
     most: u16,
     chunk: u16,
 ) -> Result<Tasks, AllocError>
-    requires units { length units.now ≤ MAX_CLIENTS }
+    requires units { length units.now ≤ MAX_UNITS }
     requires chunk { is_chunk chunk ≡ true }
     ensures { IfOk result (λ tasks. tasks ≡ made_tasks units.now set most chunk) }
 {

@@ -9,7 +9,7 @@ use Rattle.block_unit.specs.BlockMaps.{BlockMaps}
 use Rattle.uas_script.specs.declared.Line.{Line}
 use Rattle.uas_script.specs.declared.ScriptFault.{ScriptFault}
 use Rattle.uas_trace.specs.Texts.{traced_text}
-use Rattle.trace_urbs.specs.Records.{capture_of}
+use Rattle.capture_run.specs.urbs.Records.{capture_of}
 use Rattle.capture_run.specs.declared.fault.CaptureFault.{CaptureFault}
 use Rattle.capture_run.specs.declared.fault.CaptureFault.TheVariants.{Run, File}
 

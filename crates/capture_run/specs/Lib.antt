@@ -1,1 +1,3 @@
+pub mod format
+pub mod urbs
 pub mod Ends

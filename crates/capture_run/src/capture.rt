@@ -3,6 +3,7 @@
 ghost use Rattle.std.specs.Prelude.{◌≡◌, ℕ, ◌≤◌, ◌⊎◌, [], false, Ok, Some, IsTrue, IsErr, IfOk, IfErr, OnOk, IfSome};
 ghost use Rattle.std.specs.Io.KnownBytes.{Appends, Keeps, IsAtEnd};
 ghost use Rattle.byte_io.specs.Disks.{AreDisks};
+ghost use Rattle.uas_profile.specs.declared.TheConstants.{TAGS};
 ghost use Rattle.uas_script.specs.Script.{script};
 ghost use Rattle.uas_replay.specs.Told.{told, zeroed_units};
 ghost use Rattle.uas_replay.specs.Runs.{ScriptGivesUp, StopsBy, Tells};
@@ -11,10 +12,10 @@ ghost use Rattle.uas_trace.specs.Texts.{TracesScript};
 
 use crate::fault::{CaptureFault, capture_fault};
 use crate::kept::{Kept, run_kept};
+use crate::urbs::capture_of;
 use byte_io::{BytesLeft, BytesTaken, Disks, Files, Sink, Source, read_at_most};
 use std::alloc::Global;
 use std::io::Write;
-use trace_urbs::capture_of;
 use uas_replay::{COMMAND_FAILED, RunFault, output_fault, read_script};
 use uas_script::{Line, MAX_SCRIPT_BYTES, ScriptFault};
 use uas_trace::run_trace;
@@ -38,7 +39,7 @@ pub fn run_capture<F: Files, S: Source, O: Sink, W: Write>(
     requires { AreDisks disks }
     ensures statuses { (result ≤ 1) ⊎ ((result ≡ 3) ⊎ (result ≡ 4)) }
     ensures told { result ≤ 1 → IfSome (S.left input.old) (λ bytes.
-        Tells (zeroed_units disks.clients disks.blocks disks.bad) (script disks.clients bytes)
+        Tells TAGS (zeroed_units disks.clients disks.blocks disks.bad) (script disks.clients bytes)
         (O.written output.old) (O.written output.new) result) }
     ensures captured { result ≤ 1 → IsTrue (F.tells files.old) → IsCapture (F.holds files.new file.now) }
     // The trace that is captured is the one of the script.
@@ -79,7 +80,7 @@ fn capture<F: Files, S: Source, O: Sink, W: Write>(
     requires { AreDisks disks }
     ensures status { IfOk result (λ status. status ≤ 1) }
     ensures told { IfOk result (λ status. IfSome (S.left input.old) (λ bytes.
-        Tells (zeroed_units disks.clients disks.blocks disks.bad) (script disks.clients bytes)
+        Tells TAGS (zeroed_units disks.clients disks.blocks disks.bad) (script disks.clients bytes)
         (O.written output.old) (O.written output.new) status)) }
     ensures captured { OnOk result (IsTrue (F.tells files.old) → IsCapture (F.holds files.new file.now)) }
     ensures of { OnOk result (IfSome (S.left input.old) (λ bytes. IsTrue (F.tells files.old) →
@@ -138,8 +139,8 @@ fn save<F: Files, W: Write>(
 ) -> Result<Kept, CaptureFault>
     requires disks { AreDisks disks }
     requires lines { script disks.clients source.now ≡ Ok lines.now }
-    ensures text { IfOk result (λ kept. kept.text.items ≡ (told (zeroed_units disks.clients disks.blocks disks.bad) lines.now).0) }
-    ensures status { IfOk result (λ kept. kept.status ≡ (told (zeroed_units disks.clients disks.blocks disks.bad) lines.now).1) }
+    ensures text { IfOk result (λ kept. kept.text.items ≡ (told TAGS (zeroed_units disks.clients disks.blocks disks.bad) lines.now).0) }
+    ensures status { IfOk result (λ kept. kept.status ≡ (told TAGS (zeroed_units disks.clients disks.blocks disks.bad) lines.now).1) }
     ensures captured { OnOk result (IsTrue (F.tells files.old) → IsCaptureOf (zeroed_units disks.clients disks.blocks disks.bad) lines.now (F.holds files.new file.now)) }
     ensures created { OnOk result (IsTrue (F.can_create files.old file.now)) }
     ensures fault { IfErr result (FileGivesUp (F.can_fail files.old file.now)) }
@@ -178,8 +179,8 @@ fn write_capture<O: Sink, W: Write>(
 ) -> Result<Kept, CaptureFault>
     requires disks { AreDisks disks }
     requires lines { script disks.clients source.now ≡ Ok lines.now }
-    ensures text { IfOk result (λ kept. kept.text.items ≡ (told (zeroed_units disks.clients disks.blocks disks.bad) lines.now).0) }
-    ensures status { IfOk result (λ kept. kept.status ≡ (told (zeroed_units disks.clients disks.blocks disks.bad) lines.now).1) }
+    ensures text { IfOk result (λ kept. kept.text.items ≡ (told TAGS (zeroed_units disks.clients disks.blocks disks.bad) lines.now).0) }
+    ensures status { IfOk result (λ kept. kept.status ≡ (told TAGS (zeroed_units disks.clients disks.blocks disks.bad) lines.now).1) }
     ensures captured { OnOk result (AppendsCapture (zeroed_units disks.clients disks.blocks disks.bad) lines.now (O.written file.old) (O.written file.new)) }
     ensures there { OnOk result (IsTrue (O.is_there file.old)) }
     ensures same { O.can_fail file.new ≡ O.can_fail file.old }

@@ -13,6 +13,7 @@ use Rattle.block_unit.specs.declared.ImageFault.TheVariants.{NotWhole, TooLarge}
 use Rattle.scsi_cmd.specs.declared.Command.{Command}
 use Rattle.scsi_cmd.specs.declared.Reply.{Reply}
 use Rattle.scsi_cmd.specs.declared.Reply.TheVariants.{Status, Aborted, Task}
+use Rattle.uas_profile.specs.declared.TheConstants.{TAGS}
 use Rattle.scsi_cmd.specs.declared.TheConstants.{GOOD}
 use Rattle.shared_machine.specs.Part.{Part}
 use Rattle.shared_machine.specs.Shared.{Shared}
@@ -79,24 +80,24 @@ told-good good (Some (Task tag ticket code)) zero = absurd (omega (arith, zero))
 
 -- the laws of one command alone, of such a reply
 read-good : (unit : BlockMaps) (command : Command) (bytes : List ℕ) (reply : Reply) → IsSized unit →
-    (alone unit 1 0 command drain_limit).1.reply ≡ Some reply → IsGoodWith bytes reply → AreItsBlocks unit command.op bytes
+    (alone TAGS unit 1 0 command drain_limit).1.reply ≡ Some reply → IsGoodWith bytes reply → AreItsBlocks unit command.op bytes
 read-good unit command bytes (Status tag ticket status sense buffer) sized is good =
     subst (AreItsBlocks unit command.op) good.1
-    (read-alone unit 1 0 command drain_limit tag ticket sense buffer sized (is ∙ ap (λ n. Some (Status tag ticket n sense buffer)) good.0))
+    (read-alone TAGS unit 1 0 command drain_limit tag ticket sense buffer sized (is ∙ ap (λ n. Some (Status tag ticket n sense buffer)) good.0))
 read-good unit command bytes (Aborted tag ticket buffer) sized is good = absurd good
 read-good unit command bytes (Task tag ticket code) sized is good = absurd good
 
 write-good : (unit : BlockMaps) (command : Command) (bytes : List ℕ) (reply : Reply) → IsSized unit →
-    (alone unit 1 0 command drain_limit).1.reply ≡ Some reply → IsGoodWith bytes reply →
-    HasItsBytes unit command.op command.buffer (own_state (alone unit 1 0 command drain_limit).0 0).unit
+    (alone TAGS unit 1 0 command drain_limit).1.reply ≡ Some reply → IsGoodWith bytes reply →
+    HasItsBytes unit command.op command.buffer (own_state (alone TAGS unit 1 0 command drain_limit).0 0).unit
 write-good unit command bytes (Status tag ticket status sense buffer) sized is good =
-    write-alone unit 1 0 command drain_limit tag ticket sense buffer sized (is ∙ ap (λ n. Some (Status tag ticket n sense buffer)) good.0)
+    write-alone TAGS unit 1 0 command drain_limit tag ticket sense buffer sized (is ∙ ap (λ n. Some (Status tag ticket n sense buffer)) good.0)
 write-good unit command bytes (Aborted tag ticket buffer) sized is good = absurd good
 write-good unit command bytes (Task tag ticket code) sized is good = absurd good
 
 -- the definitions, opened
 
-answered-alone : (unit : BlockMaps) (request : Request) → answered unit request ≡ alone unit 1 0 (command_of request) drain_limit
+answered-alone : (unit : BlockMaps) (request : Request) → answered unit request ≡ alone TAGS unit 1 0 (command_of request) drain_limit
 unfolding answered step_of drained_machine
 answered-alone unit request = refl
 
@@ -127,7 +128,7 @@ medium-written image lba count byte =
 -- the medium of a bus is that of its client's part
 medium-own : (state : Shared) → medium_of state ≡ (own_state state 0).unit.medium
 medium-own state = elim (slice_get state.parts 0) as (λ found.
-    option_map_or (λ (part : Part). part.unit.medium) found [] ≡ (option_map_or (solo_of 0) found nobody).unit.medium) [
+    option_map_or (λ (part : Part). part.unit.medium) found [] ≡ (option_map_or (solo_of state.tags 0) found (nobody state.tags)).unit.medium) [
       | None ↦ refl
       | Some part ↦ refl
     ]
@@ -169,7 +170,7 @@ fill-good image blocks lba count byte whole zero =
     let wrote = write-good unit (command_of request) good.bytes good.reply (image-sized image blocks whole)
     (sym (ap (λ after. after.1.reply) (answered-alone unit request)) ∙ good.is) good.has in
     filled_medium-is unit lba count byte ∙ ap (λ after. medium_of after.0) (answered-alone unit request)
-    ∙ medium-own (alone unit 1 0 (command_of request) drain_limit).0 ∙ ap (λ now. now.medium) wrote ∙ medium-written image lba count byte
+    ∙ medium-own (alone TAGS unit 1 0 (command_of request) drain_limit).0 ∙ ap (λ now. now.medium) wrote ∙ medium-written image lba count byte
 
 fill-at : (image : List ℕ) (lba count byte status : ℕ) (old new now : Option (List ℕ)) (form : Result ℕ ImageFault) → blocks_in image ≡ form →
     AnswersOf form (filled (imaged image []) lba count byte) old new status → now ≡ Some (filled_medium (imaged image []) lba count byte) → status ≡ 0 →

@@ -11,6 +11,7 @@ use Rattle.scsi_cmd.specs.declared.Reply.TheVariants.{Status, Aborted, Task}
 use Rattle.shared_machine.specs.declared.Step.TheVariants as step
 use Rattle.shared_machine.specs.declared.Outcome.{Outcome}
 use Rattle.shared_machine.specs.Shared.{Shared, opening}
+use Rattle.uas_profile.specs.declared.TheConstants.{TAGS}
 use Rattle.uas_script.specs.declared.Request.{Request}
 use Rattle.uas_replay.specs.Printed.{is_good, sense_line}
 use Rattle.uas_replay.specs.Told.{step_of, drained_machine, drain_limit, command_of}
@@ -21,7 +22,7 @@ use Rattle.uas_replay.specs.Told.{step_of, drained_machine, drain_limit, command
 -- the client takes the reply, where one is ready.
 unfoldable pub answered : BlockMaps → Request → Shared × Outcome
 answered unit request =
-    step_of (drained_machine (step_of (opening (unit ∷ [])) (step.Submit 0 1 0 (command_of request))).0 drain_limit) (step.Take 0)
+    step_of (drained_machine (step_of (opening TAGS (unit ∷ [])) (step.Submit 0 1 0 (command_of request))).0 drain_limit) (step.Take 0)
 
 -- a READ of so many blocks
 abbrev pub read_request : ℕ → ℕ → Request

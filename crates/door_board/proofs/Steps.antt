@@ -27,7 +27,7 @@ idle_set views id w idle mine k v at =
     ⊎_elim (λ (here : (k ≡ id) × (w ≡ v)). subst Unused here.1 mine) (λ (else : (k ≢ id)
     × (get_elem? views k ≡ some v)). idle k v else.1) (at_set views id k w v at)
 
-pub ring_allowed : (seats slots id word k : ℕ) (me : Me (Unit {0}) Past) → me.0.shares ≡ 1 → word < 4 → k < 64
+pub ring_allowed : (seats slots id word k : ℕ) (me : Me (Unit {0}) Past) → me.0.shares ≡ 1 → word < 8 → k < 64
     → Allows (IsCounted seats) slots id me word (λ n. bit_or n (2 ^ k)) (Rings (step slots word (2 ^ k) 0 none) me)
 ring_allowed seats slots id word k me one within low s held homes at fits =
     let n : ℕ = slice_index s.words word in
@@ -51,7 +51,7 @@ ring_allowed seats slots id word k me one within low s held homes at fits =
       (k, low, refl, refl),
     )
 
-pub collect_allowed : (seats slots id word : ℕ) (me : Me (Unit {0}) Past) → me.0.shares ≡ 1 → word < 4
+pub collect_allowed : (seats slots id word : ℕ) (me : Me (Unit {0}) Past) → me.0.shares ≡ 1 → word < 8
     → Allows (IsCounted seats) slots id me word (λ n. 0) (Collects (step slots word 0 0 none) me)
 collect_allowed seats slots id word me one within s held homes at fits =
     let n : ℕ = slice_index s.words word in
@@ -149,12 +149,20 @@ counts_alone seats id v s held at every place below =
     let before = held.counts place below in
     omega arith
 
--- four words are those that were read one by one
-pub four_words : (l : List ℕ) (a b c d : ℕ) → length l ≡ 4 → get_elem? l 0 ≡ some a → get_elem? l 1 ≡ some b → get_elem? l 2 ≡ some c
-    → get_elem? l 3 ≡ some d → l ≡ a ∷ b ∷ c ∷ d ∷ []
-four_words [] a b c d n = absurd (omega arith)
-four_words (w ∷ []) a b c d n = absurd (omega arith)
-four_words (w ∷ x ∷ []) a b c d n = absurd (omega arith)
-four_words (w ∷ x ∷ y ∷ []) a b c d n = absurd (omega arith)
-four_words (w ∷ x ∷ y ∷ z ∷ []) a b c d n = λ p q r s i. some-injective w a p i ∷ some-injective x b q i ∷ some-injective y c r i ∷ some-injective z d s i ∷ []
-four_words (w ∷ x ∷ y ∷ z ∷ u ∷ us) a b c d n = absurd (omega arith)
+-- eight words are those that were read one by one
+pub eight_words : (l : List ℕ) (a b c d e f g h : ℕ) → length l ≡ 8
+    → get_elem? l 0 ≡ some a → get_elem? l 1 ≡ some b → get_elem? l 2 ≡ some c → get_elem? l 3 ≡ some d
+    → get_elem? l 4 ≡ some e → get_elem? l 5 ≡ some f → get_elem? l 6 ≡ some g → get_elem? l 7 ≡ some h
+    → l ≡ a ∷ b ∷ c ∷ d ∷ e ∷ f ∷ g ∷ h ∷ []
+eight_words [] a b c d e f g h n = absurd (omega arith)
+eight_words (s ∷ []) a b c d e f g h n = absurd (omega arith)
+eight_words (s ∷ t ∷ []) a b c d e f g h n = absurd (omega arith)
+eight_words (s ∷ t ∷ u ∷ []) a b c d e f g h n = absurd (omega arith)
+eight_words (s ∷ t ∷ u ∷ v ∷ []) a b c d e f g h n = absurd (omega arith)
+eight_words (s ∷ t ∷ u ∷ v ∷ w ∷ []) a b c d e f g h n = absurd (omega arith)
+eight_words (s ∷ t ∷ u ∷ v ∷ w ∷ x ∷ []) a b c d e f g h n = absurd (omega arith)
+eight_words (s ∷ t ∷ u ∷ v ∷ w ∷ x ∷ y ∷ []) a b c d e f g h n = absurd (omega arith)
+eight_words (s ∷ t ∷ u ∷ v ∷ w ∷ x ∷ y ∷ z ∷ []) a b c d e f g h n = λ is0 is1 is2 is3 is4 is5 is6 is7 i.
+    some-injective s a is0 i ∷ some-injective t b is1 i ∷ some-injective u c is2 i ∷ some-injective v d is3 i
+    ∷ some-injective w e is4 i ∷ some-injective x f is5 i ∷ some-injective y g is6 i ∷ some-injective z h is7 i ∷ []
+eight_words (s ∷ t ∷ u ∷ v ∷ w ∷ x ∷ y ∷ z ∷ one ∷ more) a b c d e f g h n = absurd (omega arith)

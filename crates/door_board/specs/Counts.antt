@@ -3,11 +3,11 @@ use Rattle.std.specs.Prelude.{◌≡◌, ℕ, ◌+◌, ◌-◌, ◌*◌, ◌/◌
 use Rattle.std.specs.Int.{bit_at}
 use Rattle.atomic_table.specs.Seated.{TableId}
 use Rattle.door_board.specs.declared.Haul.{Haul}
-use Rattle.uas_profile.specs.declared.TheConstants.{TAGS}
 
--- the place of index i of a client; by hand, with 16 tags: index 1 of client 0 has place 0, index 16 of client 14 has place 64 * 2 + 16 * 3 + 15 = 191
-abbrev pub place_of : ℕ → ℕ → ℕ
-place_of client i = 64 * (client % 4) + TAGS * (client / 4) + i - 1
+-- The place of index i of a client; by hand, of 16 tags: index 1 of client 0 has place 0, and index 16 of client 14, which is in word 2, has
+-- 64 * 2 + 16 * 3 + 15 = 191; of 8 tags index 8 of client 30, which is in word 2 + 4, has 64 * 6 + 8 * 3 + 7 = 415
+abbrev pub place_of : ℕ → ℕ → ℕ → ℕ
+place_of tags client i = 64 * (client % 4 + 4 * (client / 16)) + tags * (client / 4 % 4) + i - 1
 
 -- A board as its calls see it: which one it is, and how many seats were made for it
 pub record MadeBoard : Type 0 where

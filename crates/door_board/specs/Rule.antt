@@ -29,7 +29,7 @@ standing words place = bit_at (slice_index words (place / 64)) (place % 64)
 
 -- The shares are those of the seats that were made. A view with no share has done nothing
 pub record IsCounted (seats : ℕ) (s : State (Unit {0}) Past) : Type 0 where
-  pub width : length s.words ≡ 4
+  pub width : length s.words ≡ 8
   pub shares : sum_by shares_of s.views ≡ seats
   pub counts : (place : ℕ) → place < PLACES → sum_by (rung_of place) s.views ≡ sum_by (taken_of place) s.views + standing s.words place
   pub idle : (k : ℕ) (v : Past) → get_elem? s.views k ≡ some v → v.shares ≡ 0 → (v.fresh ≡ []) × (v.hauls ≡ [])

@@ -4,10 +4,11 @@
 //! that it found rung. Rings that come before the next collection merge into one standing bit.
 //!
 //! ```text
-//! word 0   clients 0, 4, 8, 12     bit TAGS (c div 4) + i - 1 is index i of client c
+//! word 0   clients 0, 4, 8, 12     bit tags (c div 4 mod 4) + i - 1 is index i of client c, of clients of so many tags
 //! word 1   clients 1, 5, 9, 13
 //! word 2   clients 2, 6, 10, 14
-//! word 3   clients 3, 7, 11
+//! word 3   clients 3, 7, 11, 15
+//! word 4   clients 16, 20, 24, 28, and so on
 //! ```
 //!
 //! The rules:
@@ -29,33 +30,31 @@ ghost use Rattle.std.specs.Prelude.{◌≡◌, ℕ, ◌+◌, ◌-◌, ◌*◌, �
 ghost use Rattle.std.specs.Int.{bit_at};
 ghost use Rattle.door_board.specs.Counts.{place_of, fresh_rings, collections, times_rung, times_taken, unused_seat, rang, collected, IsSeatOf};
 ghost use Rattle.door_board.specs.Rule.{taking_in};
+ghost use Rattle.uas_profile.specs.Tags.{AreTags};
 
 use atomic_table::{Join, Play, Split, Table, TableRule};
 use std::alloc::{AllocError, Global};
 use std::collections::LinkedList;
 use std::marker::Model;
-use uas_profile::{MAX_CLIENTS, TAGS};
 
 /// Want of memory.
 pub type NoMemory = AllocError;
 
 /// Words of a board.
-pub const WORDS: usize = 4;
+pub const WORDS: usize = 8;
 
 /// Places of a board, 64 in each word.
-pub const PLACES: usize = 256;
+pub const PLACES: usize = 512;
 
 /// Places of a word.
 const WORD_PLACES: usize = 64;
 
-/// Clients that have places, one for each of their `TAGS` tags.
-pub const CLIENTS: usize = WORDS * (WORD_PLACES / TAGS);
+/// Clients whose places a board has: four of each word.
+pub const CLIENTS: usize = 4 * WORDS;
 
-const _: () = prove!(WORDS == 4);
+const _: () = prove!(WORDS == 8 && CLIENTS == 32);
 
-const _: () = prove!(PLACES == 256 && WORDS * WORD_PLACES == PLACES);
-
-const _: () = prove!(MAX_CLIENTS <= CLIENTS);
+const _: () = prove!(PLACES == 512 && WORDS * WORD_PLACES == PLACES);
 
 /// The bits that one collection found in a word.
 pub struct Haul {
@@ -136,7 +135,7 @@ impl Model for Board {
 
     ghost view = { λ b. record { table = b.table.shared.table_id; seats = b.seats } };
 
-    ghost invariant = { λ b. (b.table.shared.table_id.words ≡ 4) × (b.table.shared.table_id.slots ≡ 0) × (b.table.shared.key ≡ b.seats) × (0 < b.seats) };
+    ghost invariant = { λ b. (b.table.shared.table_id.words ≡ 8) × (b.table.shared.table_id.slots ≡ 0) × (b.table.shared.key ≡ b.seats) × (0 < b.seats) };
 }
 
 /// The right to ring and to collect. It has no bytes; contracts see it as the board and what was done with it there.
@@ -156,17 +155,18 @@ impl Model for Seat {
     ghost invariant = { λ s. (s.seat.me.0.shares ≡ 1) × (s.seat.me.1 ≡ []) };
 }
 
-/// The place of index `index`, from 1 to `TAGS`, of client `client`, which is below `CLIENTS`. No other index or client has it.
-pub fn place(client: usize, index: usize) -> usize
+/// The place of index `index`, from 1 to `tags`, of a client below 32 (`CLIENTS`). No other index or client of so many tags has it.
+pub fn place(tags: usize, client: usize, index: usize) -> usize
+    requires tags { AreTags tags }
     requires client { client < CLIENTS }
     requires index_low { 1 ≤ index }
-    requires index_high { index ≤ TAGS }
-    ensures place { result ≡ place_of client index }
+    requires index_high { index ≤ tags }
+    ensures place { result ≡ place_of tags client index }
     ensures below { result < PLACES }
-    ensures word { result / 64 ≡ client % WORDS }
-    ensures alone { (other i : ℕ) → other < CLIENTS → 1 ≤ i → i ≤ TAGS → place_of other i ≡ result → (other ≡ client) × (i ≡ index) }
+    ensures word { (result / 64) % 4 ≡ client % 4 }
+    ensures alone { (other i : ℕ) → other < CLIENTS → 1 ≤ i → i ≤ tags → place_of tags other i ≡ result → (other ≡ client) × (i ≡ index) }
 {
-    WORD_PLACES * (client % WORDS) + TAGS * (client / WORDS) + index - 1
+    WORD_PLACES * (client % 4 + 4 * (client / 16)) + tags * (client / 4 % 4) + index - 1
 }
 
 impl Board {
@@ -187,7 +187,7 @@ impl Board {
         Ok((Board { table, seats }, dealt))
     }
 
-    /// Rings a place below 256 (`PLACES`). True where its bit was clear, which is a fresh ring; false where it stood, so that this
+    /// Rings a place below 512 (`PLACES`). True where its bit was clear, which is a fresh ring; false where it stood, so that this
     /// ring merged with an earlier one.
     pub fn ring(&self, seat: &mut Seat, place: usize) -> bool
         requires own { IsSeatOf self.now seat.old }
@@ -202,7 +202,7 @@ impl Board {
         found & bit == 0
     }
 
-    /// The bits that stood in a word below 4; they stand no more.
+    /// The bits that stood in a word below 8; they stand no more.
     pub fn collect(&self, seat: &mut Seat, word: usize) -> u64
         requires own { IsSeatOf self.now seat.old }
         requires word { word < WORDS }
@@ -227,6 +227,10 @@ impl Board {
             closed.word(1),
             closed.word(2),
             closed.word(3),
+            closed.word(4),
+            closed.word(5),
+            closed.word(6),
+            closed.word(7),
         ];
         closed.free();
         words

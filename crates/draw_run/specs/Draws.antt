@@ -7,8 +7,8 @@ use Rattle.block_unit.specs.BlockMaps.{BlockMaps}
 use Rattle.uas_script.specs.declared.Line.{Line}
 use Rattle.uas_script.specs.declared.ScriptFault.{ScriptFault}
 use Rattle.uas_trace.specs.Texts.{traced_text}
-use Rattle.trace_picture.specs.Picture.{picture_of}
-use Rattle.page_text.specs.Page.{page_of}
+use Rattle.draw_run.specs.picture.Picture.{picture_of}
+use Rattle.draw_run.specs.page.Page.{page_of}
 use Rattle.draw_run.specs.declared.Form.{Form}
 use Rattle.draw_run.specs.declared.Form.TheVariants.{Picture, Page}
 

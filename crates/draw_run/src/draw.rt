@@ -9,11 +9,11 @@ ghost use Rattle.uas_trace.specs.Traced.{Traces};
 ghost use Rattle.draw_run.specs.Draws.{AppendsDrawn, DrawsScript, StopsDrawing, drawn_of};
 
 use crate::Form;
+use crate::page::page;
+use crate::picture::picture;
 use byte_io::{BytesTaken, Disks, Sink, Source};
-use page_text::page;
 use std::alloc::{AllocError, Global};
 use std::io::Write;
-use trace_picture::picture;
 use uas_replay::{COMMAND_FAILED, RunFault, output_fault};
 use uas_trace::run_trace;
 

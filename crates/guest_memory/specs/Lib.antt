@@ -1,3 +1,5 @@
+pub mod rings
+pub mod notes
 pub mod Parts
 pub mod Bytes
 pub mod Ranges

@@ -9,7 +9,8 @@
 //! the memory after a write, in which each other byte is as it was. Each method here is one of them.
 //!
 //! [`Pieces`] is a memory of slices that are lent for a call, each from a base address on ([`Lent`]); where two of them have
-//! one address, the first holds its byte. A range inside one slice is copied at once.
+//! one address, the first holds its byte. A range inside one slice is copied at once. A [`notes::Noted`] notes what is written.
+//! [`rings`] has the rings that lie there.
 #![tactic(auto)]
 
 ghost use Rattle.std.specs.Prelude.{◌≡◌, ℕ, Some, None, true, false, length, OnOk, OnErr};
@@ -18,7 +19,9 @@ ghost use Rattle.guest_memory.specs.Bytes.{Memory, IsWithinAddresses, bytes_from
 mod lend;
 mod lent_piece;
 mod memory;
+pub mod notes;
 mod piece;
+pub mod rings;
 
 pub use lend::Lent;
 pub use memory::Pieces;

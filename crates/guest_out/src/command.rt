@@ -9,9 +9,9 @@ ghost use Rattle.guest_out.specs.Command.{command_acted, command_after, command_
 ghost use Rattle.guest_out.specs.Command.{received_if, stepped_command, unit_received};
 
 use crate::immediate::{draw, tally};
+use guest_memory::rings::{EventRing, Flags, Found, Front, Home, PipeTrb, look};
 use guest_memory::{GuestMemory, Outside};
 use guest_pipes::{Acted, Consumer, Ending};
-use guest_rings::{EventRing, Flags, Found, Front, Home, PipeTrb, look};
 use guest_tags::{Buffer, Gather, Received, UasDevice};
 
 /// How many bytes of a TD are gathered at most.

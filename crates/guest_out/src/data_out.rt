@@ -11,9 +11,9 @@ ghost use Rattle.guest_out.specs.DataOut.{drops_rest, is_good, out_acted, out_by
 ghost use Rattle.guest_out.specs.DataOut.{out_moved, out_normal, out_ran, out_took, out_trb, out_went, stepped_out};
 
 use crate::immediate::{draw, tally};
+use guest_memory::rings::{EventRing, Found, Front, PipeTrb};
 use guest_memory::{GuestMemory, Outside};
 use guest_pipes::{Acted, Consumer, Ending, Pipe};
-use guest_rings::{EventRing, Found, Front, PipeTrb};
 use guest_tags::{Buffer, End, Gather, Phase, UasDevice};
 
 /// Whether the rest of a TD that was begun or not is dropped after this end.

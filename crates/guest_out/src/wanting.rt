@@ -5,9 +5,9 @@ ghost use Rattle.guest_tags.specs.Wanted.{moving};
 
 use crate::command::MOST_GATHERED;
 use crate::immediate::is_immediate;
+use guest_memory::rings::{EventRing, Front, Home, Range, look, look_wants, part_wants};
 use guest_memory::{GuestMemory, Outside};
 use guest_pipes::{Consumer, Pipe, place_range};
-use guest_rings::{EventRing, Front, Home, Range, look, look_wants, part_wants};
 use guest_tags::{Buffer, Gather, Phase, UasDevice, moving};
 
 /// So many bytes of a buffer behind those that were moved, where a byte of them isn't there; None where they are in the TRB itself.

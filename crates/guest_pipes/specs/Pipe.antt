@@ -1,8 +1,8 @@
 -- A pipe of streams: its endpoint, its array of stream contexts, and what is kept of each stream's ring. Without streams it has one ring, whose
 -- end is in the endpoint context (xHCI 1.2, 4.12.2 and 6.2.3).
 use Rattle.std.specs.Prelude.{ℕ, ◌+◌, ◌*◌, ◌==◌, nat_le, nat_lt, Bool, true, false, ◌&&◌, if◌then◌else◌, List, replicate, get_or, set}
-use Rattle.guest_rings.specs.declared.context.Home.{Home}
-use Rattle.guest_rings.specs.declared.context.Home.TheVariants.{Stream, Endpoint}
+use Rattle.guest_memory.specs.declared.rings.context.Home.{Home}
+use Rattle.guest_memory.specs.declared.rings.context.Home.TheVariants.{Stream, Endpoint}
 use Rattle.guest_pipes.specs.declared.progress.Progress.{Progress}
 use Rattle.guest_pipes.specs.declared.consumer.EndpointState.{EndpointState}
 use Rattle.guest_pipes.specs.declared.consumer.EndpointState.TheVariants.{Disabled, Running, Halted, Stopped, Error}

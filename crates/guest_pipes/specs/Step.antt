@@ -1,14 +1,14 @@
 -- What is done at a ring's end in a step: one definition for each function, over memory, event ring and consumer.
 use Rattle.std.specs.Prelude.{ℕ, Bool, true, false, not, ◌&&◌, ◌||◌, List, length as list_length}
 use Rattle.guest_memory.specs.Bytes.{Memory, is_there, written}
-use Rattle.guest_rings.specs.declared.cursor.Cursor.{Cursor}
-use Rattle.guest_rings.specs.declared.context.Home.{Home}
-use Rattle.guest_rings.specs.declared.context.Front.{Front}
-use Rattle.guest_rings.specs.declared.trb.Flags.{Flags}
-use Rattle.guest_rings.specs.declared.event.Event.{Event}
-use Rattle.guest_rings.specs.declared.event.Event.TheVariants.{Transfer}
-use Rattle.guest_rings.specs.Ends.{behind, followed, home_at, home_bytes, home_size}
-use Rattle.guest_rings.specs.Events.{EventEnd, enqueue_pointer, enqueued, event_bytes}
+use Rattle.guest_memory.specs.declared.rings.cursor.Cursor.{Cursor}
+use Rattle.guest_memory.specs.declared.rings.context.Home.{Home}
+use Rattle.guest_memory.specs.declared.rings.context.Front.{Front}
+use Rattle.guest_memory.specs.declared.rings.trb.Flags.{Flags}
+use Rattle.guest_memory.specs.declared.rings.event.Event.{Event}
+use Rattle.guest_memory.specs.declared.rings.event.Event.TheVariants.{Transfer}
+use Rattle.guest_memory.specs.rings.Ends.{behind, followed, home_at, home_bytes, home_size}
+use Rattle.guest_memory.specs.rings.Events.{EventEnd, enqueue_pointer, enqueued, event_bytes}
 use Rattle.guest_pipes.specs.declared.progress.Ending.{Ending}
 use Rattle.guest_pipes.specs.declared.progress.Ending.TheVariants.{Runs, Told, Owed}
 use Rattle.guest_pipes.specs.declared.progress.Progress.{Progress}

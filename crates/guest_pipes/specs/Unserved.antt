@@ -1,13 +1,13 @@
 -- What is done at the end of a ring whose bytes nothing can serve (xHCI 1.2, 4.8.3 and 4.10.2): a TRB that moves bytes is told with what is left of
 -- it, the consumer stays, and the endpoint halts. Any other TRB means what it means on every pipe.
 use Rattle.std.specs.Prelude.{ℕ, ◌-◌, false, Option, option_map}
-use Rattle.guest_rings.specs.declared.context.Home.{Home}
-use Rattle.guest_rings.specs.declared.context.Front.{Front}
-use Rattle.guest_rings.specs.declared.context.Found.{Found}
-use Rattle.guest_rings.specs.declared.context.Found.TheVariants.{WrongKind, NotYet, Item}
-use Rattle.guest_rings.specs.declared.trb.PipeTrb.{PipeTrb}
-use Rattle.guest_rings.specs.declared.trb.PipeTrb.TheVariants.{Normal, Link, NoOp, EventData, Foreign}
-use Rattle.guest_rings.specs.Ends.{looked}
+use Rattle.guest_memory.specs.declared.rings.context.Home.{Home}
+use Rattle.guest_memory.specs.declared.rings.context.Front.{Front}
+use Rattle.guest_memory.specs.declared.rings.context.Found.{Found}
+use Rattle.guest_memory.specs.declared.rings.context.Found.TheVariants.{WrongKind, NotYet, Item}
+use Rattle.guest_memory.specs.declared.rings.trb.PipeTrb.{PipeTrb}
+use Rattle.guest_memory.specs.declared.rings.trb.PipeTrb.TheVariants.{Normal, Link, NoOp, EventData, Foreign}
+use Rattle.guest_memory.specs.rings.Ends.{looked}
 use Rattle.guest_pipes.specs.declared.acted.Acted.{Acted}
 use Rattle.guest_pipes.specs.declared.acted.Acted.TheVariants.{Emptied, Worked}
 use Rattle.guest_pipes.specs.declared.consumer.EndpointState.TheVariants.{Halted}

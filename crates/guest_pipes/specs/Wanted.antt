@@ -2,12 +2,12 @@
 -- then what the step moves of the TRB's buffer.
 use Rattle.std.specs.Prelude.{ℕ, ◌+◌, ◌*◌, ◌^◌, ◌==◌, nat_lt, if◌then◌else◌, Option, Some, None}
 use Rattle.guest_memory.specs.Bytes.{Memory}
-use Rattle.guest_rings.specs.declared.context.Front.{Front}
-use Rattle.guest_rings.specs.declared.context.Home.TheVariants.{Endpoint}
-use Rattle.guest_rings.specs.declared.wanting.Range.{Range}
-use Rattle.guest_rings.specs.Ends.{looked}
-use Rattle.guest_rings.specs.Events.{EventEnd, enqueue_pointer}
-use Rattle.guest_rings.specs.Wanted.{look_wanted}
+use Rattle.guest_memory.specs.declared.rings.context.Front.{Front}
+use Rattle.guest_memory.specs.declared.rings.context.Home.TheVariants.{Endpoint}
+use Rattle.guest_memory.specs.declared.rings.wanting.Range.{Range}
+use Rattle.guest_memory.specs.rings.Ends.{looked}
+use Rattle.guest_memory.specs.rings.Events.{EventEnd, enqueue_pointer}
+use Rattle.guest_memory.specs.rings.Wanted.{look_wanted}
 use Rattle.guest_pipes.specs.declared.acted.Acted.{Acted}
 use Rattle.guest_pipes.specs.Gate.{gate}
 use Rattle.guest_pipes.specs.Pipe.{PipeState, home_of}

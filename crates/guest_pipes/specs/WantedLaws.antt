@@ -5,13 +5,13 @@ use Rattle.std.proofs.lemmas.Option.{none-some}
 use Rattle.std.specs.Prelude.{is_some, option_map, if◌then◌else◌, not}
 use Rattle.guest_memory.specs.Bytes.{Memory, IsWithinAddresses}
 use Rattle.guest_memory.specs.Ranges.{lacks}
-use Rattle.guest_rings.specs.declared.context.Front.{Front}
-use Rattle.guest_rings.specs.declared.context.Home.TheVariants.{Endpoint}
-use Rattle.guest_rings.specs.declared.wanting.Range.{Range}
-use Rattle.guest_rings.specs.Ends.{looked}
-use Rattle.guest_rings.specs.Events.{EventEnd, has_room}
-use Rattle.guest_rings.specs.Wanted.{LacksIt, look_wanted}
-use Rattle.guest_rings.specs.WantedLaws.{look_lacks, look_there}
+use Rattle.guest_memory.specs.declared.rings.context.Front.{Front}
+use Rattle.guest_memory.specs.declared.rings.context.Home.TheVariants.{Endpoint}
+use Rattle.guest_memory.specs.declared.rings.wanting.Range.{Range}
+use Rattle.guest_memory.specs.rings.Ends.{looked}
+use Rattle.guest_memory.specs.rings.Events.{EventEnd, has_room}
+use Rattle.guest_memory.specs.rings.Wanted.{LacksIt, look_wanted}
+use Rattle.guest_memory.specs.rings.WantedLaws.{look_lacks, look_there}
 use Rattle.guest_pipes.specs.declared.acted.Acted.{Acted}
 use Rattle.guest_pipes.specs.declared.acted.Acted.TheVariants.{Full, Idle, Off}
 use Rattle.guest_pipes.specs.declared.consumer.Consumer.{Consumer}

@@ -4,13 +4,13 @@ ghost use Rattle.std.specs.Result.{result_ok};
 ghost use Rattle.guest_memory.specs.Bytes.{is_there};
 ghost use Rattle.guest_pipes.specs.Gate.{after, gate, is_running, room_gate, stop_event, stop_found, stop_looked, stop_told, took_other};
 ghost use Rattle.guest_pipes.specs.Step.{World, has_home, has_place};
-ghost use Rattle.guest_rings.specs.Ends.{looked};
+ghost use Rattle.guest_memory.specs.rings.Ends.{looked};
 ghost use Rattle.std.specs.Prelude.{option_map, unwrap_or, is_some, is_ok};
 
 use crate::acted::Acted;
 use crate::consumer::{Consumer, EndpointState};
+use guest_memory::rings::{Event, EventRing, Found, Front, Home, PipeTrb, look};
 use guest_memory::{GuestMemory, Outside};
-use guest_rings::{Event, EventRing, Found, Front, Home, PipeTrb, look};
 
 impl EndpointState {
     /// Whether it is Running.

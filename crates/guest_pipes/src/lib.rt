@@ -21,7 +21,7 @@
 //! What is promised: each function is the definition of its name in `specs/Step.antt`, over memory, event ring and consumer. What
 //! can be missing is asked before the first change, as `requires`, so none of them is refused in the middle.
 //!
-//! It stands on `guest_rings` for TRBs, contexts and events, and on `guest_memory` for the bytes.
+//! It stands on `guest_memory`, for the bytes and for the TRBs, contexts and events in them.
 #![tactic(auto)]
 
 mod acted;

@@ -2,7 +2,7 @@
 ghost use Rattle.std.specs.Prelude.{◌≡◌, ◌+◌, ◌*◌, ◌<◌, ◌≤◌, ◌^◌, ℕ, Some, None, true, false, is_ok, is_some, unwrap_or, IfSome, MatchOption};
 ghost use Rattle.std.specs.Result.{result_ok};
 ghost use Rattle.guest_memory.specs.Bytes.{is_there};
-ghost use Rattle.guest_rings.specs.declared.context.Home.TheVariants.{Stream};
+ghost use Rattle.guest_memory.specs.declared.rings.context.Home.TheVariants.{Stream};
 ghost use Rattle.guest_pipes.specs.Step.{has_place, has_home};
 ghost use Rattle.guest_pipes.specs.Gate.{after, stop_looked};
 ghost use Rattle.guest_pipes.specs.Pipe.{home_of, loaded, ring_home};
@@ -11,8 +11,8 @@ ghost use Rattle.guest_pipes.specs.Orders.{PipeWorld, dequeue_set, invalid_stepp
 use crate::acted::Acted;
 use crate::gate::room_gate;
 use crate::pipe::Pipe;
+use guest_memory::rings::{Cursor, EventRing, stand};
 use guest_memory::{GuestMemory, Outside};
-use guest_rings::{Cursor, EventRing, stand};
 
 impl Pipe {
     /// Sets the dequeue pointer of a stream, with a type (SCT), and forgets what was moved (4.6.10). Refused where the stream's context

@@ -2,15 +2,15 @@
 ghost use Rattle.std.specs.Prelude.{◌≡◌, ◌==◌, ◌+◌, ◌*◌, ◌<◌, ◌≤◌, ◌^◌, IfOk, IfSome, ℕ, Some, None, true, false, get_or, replicate, vec_len, is_ok};
 ghost use Rattle.guest_pipes.specs.Progress.{fresh};
 ghost use Rattle.std.specs.Result.{result_ok};
-ghost use Rattle.guest_rings.specs.Ends.{looked};
+ghost use Rattle.guest_memory.specs.rings.Ends.{looked};
 ghost use Rattle.guest_pipes.specs.Step.{has_home};
 ghost use Rattle.guest_pipes.specs.Wanted.{front_wanted, ring_wanted};
 ghost use Rattle.guest_pipes.specs.Pipe.{configured, disabled, forgotten, has_stray, has_stream, home_of, loaded, noted, progress_on, recovered, reset_with, ring_home, rung_by, stopped, stored};
 
 use crate::consumer::{Consumer, EndpointState};
 use crate::progress::Progress;
+use guest_memory::rings::{Front, Home, Range, look, look_wants};
 use guest_memory::{GuestMemory, Outside};
-use guest_rings::{Front, Home, Range, look, look_wants};
 use std::alloc::{AllocError, Global};
 use std::marker::Model;
 
@@ -250,7 +250,7 @@ impl Pipe {
     }
 
     /// The end of a stream's ring, and what stands there. Refused where a byte of either isn't there.
-    #[tactic(auto, using(guest_rings::specs::Past::looked_past))]
+    #[tactic(auto, using(guest_memory::specs::rings::Past::looked_past))]
     pub fn front<M: GuestMemory>(&self, memory: &M, stream: u16) -> Result<Front, Outside>
         ensures front { result_ok result ≡ looked (M.contents memory.now) (home_of self.now stream) }
         ensures there { IfOk result (λ front. has_home (M.contents memory.now) front.home ≡ true) }
@@ -310,7 +310,7 @@ impl Pipe {
     }
 
     /// Where a stream's consumer's end is kept. Refused where a byte of that isn't there.
-    #[tactic(auto, using(guest_rings::specs::Past::past_end))]
+    #[tactic(auto, using(guest_memory::specs::rings::Past::past_end))]
     pub(crate) fn home<M: GuestMemory>(&self, memory: &M, stream: u16) -> Result<Home, Outside>
         ensures home { IfOk result (λ home. home ≡ home_of self.now stream) }
         ensures there { is_ok result ≡ has_home (M.contents memory.now) (home_of self.now stream) }

@@ -1,17 +1,17 @@
 //! What is done at a ring's end in a step. What can be missing is asked before, so no function here is refused.
 ghost use Rattle.std.specs.Prelude.{◌≡◌, ℕ, ◌+◌, ◌<◌, ◌≤◌, ◌^◌, length as list_length, true, IfSome, is_some};
 ghost use Rattle.guest_memory.specs.Bytes.{is_there};
-ghost use Rattle.guest_rings.specs.declared.event.Event.TheVariants.{Transfer};
+ghost use Rattle.guest_memory.specs.declared.rings.event.Event.TheVariants.{Transfer};
 ghost use Rattle.guest_pipes.specs.Step.{World, has_place, has_home, about, posted, posted_if, stood, consumed, filled, filled_if, linked, passed};
 ghost use Rattle.guest_pipes.specs.Step.{data_told, skipped, shortened, failed, babbled, erred, refused, poured, used_up};
 
 use crate::consumer::{Consumer, EndpointState};
 use crate::progress::Ending;
 use guest_memory::GuestMemory;
-use guest_rings::{Cursor, Event, EventRing, Flags, Front, Home, stand};
+use guest_memory::rings::{Cursor, Event, EventRing, Flags, Front, Home, stand};
 
 /// The address so far ahead of another, where so many bytes are there.
-#[tactic(auto, using(guest_rings::specs::Past::past_end))]
+#[tactic(auto, using(guest_memory::specs::rings::Past::past_end))]
 pub fn there<M: GuestMemory>(memory: &M, pointer: u64, ahead: u32, count: usize) -> Option<u64>
     requires some { 1 ≤ count }
     ensures place { IfSome result (λ to. to ≡ pointer + ahead) }

@@ -7,8 +7,8 @@ ghost use Rattle.guest_pipes.specs.Unserved.{stuck, unserved_at, unserved_steppe
 
 use crate::acted::Acted;
 use crate::consumer::{Consumer, EndpointState};
+use guest_memory::rings::{EventRing, Found, Front, Home, PipeTrb, look};
 use guest_memory::{GuestMemory, Outside};
-use guest_rings::{EventRing, Found, Front, Home, PipeTrb, look};
 
 impl Consumer {
     /// Halts the endpoint at the TRB in front, and tells what is left of that with this code.

@@ -2,7 +2,7 @@
 ghost use Rattle.std.specs.Prelude.{◌≡◌};
 ghost use Rattle.guest_pipes.specs.Wanted.{place_range};
 
-use guest_rings::{EventRing, Range};
+use guest_memory::rings::{EventRing, Range};
 
 /// The next event's place.
 pub fn place_range(events: &EventRing) -> Range

@@ -17,9 +17,9 @@ use Rattle.frame_store.specs.Buffers.{IsWhole, bytes_of, front_of}
 use Rattle.frame_store.specs.Places.{address_of, room_of}
 use Rattle.frame_store.proofs.FramesLaws.{bytes_of-room}
 use Rattle.guest_memory.specs.Bytes.{Memory, written}
-use Rattle.guest_rings.specs.declared.context.Home.{Home}
-use Rattle.guest_rings.specs.Ends.{home_at, home_size}
-use Rattle.guest_rings.specs.Events.{EventEnd, enqueue_pointer}
+use Rattle.guest_memory.specs.declared.rings.context.Home.{Home}
+use Rattle.guest_memory.specs.rings.Ends.{home_at, home_size}
+use Rattle.guest_memory.specs.rings.Events.{EventEnd, enqueue_pointer}
 use Rattle.guest_profile.specs.Rings.{HasPlaces, HoldsRing, IsBeforeLink}
 use Rattle.guest_profile.specs.Events.{HoldsEventRing, IsProducer}
 use Rattle.guest_profile.specs.Layout.{AreApart, HoldsFrames, IsBeside, IsLayout, KeepsEnd, Layout, buffers_size, contexts_of, contexts_size, kept_at, rings_size, windows_size}

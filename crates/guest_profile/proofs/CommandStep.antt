@@ -1,13 +1,13 @@
 -- A step of the command pipe at a TRB that is a whole TD.
 use Rattle.std.proofs.Common.{◌≡◌, ℕ, ◌+◌, ◌≤◌, min, Bool, true, false, List, [], Option, Some, None, refl, ap, arith}
 use Rattle.guest_memory.specs.Bytes.{Memory, bytes_from}
-use Rattle.guest_rings.specs.declared.cursor.Cursor.{Cursor}
-use Rattle.guest_rings.specs.declared.context.Home.{Home}
-use Rattle.guest_rings.specs.declared.context.Found.TheVariants.{Item, NotYet}
-use Rattle.guest_rings.specs.declared.trb.Flags.{Flags}
-use Rattle.guest_rings.specs.declared.trb.PipeTrb.TheVariants.{Link, Normal}
-use Rattle.guest_rings.specs.Ends.{followed, looked}
-use Rattle.guest_rings.specs.Events.{EventEnd}
+use Rattle.guest_memory.specs.declared.rings.cursor.Cursor.{Cursor}
+use Rattle.guest_memory.specs.declared.rings.context.Home.{Home}
+use Rattle.guest_memory.specs.declared.rings.context.Found.TheVariants.{Item, NotYet}
+use Rattle.guest_memory.specs.declared.rings.trb.Flags.{Flags}
+use Rattle.guest_memory.specs.declared.rings.trb.PipeTrb.TheVariants.{Link, Normal}
+use Rattle.guest_memory.specs.rings.Ends.{followed, looked}
+use Rattle.guest_memory.specs.rings.Events.{EventEnd}
 use Rattle.guest_pipes.specs.declared.acted.Acted.{Acted}
 use Rattle.guest_pipes.specs.declared.acted.Acted.TheVariants.{Emptied, Worked}
 use Rattle.guest_pipes.specs.Step.{World, used_up}

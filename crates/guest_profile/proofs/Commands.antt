@@ -15,17 +15,17 @@ use Rattle.uas_target.specs.Device.{Device, received}
 use Rattle.xhci_ctl.specs.declared.Acted.TheVariants.{Acted as ActedOn}
 use Rattle.xhci_ctl.specs.Steps.{Sides, began_tag, commanded, completed}
 use Rattle.guest_memory.specs.Bytes.{Memory, written}
-use Rattle.guest_rings.specs.declared.cursor.Cursor.{Cursor}
-use Rattle.guest_rings.specs.declared.context.Home.{Home}
-use Rattle.guest_rings.specs.declared.context.Home.TheVariants.{Endpoint}
-use Rattle.guest_rings.specs.Ends.{behind, home_at, home_bytes}
-use Rattle.guest_rings.specs.Events.{EventEnd, enqueue_pointer, enqueued}
+use Rattle.guest_memory.specs.declared.rings.cursor.Cursor.{Cursor}
+use Rattle.guest_memory.specs.declared.rings.context.Home.{Home}
+use Rattle.guest_memory.specs.declared.rings.context.Home.TheVariants.{Endpoint}
+use Rattle.guest_memory.specs.rings.Ends.{behind, home_at, home_bytes}
+use Rattle.guest_memory.specs.rings.Events.{EventEnd, enqueue_pointer, enqueued}
 use Rattle.guest_pipes.specs.declared.acted.Acted.{Acted}
 use Rattle.guest_tags.specs.declared.device.Received.{Received}
 use Rattle.guest_out.specs.Worlds.{OutWorld}
 use Rattle.guest_pipes.specs.declared.acted.Acted.TheVariants.{Worked}
 use Rattle.guest_pipes.specs.declared.consumer.Consumer.{Consumer}
-use Rattle.guest_target.specs.Targets.{received_as, target_kind}
+use Rattle.guest_profile.specs.target.Targets.{received_as, target_kind}
 use Rattle.guest_transfers.specs.State.{TransfersState, TransfersWorld}
 use Rattle.guest_transfers.specs.Steps.{command_done, command_stepped, command_world, received_on}
 use Rattle.guest_out.specs.Command.{command_after, stepped_command}

@@ -2,11 +2,11 @@
 use Rattle.std.proofs.Common.{◌≡◌, ℕ, ◌+◌, ◌*◌, ◌/◌, ◌%◌, ◌<◌, Bool, true, false, [], refl, arith}
 use Rattle.byteorder.specs.Endian.{little_bytes, little_number}
 use Rattle.byteorder.specs.Numbers.{little_number-reads_back}
-use Rattle.guest_rings.specs.declared.cursor.Cursor.{Cursor}
-use Rattle.guest_rings.specs.declared.context.Home.{Home}
-use Rattle.guest_rings.specs.declared.context.Home.TheVariants.{Stream, Endpoint}
-use Rattle.guest_rings.specs.Words.{bit}
-use Rattle.guest_rings.specs.Ends.{cursor_in, found_at, home_bytes, is_ring, looked, number_of, pointer_bytes, stream_bytes}
+use Rattle.guest_memory.specs.declared.rings.cursor.Cursor.{Cursor}
+use Rattle.guest_memory.specs.declared.rings.context.Home.{Home}
+use Rattle.guest_memory.specs.declared.rings.context.Home.TheVariants.{Stream, Endpoint}
+use Rattle.guest_memory.specs.rings.Words.{bit}
+use Rattle.guest_memory.specs.rings.Ends.{cursor_in, found_at, home_bytes, is_ring, looked, number_of, pointer_bytes, stream_bytes}
 use Rattle.guest_profile.specs.Contexts.{EndIsLooked, IsDequeue}
 
 -- bits 3:1 of the quadword where an end is kept

@@ -18,8 +18,8 @@ use Rattle.xhci_ctl.specs.declared.Acted.TheVariants.{Acted as ActedOn}
 use Rattle.xhci_ctl.specs.Pipes.{ControllerState}
 use Rattle.xhci_ctl.specs.Steps.{Sides, completed, consumed, moved}
 use Rattle.guest_memory.specs.Bytes.{written}
-use Rattle.guest_rings.specs.declared.context.Home.TheVariants.{Stream}
-use Rattle.guest_rings.specs.declared.cursor.Cursor.{Cursor}
+use Rattle.guest_memory.specs.declared.rings.context.Home.TheVariants.{Stream}
+use Rattle.guest_memory.specs.declared.rings.cursor.Cursor.{Cursor}
 use Rattle.guest_pipes.specs.declared.acted.Acted.{Acted}
 use Rattle.guest_pipes.specs.declared.acted.Acted.TheVariants.{Worked}
 use Rattle.guest_pipes.specs.declared.consumer.Consumer.{Consumer}
@@ -32,7 +32,7 @@ use Rattle.guest_pipes.specs.Progress.{fresh}
 use Rattle.guest_tags.specs.declared.tag.Tag.{Tag}
 use Rattle.guest_tags.specs.DataIn.{stepped_in}
 use Rattle.guest_tags.specs.Tags.{TagWorld}
-use Rattle.guest_target.specs.Targets.{phase_of, target_kind}
+use Rattle.guest_profile.specs.target.Targets.{phase_of, target_kind}
 use Rattle.guest_transfers.specs.State.{TransfersState, TransfersWorld, empty_slot, slot_of, with_slot}
 use Rattle.guest_transfers.specs.Steps.{in_kept, in_stepped, in_world}
 use Rattle.guest_transfers.specs.Orders.{data_by, data_stepped, drops_now, or_out}

@@ -8,14 +8,14 @@ use Rattle.stream_array.specs.Rings.{stream_ring}
 use Rattle.uas_target.specs.Device.{Device, answered, wanted}
 use Rattle.xhci_ctl.specs.Steps.{Sides}
 use Rattle.guest_memory.specs.Bytes.{Memory, written}
-use Rattle.guest_rings.specs.declared.cursor.Cursor.{Cursor}
-use Rattle.guest_rings.specs.declared.context.Home.{Home}
-use Rattle.guest_rings.specs.declared.context.Home.TheVariants.{Stream}
-use Rattle.guest_rings.specs.declared.context.Front.{Front}
-use Rattle.guest_rings.specs.declared.context.Found.TheVariants.{Item}
-use Rattle.guest_rings.specs.declared.trb.PipeTrb.TheVariants.{Link}
-use Rattle.guest_rings.specs.Ends.{followed, home_at, home_bytes, looked}
-use Rattle.guest_rings.specs.Events.{EventEnd}
+use Rattle.guest_memory.specs.declared.rings.cursor.Cursor.{Cursor}
+use Rattle.guest_memory.specs.declared.rings.context.Home.{Home}
+use Rattle.guest_memory.specs.declared.rings.context.Home.TheVariants.{Stream}
+use Rattle.guest_memory.specs.declared.rings.context.Front.{Front}
+use Rattle.guest_memory.specs.declared.rings.context.Found.TheVariants.{Item}
+use Rattle.guest_memory.specs.declared.rings.trb.PipeTrb.TheVariants.{Link}
+use Rattle.guest_memory.specs.rings.Ends.{followed, home_at, home_bytes, looked}
+use Rattle.guest_memory.specs.rings.Events.{EventEnd}
 use Rattle.guest_pipes.specs.declared.acted.Acted.{Acted}
 use Rattle.guest_pipes.specs.declared.acted.Acted.TheVariants.{Worked}
 use Rattle.guest_pipes.specs.declared.consumer.Consumer.{Consumer}
@@ -31,7 +31,7 @@ use Rattle.guest_tags.specs.Devices.{Kind}
 use Rattle.guest_tags.specs.Tags.{TagWorld}
 use Rattle.guest_out.specs.DataOut.{stepped_out}
 use Rattle.guest_out.specs.Worlds.{OutWorld}
-use Rattle.guest_target.specs.Targets.{phase_of, target_kind}
+use Rattle.guest_profile.specs.target.Targets.{phase_of, target_kind}
 use Rattle.guest_transfers.specs.State.{TransfersState, TransfersWorld, empty_slot, slot_of, with_slot}
 use Rattle.guest_transfers.specs.Steps.{in_kept, in_stepped, in_world, out_kept, out_world}
 use Rattle.guest_transfers.specs.Orders.{data_by, data_stepped, drops_now, or_out}

@@ -18,20 +18,20 @@ use Rattle.xhci_ctl.specs.Pipes.{ControllerState}
 use Rattle.xhci_ctl.specs.Steps.{Sides, completed, consumed, moved}
 use Rattle.guest_memory.specs.Bytes.{Memory}
 use Rattle.guest_memory.specs.Ranges.{size_of}
-use Rattle.guest_rings.specs.declared.context.Home.TheVariants.{Stream}
-use Rattle.guest_rings.specs.declared.cursor.Cursor.{Cursor}
+use Rattle.guest_memory.specs.declared.rings.context.Home.TheVariants.{Stream}
+use Rattle.guest_memory.specs.declared.rings.cursor.Cursor.{Cursor}
 use Rattle.guest_pipes.specs.declared.acted.Acted.{Acted}
 use Rattle.guest_pipes.specs.declared.acted.Acted.TheVariants.{Idle, Off, Worked}
 use Rattle.guest_pipes.specs.declared.consumer.Consumer.{Consumer}
 use Rattle.guest_pipes.specs.Gate.{after, gate, is_running, through}
 use Rattle.guest_pipes.specs.Pipe.{home_of, loaded, progress_on, rung_on, stored}
-use Rattle.guest_rings.specs.Ends.{looked}
-use Rattle.guest_rings.specs.Events.{EventEnd}
+use Rattle.guest_memory.specs.rings.Ends.{looked}
+use Rattle.guest_memory.specs.rings.Events.{EventEnd}
 use Rattle.std.specs.Prelude.{option_map}
 use Rattle.guest_tags.specs.DataIn.{acted_at}
 use Rattle.guest_out.specs.DataOut.{stepped_out}
 use Rattle.guest_out.specs.Worlds.{OutWorld}
-use Rattle.guest_target.specs.Targets.{phase_of, target_kind}
+use Rattle.guest_profile.specs.target.Targets.{phase_of, target_kind}
 use Rattle.guest_transfers.specs.declared.slot.Slot.{Slot}
 use Rattle.guest_transfers.specs.State.{TransfersState, TransfersWorld, empty_slot, slot_of, with_slot}
 use Rattle.guest_transfers.specs.Steps.{in_kept, in_stepped, in_world, out_kept, out_stepped, out_world}

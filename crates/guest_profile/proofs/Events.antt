@@ -20,8 +20,8 @@ use Rattle.event_ring.specs.Events.{Events, IsWritable, cycle_of, place_of, trb_
 use Rattle.event_ring.specs.Segment.{IsSegment}
 use Rattle.event_ring.proofs.Segment.{IsSegment-posted}
 use Rattle.guest_memory.specs.Bytes.{Memory, written}
-use Rattle.guest_rings.specs.Words.{bit}
-use Rattle.guest_rings.specs.Events.{EventEnd, advanced, bytes_of, enqueued}
+use Rattle.guest_memory.specs.rings.Words.{bit}
+use Rattle.guest_memory.specs.rings.Events.{EventEnd, advanced, bytes_of, enqueued}
 use Rattle.guest_profile.specs.Rings.{HasPlaces}
 use Rattle.guest_profile.specs.Layout.{AreApart}
 use Rattle.guest_profile.specs.Events.{EventIsPosted, EventsAreAlike, HoldsEventRing, IsProducer, RoomIsCounted}

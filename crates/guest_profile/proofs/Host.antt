@@ -16,9 +16,9 @@ use Rattle.stream_array.specs.Rings.{ring_of}
 use Rattle.stream_array.proofs.Frames.{with_events-kept}
 use Rattle.guest_memory.specs.Bytes.{Memory}
 use Rattle.guest_memory.specs.Ranges.{written_nothing}
-use Rattle.guest_rings.specs.declared.cursor.Cursor.{Cursor}
-use Rattle.guest_rings.specs.declared.context.Home.{Home}
-use Rattle.guest_rings.specs.Ends.{home_bytes}
+use Rattle.guest_memory.specs.declared.rings.cursor.Cursor.{Cursor}
+use Rattle.guest_memory.specs.declared.rings.context.Home.{Home}
+use Rattle.guest_memory.specs.rings.Ends.{home_bytes}
 use Rattle.guest_profile.specs.Rings.{HoldsRing}
 use Rattle.guest_profile.specs.Layout.{KeepsEnd, kept_at}
 use Rattle.guest_profile.specs.Host.{EventIsTaken, ItemsAreFreed}

@@ -16,8 +16,8 @@ use Rattle.stream_array.specs.Rings.{ring_of}
 use Rattle.guest_memory.specs.Bytes.{Memory, bytes_from, written}
 use Rattle.guest_memory.specs.Parts.{get_left, get_right}
 use Rattle.guest_memory.specs.Ranges.{from_each, written_ahead}
-use Rattle.guest_rings.specs.declared.context.Home.{Home}
-use Rattle.guest_rings.specs.Ends.{home_at, home_size}
+use Rattle.guest_memory.specs.declared.rings.context.Home.{Home}
+use Rattle.guest_memory.specs.rings.Ends.{home_at, home_size}
 use Rattle.guest_profile.specs.Rings.{HasPlaces, HoldsRing}
 use Rattle.guest_profile.specs.Layout.{AreApart, KeepsEnd, kept_at}
 use Rattle.guest_profile.specs.Host.{TrbIsPutLast, last_texts, with_trb}

@@ -3,14 +3,14 @@ use Rattle.std.proofs.Common.{◌≡◌, ℕ, ◌+◌, ◌-◌, ◌%◌, ◌^◌
 use Rattle.std.proofs.lemmas.Bool.{eq-eqb, lt-leb, ne_eqb}
 use Rattle.std.proofs.lemmas.List.{drop_all, take_all}
 use Rattle.guest_memory.specs.Bytes.{Memory, is_there, written}
-use Rattle.guest_rings.specs.declared.cursor.Cursor.{Cursor}
-use Rattle.guest_rings.specs.declared.context.Home.{Home}
-use Rattle.guest_rings.specs.declared.context.Found.TheVariants.{Item}
-use Rattle.guest_rings.specs.declared.context.Front.{Front}
-use Rattle.guest_rings.specs.declared.trb.Flags.{Flags}
-use Rattle.guest_rings.specs.declared.trb.PipeTrb.TheVariants.{Normal}
-use Rattle.guest_rings.specs.Ends.{behind, home_at, home_bytes, looked}
-use Rattle.guest_rings.specs.Events.{EventEnd}
+use Rattle.guest_memory.specs.declared.rings.cursor.Cursor.{Cursor}
+use Rattle.guest_memory.specs.declared.rings.context.Home.{Home}
+use Rattle.guest_memory.specs.declared.rings.context.Found.TheVariants.{Item}
+use Rattle.guest_memory.specs.declared.rings.context.Front.{Front}
+use Rattle.guest_memory.specs.declared.rings.trb.Flags.{Flags}
+use Rattle.guest_memory.specs.declared.rings.trb.PipeTrb.TheVariants.{Normal}
+use Rattle.guest_memory.specs.rings.Ends.{behind, home_at, home_bytes, looked}
+use Rattle.guest_memory.specs.rings.Events.{EventEnd}
 use Rattle.guest_pipes.specs.declared.acted.Acted.TheVariants.{Worked}
 use Rattle.guest_pipes.specs.declared.consumer.Consumer.{Consumer}
 use Rattle.guest_pipes.specs.declared.consumer.EndpointState.TheVariants.{Running}

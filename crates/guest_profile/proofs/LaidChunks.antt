@@ -8,8 +8,8 @@ use Rattle.stream_array.specs.Rings.{LinesState, ring_of}
 use Rattle.frame_store.specs.declared.TagBuffers.{TagBuffers}
 use Rattle.xhci_ctl.specs.Steps.{completed, consumed, endpoint_of}
 use Rattle.guest_memory.specs.Bytes.{Memory, written}
-use Rattle.guest_rings.specs.Ends.{behind, home_at, home_bytes}
-use Rattle.guest_rings.specs.Events.{EventEnd}
+use Rattle.guest_memory.specs.rings.Ends.{behind, home_at, home_bytes}
+use Rattle.guest_memory.specs.rings.Events.{EventEnd}
 use Rattle.guest_profile.specs.Rings.{cursor_at}
 use Rattle.guest_profile.specs.Layout.{IsLaid, IsLayout, Layout, kept_at}
 use Rattle.guest_profile.specs.Ready.{HasRoom}

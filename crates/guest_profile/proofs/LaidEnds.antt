@@ -9,8 +9,8 @@ use Rattle.stream_array.specs.Rings.{LinesState, ring_of, with_ring}
 use Rattle.stream_array.proofs.Frames.{IsLines-with_ring, ring_of-others, ring_of_with_ring}
 use Rattle.frame_store.specs.declared.TagBuffers.{TagBuffers}
 use Rattle.guest_memory.specs.Bytes.{Memory, written}
-use Rattle.guest_rings.specs.Ends.{home_at, home_size}
-use Rattle.guest_rings.specs.Events.{EventEnd}
+use Rattle.guest_memory.specs.rings.Ends.{home_at, home_size}
+use Rattle.guest_memory.specs.rings.Events.{EventEnd}
 use Rattle.guest_profile.specs.Rings.{HoldsRing}
 use Rattle.guest_profile.specs.Layout.{AreApart, IsLaid, IsLayout, KeepsEnd, Layout, kept_at}
 use Rattle.guest_profile.proofs.Apart.{HoldsEventRing-apart, HoldsFrames-apart, HoldsRing-apart, KeepsEnd-apart, events_beside, frame_beside, kept_apart, kept_beside, ring_beside, ring_bounds, same_ring}

@@ -9,8 +9,8 @@ use Rattle.stream_array.specs.Rings.{LinesState, ring_of, with_events}
 use Rattle.stream_array.proofs.Frames.{with_events-kept}
 use Rattle.frame_store.specs.declared.TagBuffers.{TagBuffers}
 use Rattle.guest_memory.specs.Bytes.{Memory, written}
-use Rattle.guest_rings.specs.Ends.{home_at, home_size}
-use Rattle.guest_rings.specs.Events.{EventEnd, enqueue_pointer, enqueued}
+use Rattle.guest_memory.specs.rings.Ends.{home_at, home_size}
+use Rattle.guest_memory.specs.rings.Events.{EventEnd, enqueue_pointer, enqueued}
 use Rattle.guest_profile.specs.Events.{with_event}
 use Rattle.guest_profile.specs.Layout.{AreApart, IsBeside, IsLaid, IsLayout, Layout, kept_at}
 use Rattle.guest_profile.proofs.Apart.{HoldsFrames-apart, HoldsRing-apart, KeepsEnd-apart, RingBounds, enqueue_bounds, frame_off_events, kept_beside, ring_bounds}

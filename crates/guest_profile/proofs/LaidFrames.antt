@@ -5,7 +5,7 @@ use Rattle.std.proofs.lemmas.List.{length-take-le, take-append-le, take_all, get
 use Rattle.uas_profile.specs.declared.TheConstants.{EVENT_RING, EVENT_RING_PLACES, STREAMS}
 use Rattle.stream_array.specs.Map.{places_of}
 use Rattle.stream_array.specs.Rings.{LinesState, ring_of}
-use Rattle.guest_rings.specs.Events.{EventEnd}
+use Rattle.guest_memory.specs.rings.Events.{EventEnd}
 use Rattle.guest_memory.specs.Parts.{get_drop, get_left, get_right, get_take}
 use Rattle.guest_memory.specs.Bytes.{Memory, bytes_from, written}
 use Rattle.guest_memory.specs.Ranges.{each_of, from_each, out_before, out_behind, size_of, written_ahead, written_beside}

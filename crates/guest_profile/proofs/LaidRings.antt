@@ -22,9 +22,9 @@ use Rattle.frame_store.specs.declared.TagBuffers.{TagBuffers}
 use Rattle.frame_store.specs.Buffers.{IsWhole, bytes_of, front_of}
 use Rattle.frame_store.specs.Places.{address_of}
 use Rattle.guest_memory.specs.Bytes.{Memory, written}
-use Rattle.guest_rings.specs.declared.context.Home.{Home}
-use Rattle.guest_rings.specs.Ends.{home_at, home_size}
-use Rattle.guest_rings.specs.Events.{EventEnd}
+use Rattle.guest_memory.specs.declared.rings.context.Home.{Home}
+use Rattle.guest_memory.specs.rings.Ends.{home_at, home_size}
+use Rattle.guest_memory.specs.rings.Events.{EventEnd}
 use Rattle.guest_profile.specs.Rings.{HoldsRing}
 use Rattle.guest_profile.specs.Layout.{AreApart, IsBeside, IsLaid, IsLayout, KeepsEnd, Layout, kept_at}
 use Rattle.guest_profile.specs.Host.{TrbIsPut, with_trb}

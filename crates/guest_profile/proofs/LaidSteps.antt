@@ -16,11 +16,11 @@ use Rattle.stream_array.proofs.Frames.{with_events-kept}
 use Rattle.frame_store.specs.declared.TagBuffers.{TagBuffers}
 use Rattle.xhci_ctl.specs.Steps.{completed, endpoint_of}
 use Rattle.guest_memory.specs.Bytes.{Memory, written}
-use Rattle.guest_rings.specs.declared.cursor.Cursor.{Cursor}
-use Rattle.guest_rings.specs.declared.context.Home.{Home}
-use Rattle.guest_rings.specs.declared.context.Home.TheVariants.{Stream, Endpoint}
-use Rattle.guest_rings.specs.Ends.{behind, home_at, home_bytes, home_size, pointer_bytes, stream_bytes}
-use Rattle.guest_rings.specs.Events.{EventEnd, enqueue_pointer, enqueued}
+use Rattle.guest_memory.specs.declared.rings.cursor.Cursor.{Cursor}
+use Rattle.guest_memory.specs.declared.rings.context.Home.{Home}
+use Rattle.guest_memory.specs.declared.rings.context.Home.TheVariants.{Stream, Endpoint}
+use Rattle.guest_memory.specs.rings.Ends.{behind, home_at, home_bytes, home_size, pointer_bytes, stream_bytes}
+use Rattle.guest_memory.specs.rings.Events.{EventEnd, enqueue_pointer, enqueued}
 use Rattle.guest_profile.specs.Rings.{HoldsRing, IsBeforeLink, StandsAt, cursor_at}
 use Rattle.guest_profile.specs.Events.{with_event}
 use Rattle.guest_profile.specs.Contexts.{HasEnd}

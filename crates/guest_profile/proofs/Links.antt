@@ -16,9 +16,9 @@ use Rattle.xhci_ctl.specs.declared.Acted.TheVariants.{Idle}
 use Rattle.xhci_ctl.specs.Pipes.{ControllerState, is_armed, is_open_on}
 use Rattle.xhci_ctl.specs.Steps.{Sides, sent_as}
 use Rattle.guest_memory.specs.Bytes.{Memory, written}
-use Rattle.guest_rings.specs.declared.cursor.Cursor.{Cursor}
-use Rattle.guest_rings.specs.declared.context.Home.TheVariants.{Endpoint, Stream}
-use Rattle.guest_rings.specs.Ends.{home_bytes}
+use Rattle.guest_memory.specs.declared.rings.cursor.Cursor.{Cursor}
+use Rattle.guest_memory.specs.declared.rings.context.Home.TheVariants.{Endpoint, Stream}
+use Rattle.guest_memory.specs.rings.Ends.{home_bytes}
 use Rattle.guest_pipes.specs.declared.acted.Acted.{Acted}
 use Rattle.guest_pipes.specs.declared.acted.Acted.TheVariants.{Emptied, Worked}
 use Rattle.guest_pipes.specs.declared.consumer.Consumer.{Consumer}
@@ -31,7 +31,7 @@ use Rattle.guest_tags.specs.Tags.{TagWorld}
 use Rattle.guest_tags.specs.Status.{stepped_status}
 use Rattle.guest_out.specs.Command.{command_after, stepped_command}
 use Rattle.guest_out.specs.Worlds.{OutWorld}
-use Rattle.guest_target.specs.Targets.{target_kind}
+use Rattle.guest_profile.specs.target.Targets.{target_kind}
 use Rattle.guest_transfers.specs.State.{TransfersState, TransfersWorld, empty_slot, slot_of, with_slot}
 use Rattle.guest_transfers.specs.Steps.{command_done, command_stepped, command_world, due_by, status_kept, status_stepped, status_world}
 use Rattle.guest_profile.specs.Rings.{cursor_at}

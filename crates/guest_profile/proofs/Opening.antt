@@ -7,13 +7,13 @@ use Rattle.uas_profile.specs.declared.Pipe.{Pipe}
 use Rattle.uas_profile.specs.declared.Pipe.TheVariants.{Command, Status, DataIn, DataOut}
 use Rattle.uas_profile.specs.declared.TheConstants.{COMMAND_BUFFERS, EVENT_RING, EVENT_RING_PLACES, STREAM_ENTRIES, STREAMS}
 use Rattle.xhci_trb.specs.Text.{bit as profile_bit, text}
-use Rattle.guest_rings.specs.Words.{bit}
+use Rattle.guest_memory.specs.rings.Words.{bit}
 use Rattle.cycle_ring.specs.Ring.{opening as opening_ring}
 use Rattle.stream_array.specs.declared.Dequeue.{Dequeue}
 use Rattle.stream_array.specs.Contexts.{context_text, opening_entry}
 use Rattle.guest_memory.specs.Bytes.{Memory, bytes_from, is_in}
 use Rattle.guest_memory.specs.Ranges.{from_each, out_behind, out_before, is_in_ahead, same_from, written_beside}
-use Rattle.guest_rings.specs.Ends.{pointer_bytes, stream_bytes}
+use Rattle.guest_memory.specs.rings.Ends.{pointer_bytes, stream_bytes}
 use Rattle.byteorder.specs.Endian.{little_bytes}
 use Rattle.uas_profile.specs.declared.TheConstants.{COMMAND_RING_PLACES, STREAM_RING_PLACES}
 use Rattle.ring_ends.specs.declared.End.{End}
@@ -22,9 +22,9 @@ use Rattle.cycle_ring.proofs.Held.{IsSegment-opening}
 use Rattle.stream_array.specs.Map.{HasRing, places_of, ring_base}
 use Rattle.stream_array.specs.Contexts.{has_stream}
 use Rattle.stream_array.specs.Rings.{IsLines, ring_of}
-use Rattle.guest_rings.specs.declared.cursor.Cursor.{Cursor}
-use Rattle.guest_rings.specs.declared.context.Home.TheVariants.{Endpoint}
-use Rattle.guest_rings.specs.Ends.{home_bytes}
+use Rattle.guest_memory.specs.declared.rings.cursor.Cursor.{Cursor}
+use Rattle.guest_memory.specs.declared.rings.context.Home.TheVariants.{Endpoint}
+use Rattle.guest_memory.specs.rings.Ends.{home_bytes}
 use Rattle.uas_profile.specs.declared.TheConstants.{BUFFER_SPAN, COMMAND_BYTES, STATUS_BUFFERS, STATUS_BYTES}
 use Rattle.event_ring.specs.Events.{opening as opening_events}
 use Rattle.event_ring.proofs.Segment.{IsSegment-opening as IsSegment-opening_events}

@@ -17,9 +17,9 @@ use Rattle.ring_ends.specs.EndLaws.{IsEnd-next}
 use Rattle.cycle_ring.specs.Ring.{pointer_of, place_of, cycle_of, link_with}
 use Rattle.cycle_ring.specs.Items.{Item, ItemRing, IsItemRing, item_chain, item_form, item_text}
 use Rattle.guest_memory.specs.Bytes.{Memory, bytes_from}
-use Rattle.guest_rings.specs.declared.cursor.Cursor.{Cursor}
-use Rattle.guest_rings.specs.Words.{cycle_in, same_bit, words_in}
-use Rattle.guest_rings.specs.Ends.{fetched, owned}
+use Rattle.guest_memory.specs.declared.rings.cursor.Cursor.{Cursor}
+use Rattle.guest_memory.specs.rings.Words.{cycle_in, same_bit, words_in}
+use Rattle.guest_memory.specs.rings.Ends.{fetched, owned}
 use Rattle.guest_profile.specs.Rings.{HoldsRing, cursor_at, cursor_at_link}
 use Rattle.guest_profile.specs.Rings.{FrontIsFetched, ItemIsPassed, LinkIsFollowed}
 use Rattle.guest_profile.proofs.Words.{trbs_are_read, words_in-same}

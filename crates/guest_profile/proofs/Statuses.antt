@@ -35,21 +35,21 @@ use Rattle.xhci_ctl.specs.Pipes.{ControllerState, is_armed}
 use Rattle.xhci_ctl.specs.Steps.{Sides, completed, sent_by}
 use Rattle.guest_memory.specs.Bytes.{Memory, is_there, written}
 use Rattle.guest_memory.specs.Ranges.{there_by_each, there_each}
-use Rattle.guest_rings.specs.declared.context.Home.TheVariants.{Stream}
+use Rattle.guest_memory.specs.declared.rings.context.Home.TheVariants.{Stream}
 use Rattle.guest_pipes.specs.declared.acted.Acted.{Acted}
 use Rattle.guest_pipes.specs.declared.acted.Acted.TheVariants.{Worked}
 use Rattle.guest_pipes.specs.declared.consumer.Consumer.{Consumer}
 use Rattle.guest_pipes.specs.Progress.{fresh}
 use Rattle.guest_pipes.specs.Gate.{after}
 use Rattle.guest_tags.specs.Tags.{TagWorld}
-use Rattle.guest_rings.specs.Ends.{behind}
-use Rattle.guest_rings.specs.Events.{enqueued}
+use Rattle.guest_memory.specs.rings.Ends.{behind}
+use Rattle.guest_memory.specs.rings.Events.{enqueued}
 use Rattle.guest_pipes.specs.Pipe.{PipeState, home_of, loaded, stored}
 use Rattle.guest_pipes.specs.Step.{World as GuestWorld}
 use Rattle.guest_tags.specs.declared.tag.Tag.{Tag}
 use Rattle.guest_tags.specs.Units.{whole}
 use Rattle.guest_tags.specs.Status.{stepped_status}
-use Rattle.guest_target.specs.Targets.{phase_of, target_kind, text_of}
+use Rattle.guest_profile.specs.target.Targets.{phase_of, target_kind, text_of}
 use Rattle.guest_transfers.specs.State.{TransfersState, TransfersWorld, empty_slot, slot_of, with_slot}
 use Rattle.guest_transfers.specs.Steps.{due_by, status_kept, status_stepped, status_world}
 use Rattle.guest_profile.specs.Rings.{cursor_at, flags_of}

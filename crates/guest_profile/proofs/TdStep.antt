@@ -2,13 +2,13 @@
 use Rattle.std.proofs.Common.{◌≡◌, ℕ, Bool, true, false, ◌||◌, List, Some, None, refl, ap, ◌∙◌}
 use Rattle.std.specs.Prelude.{is_some}
 use Rattle.guest_memory.specs.Bytes.{Memory, bytes_from, is_there, written}
-use Rattle.guest_rings.specs.declared.cursor.Cursor.{Cursor}
-use Rattle.guest_rings.specs.declared.context.Home.{Home}
-use Rattle.guest_rings.specs.declared.context.Front.{Front}
-use Rattle.guest_rings.specs.declared.trb.Flags.{Flags}
-use Rattle.guest_rings.specs.declared.event.Event.TheVariants.{Transfer as TransferTold}
-use Rattle.guest_rings.specs.Ends.{behind, followed, home_at, home_bytes}
-use Rattle.guest_rings.specs.Events.{EventEnd, enqueue_pointer, enqueued, event_bytes, has_room}
+use Rattle.guest_memory.specs.declared.rings.cursor.Cursor.{Cursor}
+use Rattle.guest_memory.specs.declared.rings.context.Home.{Home}
+use Rattle.guest_memory.specs.declared.rings.context.Front.{Front}
+use Rattle.guest_memory.specs.declared.rings.trb.Flags.{Flags}
+use Rattle.guest_memory.specs.declared.rings.event.Event.TheVariants.{Transfer as TransferTold}
+use Rattle.guest_memory.specs.rings.Ends.{behind, followed, home_at, home_bytes}
+use Rattle.guest_memory.specs.rings.Events.{EventEnd, enqueue_pointer, enqueued, event_bytes, has_room}
 use Rattle.guest_pipes.specs.declared.consumer.EndpointState.TheVariants.{Running}
 use Rattle.guest_pipes.specs.declared.progress.Progress.{Progress}
 use Rattle.guest_pipes.specs.Gate.{gate, room_gate}

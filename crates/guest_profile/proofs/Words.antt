@@ -8,10 +8,10 @@ use Rattle.xhci_trb.specs.Words.{words_in as profile_words_in}
 use Rattle.xhci_trb.specs.Text.{HasText, text, words_of}
 use Rattle.xhci_trb.proofs.Bytes.{words_in-bytes_of}
 use Rattle.xhci_trb.proofs.Fields.{bit-lt, bit-test, words_of-fits}
-use Rattle.guest_rings.specs.declared.words.Words.{Words}
-use Rattle.guest_rings.specs.declared.trb.PipeTrb.TheVariants.{Normal, Link, Foreign}
-use Rattle.guest_rings.specs.Words.{bit_in, type_in, words_in}
-use Rattle.guest_rings.specs.Trbs.{flags_in, normal_in, trb_in}
+use Rattle.guest_memory.specs.declared.rings.words.Words.{Words}
+use Rattle.guest_memory.specs.declared.rings.trb.PipeTrb.TheVariants.{Normal, Link, Foreign}
+use Rattle.guest_memory.specs.rings.Words.{bit_in, type_in, words_in}
+use Rattle.guest_memory.specs.rings.Trbs.{flags_in, normal_in, trb_in}
 use Rattle.guest_profile.specs.Rings.{TrbsAreRead, pipe_trb}
 
 -- the same three words

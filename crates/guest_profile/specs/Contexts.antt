@@ -1,10 +1,10 @@
 -- Where a consumer's end is kept in memory, and what a look there finds (xHCI 1.2, 6.2.3 and 6.2.4.1).
 use Rattle.std.specs.Prelude.{◌≡◌, ◌%◌, ◌^◌, ◌<◌, Option, Some}
 use Rattle.guest_memory.specs.Bytes.{Memory, bytes_from}
-use Rattle.guest_rings.specs.declared.cursor.Cursor.{Cursor}
-use Rattle.guest_rings.specs.declared.words.Words.{Words}
-use Rattle.guest_rings.specs.declared.context.Home.{Home}
-use Rattle.guest_rings.specs.Ends.{fetched, found_of, home_at, home_bytes, home_size, looked}
+use Rattle.guest_memory.specs.declared.rings.cursor.Cursor.{Cursor}
+use Rattle.guest_memory.specs.declared.rings.words.Words.{Words}
+use Rattle.guest_memory.specs.declared.rings.context.Home.{Home}
+use Rattle.guest_memory.specs.rings.Ends.{fetched, found_of, home_at, home_bytes, home_size, looked}
 
 -- the context has this dequeue pointer and cycle state, and of a stream the type of a ring, 1
 abbrev pub HasEnd : Memory → Home → Cursor → Type 0

@@ -15,7 +15,7 @@ use Rattle.guest_pipes.specs.declared.acted.Acted.TheVariants.{Worked}
 use Rattle.guest_pipes.specs.declared.consumer.EndpointState.TheVariants.{Running}
 use Rattle.guest_pipes.specs.declared.progress.Ending.TheVariants.{Runs}
 use Rattle.guest_pipes.specs.Pipe.{PipeState, progress_on, rung_on}
-use Rattle.guest_target.specs.Targets.{target_kind}
+use Rattle.guest_profile.specs.target.Targets.{target_kind}
 use Rattle.guest_transfers.specs.State.{TransfersState, TransfersWorld, slot_of}
 use Rattle.guest_transfers.specs.Orders.{data_stepped}
 use Rattle.guest_profile.specs.Rings.{flags_of}

@@ -7,8 +7,8 @@ use Rattle.event_ring.specs.declared.Event.TheVariants.{Transfer}
 use Rattle.event_ring.specs.Events.{Events, IsRing, IsWritable, cycle_of, place_of, trb_of}
 use Rattle.event_ring.specs.Segment.{HoldsEvents}
 use Rattle.guest_memory.specs.Bytes.{Memory, written}
-use Rattle.guest_rings.specs.declared.event.Event.TheVariants.{Transfer as TransferTold}
-use Rattle.guest_rings.specs.Events.{EventEnd, enqueue_pointer, enqueued, event_bytes, has_room}
+use Rattle.guest_memory.specs.declared.rings.event.Event.TheVariants.{Transfer as TransferTold}
+use Rattle.guest_memory.specs.rings.Events.{EventEnd, enqueue_pointer, enqueued, event_bytes, has_room}
 use Rattle.guest_profile.specs.Rings.{HasPlaces}
 
 -- memory holds an event ring of n places: at each the 16 bytes that its segment has

@@ -14,7 +14,7 @@ use Rattle.frame_store.specs.Buffers.{Names}
 use Rattle.frame_store.specs.Buffers.{written as frames_written}
 use Rattle.frame_store.specs.declared.TagBuffers.{TagBuffers}
 use Rattle.guest_memory.specs.Bytes.{Memory, written}
-use Rattle.guest_rings.specs.Events.{EventEnd}
+use Rattle.guest_memory.specs.rings.Events.{EventEnd}
 use Rattle.guest_profile.specs.Layout.{IsLaid, IsLayout, Layout}
 
 -- the ring with one more TRB

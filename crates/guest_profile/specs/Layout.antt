@@ -12,9 +12,9 @@ use Rattle.frame_store.specs.declared.TagBuffers.{TagBuffers}
 use Rattle.frame_store.specs.Buffers.{IsWhole, bytes_of, front_of}
 use Rattle.frame_store.specs.Places.{address_of}
 use Rattle.guest_memory.specs.Bytes.{Memory, bytes_from}
-use Rattle.guest_rings.specs.declared.context.Home.{Home}
-use Rattle.guest_rings.specs.declared.context.Home.TheVariants.{Stream, Endpoint}
-use Rattle.guest_rings.specs.Events.{EventEnd}
+use Rattle.guest_memory.specs.declared.rings.context.Home.{Home}
+use Rattle.guest_memory.specs.declared.rings.context.Home.TheVariants.{Stream, Endpoint}
+use Rattle.guest_memory.specs.rings.Events.{EventEnd}
 use Rattle.guest_profile.specs.Rings.{HoldsRing, IsBeforeLink, cursor_at, cursor_at_link}
 use Rattle.guest_profile.specs.Contexts.{HasEnd}
 use Rattle.guest_profile.specs.Events.{HoldsEventRing, IsProducer}

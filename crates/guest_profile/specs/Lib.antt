@@ -1,3 +1,4 @@
+pub mod target
 pub mod Rings
 pub mod Contexts
 pub mod Events

@@ -3,7 +3,7 @@ use Rattle.std.specs.Prelude.{◌≡◌, ℕ, ◌+◌, ◌-◌, ◌*◌, ◌/◌
 use Rattle.std.specs.List.{range_with_len}
 use Rattle.uas_profile.specs.declared.Pipe.{Pipe}
 use Rattle.uas_profile.specs.declared.Pipe.TheVariants.{Command, Status, DataIn, DataOut}
-use Rattle.uas_profile.specs.declared.TheConstants.{COMMAND_BUFFERS, BUFFER_SPAN, COMMAND_BYTES, COMMAND_ENDPOINT, ENGINE_RING, EVENT_RING, EVENT_RING_PLACES, STATUS_BUFFERS, STATUS_BYTES, STATUS_ENDPOINT, STREAM_ENTRIES, STREAMS}
+use Rattle.uas_profile.specs.declared.TheConstants.{COMMAND_BUFFERS, BUFFER_SPAN, COMMAND_BYTES, COMMAND_ENDPOINT, ENGINE_RING, EVENT_RING, EVENT_RING_PLACES, GREATEST_TAG, STATUS_BUFFERS, STATUS_BYTES, STATUS_ENDPOINT, STREAM_ENTRIES, STREAMS}
 use Rattle.xhci_trb.specs.declared.Trb.{Trb}
 use Rattle.xhci_trb.specs.declared.Trb.TheVariants.{Normal}
 use Rattle.xhci_trb.specs.Text.{text}
@@ -24,9 +24,9 @@ use Rattle.uas_iu.specs.declared.Iu.TheVariants.{Sense}
 use Rattle.guest_pipes.specs.Pipe.{configured, disabled}
 use Rattle.xhci_ctl.specs.Steps.{Sides}
 use Rattle.guest_memory.specs.Bytes.{Memory, is_in, written}
-use Rattle.guest_rings.specs.declared.cursor.Cursor.{Cursor}
-use Rattle.guest_rings.specs.Ends.{pointer_bytes, stream_bytes}
-use Rattle.guest_rings.specs.Events.{EventEnd}
+use Rattle.guest_memory.specs.declared.rings.cursor.Cursor.{Cursor}
+use Rattle.guest_memory.specs.rings.Ends.{pointer_bytes, stream_bytes}
+use Rattle.guest_memory.specs.rings.Events.{EventEnd}
 use Rattle.uas_target.specs.Device.{Device}
 use Rattle.guest_transfers.specs.State.{TransfersWorld, opening as opening_transfers}
 use Rattle.guest_profile.specs.Layout.{IsLaid, IsLayout, Layout}
@@ -91,7 +91,7 @@ abbrev pub first_sides : Sides
 first_sides = record {
   lines = with_ring opening_lines Command 0 (with_trb opening_lines.command first_trb);
   frames = opening_frames;
-  device = opening_device [];
+  device = opening_device GREATEST_TAG [];
 }
 
 abbrev pub first_world : TransfersWorld Device
@@ -99,7 +99,7 @@ first_world = record {
   memory = written opening_memory (ring_base Command 0) (text first_trb true);
   events = opening_end;
   transfers = record opening_transfers { command = rung_consumer COMMAND_ENDPOINT; home = 0x1000 };
-  device = opening_device [];
+  device = opening_device GREATEST_TAG [];
 }
 
 -- both sides stand at it
@@ -114,7 +114,7 @@ first_status_trb = Normal (STATUS_BUFFERS + BUFFER_SPAN * 1) STATUS_BYTES 0 (rec
 
 -- tag 1's task has ended GOOD; its answer is 03 00 00 01 and 12 zeros
 abbrev pub ended_device : Device
-ended_device = with_task (opening_device []) 1 (Some (Ended None (StatusAnswer Good)))
+ended_device = with_task (opening_device GREATEST_TAG []) 1 (Some (Ended None (StatusAnswer Good)))
 
 abbrev pub first_answer : Iu
 first_answer = Sense 1 0 (record { items = [] })

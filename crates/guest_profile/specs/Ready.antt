@@ -9,10 +9,10 @@ use Rattle.event_ring.specs.declared.Event.{Event}
 use Rattle.event_ring.specs.Events.{trb_of}
 use Rattle.stream_array.specs.Rings.{LinesState}
 use Rattle.guest_memory.specs.Bytes.{Memory, written}
-use Rattle.guest_rings.specs.declared.cursor.Cursor.{Cursor}
-use Rattle.guest_rings.specs.declared.context.Home.{Home}
-use Rattle.guest_rings.specs.Ends.{home_at, home_bytes}
-use Rattle.guest_rings.specs.Events.{EventEnd, enqueue_pointer}
+use Rattle.guest_memory.specs.declared.rings.cursor.Cursor.{Cursor}
+use Rattle.guest_memory.specs.declared.rings.context.Home.{Home}
+use Rattle.guest_memory.specs.rings.Ends.{home_at, home_bytes}
+use Rattle.guest_memory.specs.rings.Events.{EventEnd, enqueue_pointer}
 use Rattle.guest_pipes.specs.declared.consumer.Consumer.{Consumer}
 use Rattle.guest_pipes.specs.declared.consumer.EndpointState.TheVariants.{Running}
 use Rattle.guest_pipes.specs.Progress.{fresh}

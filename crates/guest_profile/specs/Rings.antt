@@ -8,14 +8,14 @@ use Rattle.cycle_ring.specs.Ring.{pointer_of, place_of, cycle_of, link_with}
 use Rattle.cycle_ring.specs.Items.{ItemRing, IsItemRing, item_text}
 use Rattle.cycle_ring.specs.Segment.{HoldsItems}
 use Rattle.guest_memory.specs.Bytes.{Memory, bytes_from}
-use Rattle.guest_rings.specs.declared.cursor.Cursor.{Cursor}
-use Rattle.guest_rings.specs.declared.words.Words.{Words}
-use Rattle.guest_rings.specs.declared.trb.Flags.{Flags}
-use Rattle.guest_rings.specs.declared.trb.PipeTrb.{PipeTrb}
-use Rattle.guest_rings.specs.declared.trb.PipeTrb.TheVariants.{Normal, Link, Foreign}
-use Rattle.guest_rings.specs.Words.{words_in}
-use Rattle.guest_rings.specs.Trbs.{trb_in}
-use Rattle.guest_rings.specs.Ends.{behind, fetched, followed}
+use Rattle.guest_memory.specs.declared.rings.cursor.Cursor.{Cursor}
+use Rattle.guest_memory.specs.declared.rings.words.Words.{Words}
+use Rattle.guest_memory.specs.declared.rings.trb.Flags.{Flags}
+use Rattle.guest_memory.specs.declared.rings.trb.PipeTrb.{PipeTrb}
+use Rattle.guest_memory.specs.declared.rings.trb.PipeTrb.TheVariants.{Normal, Link, Foreign}
+use Rattle.guest_memory.specs.rings.Words.{words_in}
+use Rattle.guest_memory.specs.rings.Trbs.{trb_in}
+use Rattle.guest_memory.specs.rings.Ends.{behind, fetched, followed}
 
 -- THE RING IN MEMORY
 

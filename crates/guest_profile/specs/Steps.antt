@@ -17,11 +17,11 @@ use Rattle.xhci_ctl.specs.Pipes.{ControllerState, is_armed}
 use Rattle.xhci_ctl.specs.Own.{IsOwnCommand, IsOwnStatus}
 use Rattle.xhci_ctl.specs.Steps.{Sides, commanded, sent_by}
 use Rattle.guest_memory.specs.Bytes.{written}
-use Rattle.guest_rings.specs.Ends.{behind}
+use Rattle.guest_memory.specs.rings.Ends.{behind}
 use Rattle.guest_pipes.specs.declared.acted.Acted.TheVariants.{Emptied, Worked}
 use Rattle.guest_pipes.specs.Pipe.{loaded}
 use Rattle.guest_tags.specs.Units.{whole}
-use Rattle.guest_target.specs.Targets.{received_as, target_kind}
+use Rattle.guest_profile.specs.target.Targets.{received_as, target_kind}
 use Rattle.guest_transfers.specs.State.{TransfersState, TransfersWorld, slot_of}
 use Rattle.guest_transfers.specs.Steps.{command_stepped, due_by, received_on, status_stepped}
 use Rattle.guest_profile.specs.Rings.{cursor_at}

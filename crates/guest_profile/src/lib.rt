@@ -5,7 +5,7 @@
 //! (`guest_transfers`) has one memory, byte by byte, and keeps each consumer's end in a context there. A memory is laid out
 //! (`IsLaid`, specs/Layout.antt) where it holds the bytes of those rings, events and buffers at the map's addresses, and in contexts
 //! beside the map the dequeue pointer of each ring, at its first pending item or at the Link before it. Both mirror each other
-//! (`Mirrors`, specs/Steps.antt) where it is laid out with the profile's lists and both have the same device.
+//! (`Mirrors`, specs/Steps.antt) where it is laid out with the profile's lists and both have the same device, here by [`target`].
 //!
 //! ```text
 //!            profile:  lists ── step ──> lists        the command pipe, a status stream, data-in, data-out
@@ -31,6 +31,7 @@ mod event_laws;
 mod opening_laws;
 mod ring_laws;
 mod step_laws;
+pub mod target;
 
 pub use data_laws::{chunks_in_agree, chunks_out_agree};
 pub use event_laws::producers_agree;

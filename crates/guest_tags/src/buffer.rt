@@ -1,5 +1,5 @@
 //! What a Normal TRB names.
-use guest_rings::Flags;
+use guest_memory::rings::Flags;
 
 /// A Normal TRB's buffer: its address, its length in bytes, and the TRB's flags.
 #[derive(Clone, Copy, Debug, PartialEq, Eq)]

@@ -12,9 +12,9 @@ ghost use Rattle.guest_pipes.specs.Pipe.{home_of};
 use crate::buffer::Buffer;
 use crate::device::{End, Phase, UasDevice};
 use crate::tag::Tag;
+use guest_memory::rings::{EventRing, Found, Front, PipeTrb};
 use guest_memory::{GuestMemory, Outside};
 use guest_pipes::{Acted, Consumer, Ending, Pipe, there};
-use guest_rings::{EventRing, Found, Front, PipeTrb};
 
 impl End {
     /// Whether a status ended the task.

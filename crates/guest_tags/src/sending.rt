@@ -10,8 +10,8 @@ use crate::buffer::Buffer;
 use crate::device::UasDevice;
 use crate::tag::Tag;
 use guest_memory::GuestMemory;
+use guest_memory::rings::{EventRing, Flags, Front};
 use guest_pipes::{Acted, Consumer, there};
-use guest_rings::{EventRing, Flags, Front};
 
 impl Tag {
     /// Whether the TD in front has bytes of it.

@@ -11,9 +11,9 @@ ghost use Rattle.guest_tags.specs.Status.{stepped_status, unit_over};
 use crate::buffer::Buffer;
 use crate::device::UasDevice;
 use crate::tag::Tag;
+use guest_memory::rings::{EventRing, Flags, Found, Front, PipeTrb};
 use guest_memory::{GuestMemory, Outside};
 use guest_pipes::{Acted, Consumer, Ending, Pipe};
-use guest_rings::{EventRing, Flags, Found, Front, PipeTrb};
 
 impl Tag {
     /// Whether an information unit is on its way.

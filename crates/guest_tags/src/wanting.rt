@@ -9,9 +9,9 @@ use crate::buffer::Buffer;
 use crate::device::{Phase, UasDevice};
 use crate::tag::Tag;
 use crate::unit::Unit;
+use guest_memory::rings::{EventRing, Found, Front, PipeTrb, Range, part_wants};
 use guest_memory::{GuestMemory, Outside};
 use guest_pipes::{Consumer, Pipe, place_range};
-use guest_rings::{EventRing, Found, Front, PipeTrb, Range, part_wants};
 
 /// What a Normal TRB names.
 fn buffer_of(found: Found) -> Option<Buffer>

@@ -9,7 +9,7 @@ use Rattle.uas_iu.specs.Faults.{first_fault, identifier}
 use Rattle.uas_target.specs.declared.Overlap.{Overlap}
 use Rattle.uas_target.specs.declared.Took.{Took}
 use Rattle.uas_target.specs.declared.Took.TheVariants.{Began}
-use Rattle.uas_target.specs.Fields.{addressed, cdb_in, function_in, is_tag, lun_in, tag_in, task_tag_in}
+use Rattle.uas_target.specs.Fields.{addressed, cdb_in, function_in, lun_in, tag_in, task_tag_in}
 use Rattle.uas_tasks.specs.declared.AnswerFault.{AnswerFault}
 use Rattle.uas_tasks.specs.declared.AnswerFault.TheVariants.{WrongLength}
 use Rattle.uas_tasks.specs.declared.LogicalUnit.{LogicalUnit}
@@ -23,7 +23,7 @@ use Rattle.uas_tasks.specs.declared.JobKind.{JobKind}
 use Rattle.uas_tasks.specs.declared.JobKind.TheVariants.{Reads, Writes, Compares, Verifies, Synchronizes}
 use Rattle.uas_tasks.specs.declared.Stage.{Stage}
 use Rattle.uas_tasks.specs.declared.Stage.TheVariants.{Asking, Waiting, Moving}
-use Rattle.uas_tasks.specs.Slots.{SlotState, answered_slot, is_wrong_length, moved_way, slot_wants, spared_slot, stage_wants, task_wants}
+use Rattle.uas_tasks.specs.Slots.{SlotState, answered_slot, is_wrong_length, moved_way, slot_wants, spared_slot, stage_wants, task_wants, is_tag}
 use Rattle.uas_tasks.specs.Machine.{Machine, aborted_on, answered_out, dropped, executed, executed_on, has_task, managed, on_its_tag, queried_on, received, reset_on, slot_of, wanted, responded, with_answer, with_slot, with_task_on}
 use Rattle.uas_tasks.proofs.Keeping.{wanted-free}
 use Rattle.guest_tasks.specs.declared.GuestTasks.{GuestTasks}

@@ -5,14 +5,14 @@ use Rattle.std.proofs.lemmas.Bool.{false≢true}
 use Rattle.std.proofs.lemmas.Option.{none-some}
 use Rattle.byteorder.specs.Endian.{little_number}
 use Rattle.guest_memory.specs.Bytes.{Memory, bytes_from, is_there, ◌>>=◌}
-use Rattle.guest_rings.specs.declared.context.Home.{Home}
-use Rattle.guest_rings.specs.declared.context.Front.{Front}
-use Rattle.guest_rings.specs.declared.context.Found.{Found}
-use Rattle.guest_rings.specs.declared.context.Found.TheVariants.{WrongKind}
-use Rattle.guest_rings.specs.declared.wanting.Range.{Range}
-use Rattle.guest_rings.specs.Ends.{cursor_in, fetched, found_at, found_of, front_of, home_at, home_size, is_ring, looked, owned}
-use Rattle.guest_rings.specs.Events.{EventEnd, enqueue_pointer, has_room}
-use Rattle.guest_rings.specs.WantedLaws.{map_some}
+use Rattle.guest_memory.specs.declared.rings.context.Home.{Home}
+use Rattle.guest_memory.specs.declared.rings.context.Front.{Front}
+use Rattle.guest_memory.specs.declared.rings.context.Found.{Found}
+use Rattle.guest_memory.specs.declared.rings.context.Found.TheVariants.{WrongKind}
+use Rattle.guest_memory.specs.declared.rings.wanting.Range.{Range}
+use Rattle.guest_memory.specs.rings.Ends.{cursor_in, fetched, found_at, found_of, front_of, home_at, home_size, is_ring, looked, owned}
+use Rattle.guest_memory.specs.rings.Events.{EventEnd, enqueue_pointer, has_room}
+use Rattle.guest_memory.specs.rings.WantedLaws.{map_some}
 use Rattle.guest_pipes.specs.declared.acted.Acted.{Acted}
 use Rattle.guest_pipes.specs.declared.acted.Acted.TheVariants.{Full, Idle, Off}
 use Rattle.guest_pipes.specs.declared.consumer.Consumer.{Consumer}

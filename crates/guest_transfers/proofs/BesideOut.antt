@@ -2,12 +2,12 @@
 use Rattle.std.proofs.Common.{◌≡◌, ℕ, ◌+◌, ◌-◌, ◌==◌, Bool, true, false, List, length as list_length, Option, Some, None, refl, sym, ap, ◌∙◌}
 use Rattle.std.specs.Prelude.{min, nat_le, if◌then◌else◌}
 use Rattle.guest_memory.specs.Bytes.{Memory, bytes_from}
-use Rattle.guest_rings.specs.declared.context.Front.{Front}
-use Rattle.guest_rings.specs.declared.context.Found.{Found}
-use Rattle.guest_rings.specs.declared.context.Found.TheVariants.{WrongKind, NotYet, Item}
-use Rattle.guest_rings.specs.declared.trb.PipeTrb.TheVariants.{Normal, Link, NoOp, EventData, Foreign}
-use Rattle.guest_rings.specs.Wanted.{part_wanted}
-use Rattle.guest_rings.specs.WantedLaws.{part_there}
+use Rattle.guest_memory.specs.declared.rings.context.Front.{Front}
+use Rattle.guest_memory.specs.declared.rings.context.Found.{Found}
+use Rattle.guest_memory.specs.declared.rings.context.Found.TheVariants.{WrongKind, NotYet, Item}
+use Rattle.guest_memory.specs.declared.rings.trb.PipeTrb.TheVariants.{Normal, Link, NoOp, EventData, Foreign}
+use Rattle.guest_memory.specs.rings.Wanted.{part_wanted}
+use Rattle.guest_memory.specs.rings.WantedLaws.{part_there}
 use Rattle.guest_pipes.specs.declared.acted.Acted.{Acted}
 use Rattle.guest_pipes.specs.declared.acted.Acted.TheVariants.{Worked}
 use Rattle.guest_pipes.specs.declared.progress.Ending.{Ending}

@@ -7,16 +7,16 @@ use Rattle.std.specs.Prelude.{is_some, not, length}
 use Rattle.std.specs.Option.{option_or}
 use Rattle.guest_memory.specs.Bytes.{Memory, bytes_from, is_there, written}
 use Rattle.guest_memory.specs.Ranges.{range_cases, same_from, there_each, written_ahead, written_beside}
-use Rattle.guest_rings.specs.declared.cursor.Cursor.{Cursor}
-use Rattle.guest_rings.specs.declared.context.Home.{Home}
-use Rattle.guest_rings.specs.declared.context.Front.{Front}
-use Rattle.guest_rings.specs.declared.trb.Flags.{Flags}
-use Rattle.guest_rings.specs.declared.trb.PipeTrb.{PipeTrb}
-use Rattle.guest_rings.specs.declared.trb.PipeTrb.TheVariants.{Normal, Link, NoOp, EventData, Foreign}
-use Rattle.guest_rings.specs.declared.event.Event.{Event}
-use Rattle.guest_rings.specs.declared.event.Event.TheVariants.{Transfer}
-use Rattle.guest_rings.specs.Ends.{behind, followed, home_at, home_bytes}
-use Rattle.guest_rings.specs.Events.{enqueue_pointer, enqueued, event_bytes}
+use Rattle.guest_memory.specs.declared.rings.cursor.Cursor.{Cursor}
+use Rattle.guest_memory.specs.declared.rings.context.Home.{Home}
+use Rattle.guest_memory.specs.declared.rings.context.Front.{Front}
+use Rattle.guest_memory.specs.declared.rings.trb.Flags.{Flags}
+use Rattle.guest_memory.specs.declared.rings.trb.PipeTrb.{PipeTrb}
+use Rattle.guest_memory.specs.declared.rings.trb.PipeTrb.TheVariants.{Normal, Link, NoOp, EventData, Foreign}
+use Rattle.guest_memory.specs.declared.rings.event.Event.{Event}
+use Rattle.guest_memory.specs.declared.rings.event.Event.TheVariants.{Transfer}
+use Rattle.guest_memory.specs.rings.Ends.{behind, followed, home_at, home_bytes}
+use Rattle.guest_memory.specs.rings.Events.{enqueue_pointer, enqueued, event_bytes}
 use Rattle.guest_pipes.specs.declared.progress.Ending.{Ending}
 use Rattle.guest_pipes.specs.declared.progress.Ending.TheVariants.{Runs, Told, Owed}
 use Rattle.guest_pipes.specs.declared.consumer.EndpointState.TheVariants.{Halted, Error}

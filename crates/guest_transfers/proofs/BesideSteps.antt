@@ -3,7 +3,7 @@
 use Rattle.std.proofs.Common.{◌≡◌, ℕ, ◌-◌, length as list_length, Option, Some, None, refl, ap, ◌∙◌}
 use Rattle.std.specs.Prelude.{option_map}
 use Rattle.guest_memory.specs.Bytes.{Memory}
-use Rattle.guest_rings.specs.declared.context.Home.TheVariants.{Endpoint}
+use Rattle.guest_memory.specs.declared.rings.context.Home.TheVariants.{Endpoint}
 use Rattle.guest_pipes.specs.declared.acted.Acted.{Acted}
 use Rattle.guest_pipes.specs.Gate.{after}
 use Rattle.guest_pipes.specs.Pipe.{home_of}

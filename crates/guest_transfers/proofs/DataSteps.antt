@@ -4,9 +4,9 @@ use Rattle.std.specs.Prelude.{is_some, not, if◌then◌else◌}
 use Rattle.std.proofs.lemmas.Bool.{false≢true}
 use Rattle.std.proofs.lemmas.Option.{none-some}
 use Rattle.guest_memory.specs.Bytes.{Memory, IsWithinAddresses}
-use Rattle.guest_rings.specs.declared.wanting.Range.{Range}
-use Rattle.guest_rings.specs.Events.{EventEnd, enqueue_pointer, has_room}
-use Rattle.guest_rings.specs.Wanted.{LacksIt}
+use Rattle.guest_memory.specs.declared.rings.wanting.Range.{Range}
+use Rattle.guest_memory.specs.rings.Events.{EventEnd, enqueue_pointer, has_room}
+use Rattle.guest_memory.specs.rings.Wanted.{LacksIt}
 use Rattle.guest_pipes.specs.declared.acted.Acted.{Acted}
 use Rattle.guest_pipes.specs.declared.acted.Acted.TheVariants.{Off, Idle, Full, Emptied, Waits, Worked}
 use Rattle.guest_pipes.specs.Gate.{after, room_gate, through}

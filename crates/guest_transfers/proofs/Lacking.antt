@@ -4,12 +4,12 @@ use Rattle.std.proofs.lemmas.Bool.{false≢true}
 use Rattle.std.proofs.lemmas.Option.{none-some}
 use Rattle.std.specs.Prelude.{is_some, if◌then◌else◌, min, option_map}
 use Rattle.guest_memory.specs.Bytes.{Memory, IsWithinAddresses}
-use Rattle.guest_rings.specs.declared.context.Front.{Front}
-use Rattle.guest_rings.specs.declared.context.Home.{Home}
-use Rattle.guest_rings.specs.declared.context.Home.TheVariants.{Endpoint}
-use Rattle.guest_rings.specs.Ends.{looked}
-use Rattle.guest_rings.specs.Wanted.{LacksIt, look_wanted, part_wanted}
-use Rattle.guest_rings.specs.WantedLaws.{look_lacks, look_there, part_lacks}
+use Rattle.guest_memory.specs.declared.rings.context.Front.{Front}
+use Rattle.guest_memory.specs.declared.rings.context.Home.{Home}
+use Rattle.guest_memory.specs.declared.rings.context.Home.TheVariants.{Endpoint}
+use Rattle.guest_memory.specs.rings.Ends.{looked}
+use Rattle.guest_memory.specs.rings.Wanted.{LacksIt, look_wanted, part_wanted}
+use Rattle.guest_memory.specs.rings.WantedLaws.{look_lacks, look_there, part_lacks}
 use Rattle.guest_pipes.specs.declared.acted.Acted.{Acted}
 use Rattle.guest_pipes.specs.declared.consumer.Consumer.{Consumer}
 use Rattle.guest_pipes.specs.Gate.{after, gate}

@@ -1,8 +1,8 @@
 -- What commands of the command ring make of the pipes, and what is left to do.
 use Rattle.std.specs.Prelude.{ℕ, ◌==◌, nat_lt, Bool, true, false, not, ◌||◌, if◌then◌else◌, [], Option, Some, None, option_map, map}
 use Rattle.guest_memory.specs.Bytes.{Memory}
-use Rattle.guest_rings.specs.declared.cursor.Cursor.{Cursor}
-use Rattle.guest_rings.specs.Events.{EventEnd}
+use Rattle.guest_memory.specs.declared.rings.cursor.Cursor.{Cursor}
+use Rattle.guest_memory.specs.rings.Events.{EventEnd}
 use Rattle.guest_pipes.specs.declared.acted.Acted.{Acted}
 use Rattle.guest_pipes.specs.declared.acted.Acted.TheVariants.{Off, Idle, Full, Emptied, Waits, Worked}
 use Rattle.guest_pipes.specs.declared.consumer.EndpointState.{EndpointState}

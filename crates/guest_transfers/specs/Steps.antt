@@ -1,6 +1,6 @@
 -- The steps: each loads the consumer of one ring and one tag, takes a step of that pipe, and stores them.
 use Rattle.std.specs.Prelude.{ℕ, nat_lt, Bool, true, false, not, ◌&&◌, ◌||◌, if◌then◌else◌, Option, Some, None}
-use Rattle.guest_rings.specs.declared.context.Home.TheVariants.{Endpoint}
+use Rattle.guest_memory.specs.declared.rings.context.Home.TheVariants.{Endpoint}
 use Rattle.guest_pipes.specs.declared.acted.Acted.{Acted}
 use Rattle.guest_pipes.specs.declared.consumer.EndpointState.{EndpointState}
 use Rattle.guest_pipes.specs.declared.consumer.EndpointState.TheVariants.{Disabled, Running, Halted, Stopped, Error}

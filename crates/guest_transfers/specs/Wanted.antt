@@ -1,14 +1,14 @@
 -- The first range of memory that a step lacks.
 use Rattle.std.specs.Prelude.{ℕ, ◌==◌, nat_lt, Bool, true, false, not, ◌&&◌, if◌then◌else◌, length as list_length, Option, Some, None}
 use Rattle.guest_memory.specs.Bytes.{Memory}
-use Rattle.guest_rings.specs.Events.{EventEnd}
-use Rattle.guest_rings.specs.declared.context.Front.{Front}
-use Rattle.guest_rings.specs.declared.context.Home.TheVariants.{Endpoint}
-use Rattle.guest_rings.specs.declared.wanting.Range.{Range}
+use Rattle.guest_memory.specs.rings.Events.{EventEnd}
+use Rattle.guest_memory.specs.declared.rings.context.Front.{Front}
+use Rattle.guest_memory.specs.declared.rings.context.Home.TheVariants.{Endpoint}
+use Rattle.guest_memory.specs.declared.rings.wanting.Range.{Range}
 use Rattle.guest_pipes.specs.declared.acted.Acted.{Acted}
 use Rattle.guest_pipes.specs.declared.acted.Acted.TheVariants.{Off, Idle, Full, Emptied, Waits, Worked}
 use Rattle.guest_pipes.specs.declared.consumer.Consumer.{Consumer}
-use Rattle.guest_rings.specs.Wanted.{look_wanted}
+use Rattle.guest_memory.specs.rings.Wanted.{look_wanted}
 use Rattle.guest_pipes.specs.Gate.{gate, is_running, room_gate}
 use Rattle.guest_pipes.specs.Pipe.{PipeState, loaded, ring_home}
 use Rattle.guest_pipes.specs.Wanted.{wanted_through}

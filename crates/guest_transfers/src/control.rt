@@ -11,13 +11,13 @@ ghost use Rattle.guest_transfers.specs.State.{TransfersWorld, slot_of};
 ghost use Rattle.guest_transfers.specs.Steps.{in_stepped, out_stepped};
 ghost use Rattle.guest_transfers.specs.Orders.{pipe_added, pipe_kept, pipe_reset, dequeue_kept, dequeue_moved, unit_forgotten, units_forgotten, command_configured, command_disabled, command_forgotten, command_stopped, chunk_dropped, data_stepped, dropped_in, drops_now, has_begun_data, has_task, has_work, left_dropped, or_out, pipe_of, with_pipe, tags_cleared, lone_forgotten, stray_on};
 ghost use Rattle.guest_memory.specs.Bytes.{Memory};
-ghost use Rattle.guest_rings.specs.Events.{EventEnd};
+ghost use Rattle.guest_memory.specs.rings.Events.{EventEnd};
 
 use crate::calls::{TAG_SLOTS, Transfers};
 use crate::slot::{empty_all, forget_statuses};
+use guest_memory::rings::{Cursor, EventRing};
 use guest_memory::{GuestMemory, Outside};
 use guest_pipes::{Acted, Consumer, EndpointState, Pipe, Progress, room_gate};
-use guest_rings::{Cursor, EventRing};
 use guest_tags::{Phase, UasDevice};
 
 /// A pipe with streams.

@@ -5,10 +5,10 @@
 //! into the copies, so that nothing else has to be written back.
 ghost use Rattle.std.specs.Prelude.{◌≡◌, ℕ, None, is_some, true};
 ghost use Rattle.guest_memory.specs.Bytes.{IsWithinAddresses, Memory};
-ghost use Rattle.guest_rings.specs.Wanted.{LacksIt};
+ghost use Rattle.guest_memory.specs.rings.Wanted.{LacksIt};
 ghost use Rattle.guest_transfers.specs.State.{TransfersWorld};
 ghost use Rattle.guest_transfers.specs.Steps.{command_stepped, status_stepped};
-ghost use Rattle.guest_rings.specs.Events.{EventEnd};
+ghost use Rattle.guest_memory.specs.rings.Events.{EventEnd};
 ghost use Rattle.guest_transfers.specs.State.{TransfersState};
 ghost use Rattle.guest_transfers.specs.declared.control.StreamPipe.{StreamPipe};
 ghost use Rattle.guest_transfers.specs.Orders.{data_stepped, pipe_of, stray_on};

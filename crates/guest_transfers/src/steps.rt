@@ -8,10 +8,10 @@ ghost use Rattle.guest_transfers.specs.Steps.{command_stepped, due_by, in_open, 
 
 use crate::calls::{TAG_SLOTS, Transfers};
 use crate::slot::Slot;
+use guest_memory::rings::{EventRing, Home};
 use guest_memory::{GuestMemory, Outside};
 use guest_out::{command_step, data_out_step};
 use guest_pipes::{Acted, EndpointState, Pipe};
-use guest_rings::{EventRing, Home};
 use guest_tags::{End, Phase, Received, UasDevice};
 
 impl Slot {

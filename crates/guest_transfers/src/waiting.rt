@@ -1,6 +1,6 @@
 //! Whether a step of data-in would do nothing, so that one of data-out would follow it.
 ghost use Rattle.std.specs.Prelude.{◌≡◌, ◌<◌, Some};
-ghost use Rattle.guest_rings.specs.Ends.{looked};
+ghost use Rattle.guest_memory.specs.rings.Ends.{looked};
 ghost use Rattle.guest_pipes.specs.Gate.{gate};
 ghost use Rattle.guest_pipes.specs.Pipe.{home_of, loaded};
 ghost use Rattle.guest_tags.specs.Wanted.{moving};
@@ -9,9 +9,9 @@ ghost use Rattle.guest_transfers.specs.Steps.{in_stepped};
 ghost use Rattle.guest_transfers.specs.Wanted.{idles_by, is_idle, waits_at, waits_by};
 
 use crate::calls::Transfers;
+use guest_memory::rings::{EventRing, Front};
 use guest_memory::{GuestMemory, Outside};
 use guest_pipes::{Acted, Consumer};
-use guest_rings::{EventRing, Front};
 use guest_tags::{Phase, Tag, UasDevice, moving};
 
 /// Whether a step that did this did nothing.

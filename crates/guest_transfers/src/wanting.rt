@@ -15,10 +15,10 @@ ghost use Rattle.guest_pipes.specs.Wanted.{wanted_through};
 
 use crate::calls::Transfers;
 use crate::control::StreamPipe;
+use guest_memory::rings::{EventRing, Home, Range};
 use guest_memory::{GuestMemory, Outside};
 use guest_out::{command_wants, data_out_wants};
 use guest_pipes::{Pipe, place_range, room_gate};
-use guest_rings::{EventRing, Home, Range};
 use guest_tags::{Phase, UasDevice};
 
 /// What a step lacks that needs the event's place alone.

@@ -2,4 +2,7 @@ pub mod Filled
 pub mod Kept
 pub mod ReadOnly
 pub mod Told
+pub mod ToldBits
+pub mod Used
+pub mod UsedBits
 mod Rows

@@ -1,10 +1,10 @@
 -- Nothing asked of a read-only logical unit changes blocks. Cited by the law `read_only_is_kept`.
-use Rattle.std.proofs.Common.{◌≡◌, ℕ, ◌+◌, ◌/◌, ◌^◌, ◌%◌, ◌==◌, Bool, true, false, cond, not, ◌||◌, List, Option, Some, None, Result, Ok, Err, IfOk, refl, sym, subst}
+use Rattle.std.proofs.Common.{◌≡◌, ℕ, ◌+◌, ◌^◌, ◌%◌, ◌==◌, Bool, true, false, cond, ◌||◌, List, Option, Some, None, Result, Ok, Err, IfOk, refl, sym, subst}
 use Rattle.std.specs.Prelude.{nat_lt, nat_le, slice_index}
 use Rattle.scsi_cmd.specs.declared.Op.{Op}
 use Rattle.scsi_cmd.specs.declared.Sense.{Sense}
 use Rattle.scsi_cmd.specs.Fields.{field_of_four, field_of_two, is_bit_set}
-use Rattle.scsi_cmd.specs.Meaning.{asked, asks_for_other_action, asks_for_protection}
+use Rattle.scsi_cmd.specs.Meaning.{asked, asks_for_protection}
 use Rattle.scsi_cmd.specs.Sense.{invalid_field_in_cdb}
 use Rattle.host_commands.specs.declared.CommandSet.TheVariants.{Profile, Host}
 use Rattle.host_commands.specs.declared.HostCommand.{HostCommand}

@@ -3,7 +3,7 @@ use Rattle.std.specs.Prelude.{ℕ, zero, suc, ◌+◌, ◌*◌, ◌≤◌, List,
 use Rattle.scsi_cmd.specs.Data.{peripheral_byte}
 use Rattle.scsi_cmd.specs.Fields.{four_bytes, eight_bytes, zeros}
 use Rattle.scsi_cmd.specs.Sense.{sense_bytes}
-use Rattle.uas_profile.specs.declared.TheConstants.{MAX_CLIENTS}
+use Rattle.uas_profile.specs.declared.TheConstants.{MAX_UNITS}
 use Rattle.host_commands.specs.declared.Data.{Data}
 use Rattle.host_commands.specs.declared.Data.TheVariants.{Inquiry, VitalProductData, RequestSense, LogicalUnits, Mode, OperationCodes, OperationCode}
 use Rattle.host_commands.specs.declared.Data.TheVariants.{TaskManagementFunctions, Capacity, LongCapacity}
@@ -48,7 +48,7 @@ abbrev pub IsOfDevice : Data → Type 0
 IsOfDevice (Inquiry present names) = Unit {0}
 IsOfDevice (VitalProductData page present) = Unit {0}
 IsOfDevice (RequestSense sense) = Unit {0}
-IsOfDevice (LogicalUnits count) = count ≤ MAX_CLIENTS
+IsOfDevice (LogicalUnits count) = count ≤ MAX_UNITS
 IsOfDevice (Mode mode) = Unit {0}
 IsOfDevice (OperationCodes timeouts) = Unit {0}
 IsOfDevice (OperationCode command timeouts) = Unit {0}

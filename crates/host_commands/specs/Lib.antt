@@ -13,3 +13,4 @@ pub mod Meaning
 pub mod Profile
 pub mod Laws
 pub mod Told
+pub mod Usage

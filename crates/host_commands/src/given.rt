@@ -6,7 +6,7 @@ ghost use Rattle.host_commands.specs.Meaning.{start_stop_asked, task_functions_a
 ghost use Rattle.host_commands.specs.ModeData.{pages_of};
 ghost use Rattle.host_commands.specs.OperationCodes.{named_action, named_either};
 ghost use Rattle.host_commands.specs.Pages.{page_of};
-ghost use Rattle.uas_profile.specs.declared.TheConstants.{MAX_CLIENTS};
+ghost use Rattle.uas_profile.specs.declared.TheConstants.{MAX_UNITS};
 
 use crate::commands::{
     MAINTENANCE_IN, SERVICE_ACTION_IN_16, has_service_actions, named_command, of_maintenance,
@@ -122,7 +122,7 @@ fn page_of(
 
 /// REPORT LUNS: all logical units, or none of the well known ones.
 pub(crate) fn read_report_luns(cdb: &[u8; 16], logical_units: u8) -> Result<Work, Sense>
-    requires { logical_units ≤ MAX_CLIENTS }
+    requires { logical_units ≤ MAX_UNITS }
     ensures work { result ≡ report_luns_asked cdb.now logical_units }
     ensures on { (blocks most : ℕ) → IfOk result (IsWorkOn blocks most) }
 {

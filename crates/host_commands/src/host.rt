@@ -1,7 +1,7 @@
 //! What the CDBs of a command set ask.
 ghost use Rattle.std.specs.Prelude.{◌≡◌, ◌≤◌, IfOk};
 ghost use Rattle.host_commands.specs.Meaning.{IsWorkOn, asked_of, asked_of_none, command_asked, host_asked_of_none, most_moved};
-ghost use Rattle.uas_profile.specs.declared.TheConstants.{MAX_CLIENTS};
+ghost use Rattle.uas_profile.specs.declared.TheConstants.{MAX_UNITS};
 
 use crate::blocks::{goes_through, protects, reads, synchronizes, verifies, writes};
 use crate::commands::{INQUIRY, REPORT_LUNS, REQUEST_SENSE, named_command};
@@ -18,7 +18,7 @@ use crate::{
 use scsi_cmd::Sense;
 
 /// What 16 bytes ask in a command set of a logical unit of this shape, of a device that has so many logical units, at most 15
-/// (`MAX_CLIENTS`). REQUEST SENSE tells of a unit attention where there is one; of all other commands the caller asks
+/// (`MAX_UNITS`). REQUEST SENSE tells of a unit attention where there is one; of all other commands the caller asks
 /// [`attention_of`](crate::attention_of) first. Refused with the sense of the first fault.
 #[tactic(auto, unfolding(crate::specs::Meaning::asked_of))]
 pub fn read(
@@ -28,7 +28,7 @@ pub fn read(
     logical_units: u8,
     attention: Option<UnitAttention>,
 ) -> Result<Work, Sense>
-    requires { logical_units ≤ MAX_CLIENTS }
+    requires { logical_units ≤ MAX_UNITS }
     ensures work { result ≡ asked_of cdb.now set.now shape.now logical_units attention }
     ensures on { IfOk result (IsWorkOn shape.now.blocks (most_moved set.now)) }
 {
@@ -53,7 +53,7 @@ pub fn read_without_logical_unit(
     set: &CommandSet,
     logical_units: u8,
 ) -> Result<Work, Sense>
-    requires { logical_units ≤ MAX_CLIENTS }
+    requires { logical_units ≤ MAX_UNITS }
     ensures work { result ≡ asked_of_none cdb.now set.now logical_units }
     ensures on { IfOk result (IsWorkOn 0 0) }
 {
@@ -68,7 +68,7 @@ fn read_host_of_none(
     maximum: TransferLength,
     logical_units: u8,
 ) -> Result<Work, Sense>
-    requires { logical_units ≤ MAX_CLIENTS }
+    requires { logical_units ≤ MAX_UNITS }
     ensures work { result ≡ host_asked_of_none cdb.now maximum logical_units }
     ensures on { IfOk result (IsWorkOn 0 0) }
 {
@@ -95,7 +95,7 @@ fn read_command(
     logical_units: u8,
     attention: Option<UnitAttention>,
 ) -> Result<Work, Sense>
-    requires { logical_units ≤ MAX_CLIENTS }
+    requires { logical_units ≤ MAX_UNITS }
     ensures work { result ≡ command_asked command cdb.now maximum shape.now logical_units attention }
     ensures on { IfOk result (IsWorkOn shape.now.blocks maximum) }
 {

@@ -45,7 +45,7 @@ mod writer;
 
 pub use commands::{attention_of, named_command};
 pub use host::{read, read_without_logical_unit};
-pub use laws::{profile_is_kept, read_only_is_kept};
+pub use laws::{lists_are_true, profile_is_kept, read_only_is_kept, usage_is_what_is_read};
 pub use names::{NameFault, Product, UnitNames, Vendor};
 use scsi_cmd::Sense;
 use std::marker::Model;

@@ -4,7 +4,7 @@ ghost use Rattle.arrayvec.specs.ArrayVec.{array_vec_len};
 ghost use Rattle.host_commands.specs.Data.{IsOfDevice, data_bytes, given_bytes, named_inquiry, report_luns};
 ghost use Rattle.host_commands.specs.OperationCodes.{task_functions};
 ghost use Rattle.host_commands.specs.declared.TheConstants.{MOST_DATA_BYTES};
-ghost use Rattle.uas_profile.specs.declared.TheConstants.{MAX_CLIENTS};
+ghost use Rattle.uas_profile.specs.declared.TheConstants.{MAX_UNITS};
 
 use crate::fields::{eight_bytes, four_bytes, four_bytes_at_most, put};
 use crate::mode::write_mode;
@@ -12,7 +12,7 @@ use crate::operation_codes::{write_all_commands, write_one_command};
 use crate::pages::{peripheral_byte, write_page};
 use crate::{Data, MOST_DATA_BYTES, UnitNames};
 use arrayvec::ArrayVec;
-use uas_profile::MAX_CLIENTS;
+use uas_profile::MAX_UNITS;
 
 /// The task management functions of the device: ABORT TASK, LOGICAL UNIT RESET, QUERY TASK.
 const TASK_FUNCTIONS: u8 = 0x8c;
@@ -75,7 +75,7 @@ fn write_inquiry(present: bool, names: &UnitNames, into: &mut ArrayVec<u8, MOST_
 /// REPORT LUNS: the length of the list, then each LUN.
 fn write_luns(count: u8, into: &mut ArrayVec<u8, MOST_DATA_BYTES>)
     requires empty { array_vec_len into.old ≡ 0 }
-    requires most { count ≤ MAX_CLIENTS }
+    requires most { count ≤ MAX_UNITS }
     ensures { into.new.items ≡ report_luns count }
 {
     put(into, &four_bytes(8 * u32::from(count)));

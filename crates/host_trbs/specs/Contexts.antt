@@ -22,7 +22,7 @@ unfoldable pub context_bytes : ℕ → ℕ → ℕ → ℕ → List ℕ
 context_bytes first second pointer fifth =
     little_bytes 4 first ++ little_bytes 4 second ++ little_bytes 8 pointer ++ little_bytes 4 fifth ++ replicate 12 0
 
--- 6.2.5.1: drop flags D31:D2 in the first word, add flags A31:A0 in the second
+-- Input Control Context: the Drop Context flags, bits 31:2 of the first word, and the Add Context flags, bits 31:0 of the second
 abbrev pub input_control : ℕ → ℕ → List ℕ
 input_control drop add = context_bytes drop add 0 0
 

@@ -6,14 +6,13 @@ use Rattle.std.proofs.lemmas.Bool.{lt-ltb, ltb-true}
 use Rattle.std.proofs.lemmas.Option.{none-some}
 use Rattle.scsi_cmd.specs.declared.Task.{Task}
 use Rattle.scsi_cmd.specs.declared.Task.TheVariants.{Abort, Reset, Query}
-use Rattle.uas_profile.specs.declared.TheConstants.{TASK_SLOT}
 use Rattle.scsi_cmd.specs.Held.{held_at, held_under}
 use Rattle.scsi_cmd.specs.Submission.{first_task_fault}
 use Rattle.solo_model.specs.declared.Label.TheVariants.{Task as TaskLabel}
 use Rattle.solo_model.specs.TaggedTask.{TaggedTask}
 use Rattle.solo_model.specs.Solo.{command_under, is_there as is_solo_there, managed, noted_tickets as solo_noted, silently, solo_step}
 use Rattle.solo_model.specs.Solo.{tickets_of as solo_tickets}
-use Rattle.uas_profile.specs.Places.{command_slot}
+use Rattle.uas_profile.specs.Tags.{command_slot, task_slot}
 use Rattle.shared_machine.specs.Td.{Entry}
 use Rattle.shared_machine.specs.Part.{Part, is_there, managed_part, named_entry, named_slot, noted_tickets, task_fault_at, tickets_of}
 use Rattle.isolation.specs.Isolation.{own_management, own_task, solo_of}
@@ -25,79 +24,79 @@ use Rattle.shared_machine.proofs.OwnSlots.{command_slot-own, own-command_slot}
 -- THE COMMAND THAT AN ABORT NAMES
 
 -- what the solo machine has of the entries
-abbrev own_tasks : ℕ → List (Option Entry) → List (Option TaggedTask)
-own_tasks client entries = map (option_map (own_task client)) entries
+abbrev own_tasks : ℕ → ℕ → List (Option Entry) → List (Option TaggedTask)
+own_tasks tags client entries = map (option_map (own_task tags client)) entries
 
 -- a tag that names no command slot has no command's index
-unnamed : (clients client tag : ℕ) (tasks : List (Option TaggedTask)) → client < clients → command_slot clients client tag ≡ None
-    → command_under tasks (own_tag client tag) ≡ None
-unnamed clients client tag tasks there none =
-    elim (own_tag client tag) as (λ index. own_tag client tag ≡ index → command_under tasks index ≡ None) [
+unnamed : (tags clients client tag : ℕ) (tasks : List (Option TaggedTask)) → client < clients → command_slot tags clients client tag ≡ None
+    → command_under tags tasks (own_tag tags client tag) ≡ None
+unnamed tags clients client tag tasks there none =
+    elim (own_tag tags client tag) as (λ index. own_tag tags client tag ≡ index → command_under tags tasks index ≡ None) [
       | zero ↦ λ index. refl
-      | suc slot ↦ λ index. elim (nat_lt slot TASK_SLOT) as (λ b. nat_lt slot TASK_SLOT ≡ b → cond b (held_under tasks (suc slot)) None ≡ None) [
+      | suc slot ↦ λ index. elim (nat_lt slot (task_slot tags)) as (λ b. nat_lt slot (task_slot tags) ≡ b → cond b (held_under tasks (suc slot)) None ≡ None) [
         | false ↦ λ is. refl
         | true ↦ λ within. absurd (none-some slot (sym none
-            ∙ own-command_slot clients client tag slot (record { there = there; within = ltb-true _ _ within; index = index })))
+            ∙ own-command_slot tags clients client tag slot (record { there = there; within = ltb-true _ _ within; index = index })))
       ] refl
     ] refl
 
-named-by : (clients client tag : ℕ) (part : Part) (slot : Option ℕ) → client < clients → command_slot clients client tag ≡ slot
-    → command_under (own_tasks client part.entries) (own_tag client tag) ≡ option_map (own_task client) (named_entry part slot)
-named-by clients client tag part None there is = unnamed clients client tag (own_tasks client part.entries) there is
-named-by clients client tag part (Some slot) there is =
-    let own = command_slot-own clients client tag slot is in
-    let within : nat_lt slot TASK_SLOT ≡ true = lt-ltb _ _ own.within in
+named-by : (tags clients client tag : ℕ) (part : Part) (slot : Option ℕ) → client < clients → command_slot tags clients client tag ≡ slot
+    → command_under tags (own_tasks tags client part.entries) (own_tag tags client tag) ≡ option_map (own_task tags client) (named_entry part slot)
+named-by tags clients client tag part None there is = unnamed tags clients client tag (own_tasks tags client part.entries) there is
+named-by tags clients client tag part (Some slot) there is =
+    let own = command_slot-own tags clients client tag slot is in
+    let within : nat_lt slot (task_slot tags) ≡ true = lt-ltb _ _ own.within in
     let index = own.index in
-    rw (index, within) (held_at-solo_of client part.entries slot)
+    rw (index, within) (held_at-solo_of tags client part.entries slot)
 
 -- THE TICKETS
 
-tickets-own : (client : ℕ) (entries : List (Option Entry)) → solo_tickets (own_tasks client entries) ≡ tickets_of entries
-tickets-own client [] = refl
-tickets-own client (None ∷ entries) = tickets-own client entries
-tickets-own client (Some entry ∷ entries) = ap (λ rest. entry.task.ticket ∷ rest) (tickets-own client entries)
+tickets-own : (tags client : ℕ) (entries : List (Option Entry)) → solo_tickets (own_tasks tags client entries) ≡ tickets_of entries
+tickets-own tags client [] = refl
+tickets-own tags client (None ∷ entries) = tickets-own tags client entries
+tickets-own tags client (Some entry ∷ entries) = ap (λ rest. entry.task.ticket ∷ rest) (tickets-own tags client entries)
 
-take-own : (client count : ℕ) (entries : List (Option Entry)) → take count (own_tasks client entries) ≡ own_tasks client (take count entries)
-take-own client zero entries = refl
-take-own client (suc count) [] = refl
-take-own client (suc count) (entry ∷ entries) = ap (λ rest. option_map (own_task client) entry ∷ rest) (take-own client count entries)
+take-own : (tags client count : ℕ) (entries : List (Option Entry)) → take count (own_tasks tags client entries) ≡ own_tasks tags client (take count entries)
+take-own tags client zero entries = refl
+take-own tags client (suc count) [] = refl
+take-own tags client (suc count) (entry ∷ entries) = ap (λ rest. option_map (own_task tags client) entry ∷ rest) (take-own tags client count entries)
 
 -- WHAT IS MANAGED
 
-pub is_there-own : (clients client : ℕ) (part : Part) (task : Task) → client < clients
-    → is_solo_there (own_tasks client part.entries) (own_management client task) ≡ is_there part (named_slot clients client task) task
-is_there-own clients client part (Abort tag) there =
-    ap is_some (named-by clients client tag part (command_slot clients client tag) there refl)
-    ∙ is_some-own client (named_entry part (command_slot clients client tag))
-is_there-own clients client part Reset there = refl
-is_there-own clients client part (Query tag) there =
-    ap is_some (named-by clients client tag part (command_slot clients client tag) there refl)
-    ∙ is_some-own client (named_entry part (command_slot clients client tag))
+pub is_there-own : (tags clients client : ℕ) (part : Part) (task : Task) → client < clients
+    → is_solo_there tags (own_tasks tags client part.entries) (own_management tags client task) ≡ is_there part (named_slot tags clients client task) task
+is_there-own tags clients client part (Abort tag) there =
+    ap is_some (named-by tags clients client tag part (command_slot tags clients client tag) there refl)
+    ∙ is_some-own tags client (named_entry part (command_slot tags clients client tag))
+is_there-own tags clients client part Reset there = refl
+is_there-own tags clients client part (Query tag) there =
+    ap is_some (named-by tags clients client tag part (command_slot tags clients client tag) there refl)
+    ∙ is_some-own tags client (named_entry part (command_slot tags clients client tag))
 
-noted-own : (clients client : ℕ) (part : Part) (task : Task) → client < clients
-    → solo_noted (own_tasks client part.entries) (own_management client task) ≡ noted_tickets part (named_slot clients client task) task
-noted-own clients client part (Abort tag) there =
-    ap (λ held. solo_tickets (held ∷ [])) (named-by clients client tag part (command_slot clients client tag) there refl)
-    ∙ tickets-own client (named_entry part (command_slot clients client tag) ∷ [])
-noted-own clients client part Reset there =
-    ap solo_tickets (take-own client TASK_SLOT part.entries) ∙ tickets-own client (take TASK_SLOT part.entries)
-noted-own clients client part (Query tag) there =
-    ap (λ held. solo_tickets (held ∷ [])) (named-by clients client tag part (command_slot clients client tag) there refl)
-    ∙ tickets-own client (named_entry part (command_slot clients client tag) ∷ [])
+noted-own : (tags clients client : ℕ) (part : Part) (task : Task) → client < clients
+    → solo_noted tags (own_tasks tags client part.entries) (own_management tags client task) ≡ noted_tickets tags part (named_slot tags clients client task) task
+noted-own tags clients client part (Abort tag) there =
+    ap (λ held. solo_tickets (held ∷ [])) (named-by tags clients client tag part (command_slot tags clients client tag) there refl)
+    ∙ tickets-own tags client (named_entry part (command_slot tags clients client tag) ∷ [])
+noted-own tags clients client part Reset there =
+    ap solo_tickets (take-own tags client (task_slot tags) part.entries) ∙ tickets-own tags client (take (task_slot tags) part.entries)
+noted-own tags clients client part (Query tag) there =
+    ap (λ held. solo_tickets (held ∷ [])) (named-by tags clients client tag part (command_slot tags clients client tag) there refl)
+    ∙ tickets-own tags client (named_entry part (command_slot tags clients client tag) ∷ [])
 
 -- the fault is the client's own
-pub task_fault-own : (clients client ticket : ℕ) (part : Part) (task : Task) → client < clients
-    → solo_task_fault (solo_of client part) ticket (own_management client task) ≡ task_fault_at part (named_slot clients client task) ticket task
-task_fault-own clients client ticket part task there =
-    rw (is_there-own clients client part task there, held_at-solo_of client part.entries TASK_SLOT)
-    (ap (λ b. first_task_fault true b part.least_ticket ticket (is_there part (named_slot clients client task) task))
-    (is_some-own client (held_at part.entries TASK_SLOT)))
+pub task_fault-own : (tags clients client ticket : ℕ) (part : Part) (task : Task) → client < clients
+    → solo_task_fault (solo_of tags client part) ticket (own_management tags client task) ≡ task_fault_at tags part (named_slot tags clients client task) ticket task
+task_fault-own tags clients client ticket part task there =
+    rw (is_there-own tags clients client part task there, held_at-solo_of tags client part.entries (task_slot tags))
+    (ap (λ b. first_task_fault true b part.least_ticket ticket (is_there part (named_slot tags clients client task) task))
+    (is_some-own tags client (held_at part.entries (task_slot tags))))
 
 -- an accepted task management is accepted by the client's own solo machine
-pub managed_part-own : (clients client ticket : ℕ) (part : Part) (task : Task) → client < clients
-    → task_fault_at part (named_slot clients client task) ticket task ≡ None
-    → solo_step (solo_of client part) (TaskLabel ticket (own_management client task))
-    ≡ Some (silently (solo_of client (managed_part part (named_slot clients client task) ticket task)))
-managed_part-own clients client ticket part task there none =
-    ap (managed (solo_of client part) ticket (own_management client task)) (task_fault-own clients client ticket part task there ∙ none)
-    ∙ (rw (noted-own clients client part task there, map-own_task client part.entries TASK_SLOT) refl)
+pub managed_part-own : (tags clients client ticket : ℕ) (part : Part) (task : Task) → client < clients
+    → task_fault_at tags part (named_slot tags clients client task) ticket task ≡ None
+    → solo_step (solo_of tags client part) (TaskLabel ticket (own_management tags client task))
+    ≡ Some (silently (solo_of tags client (managed_part tags part (named_slot tags clients client task) ticket task)))
+managed_part-own tags clients client ticket part task there none =
+    ap (managed (solo_of tags client part) ticket (own_management tags client task)) (task_fault-own tags clients client ticket part task there ∙ none)
+    ∙ (rw (noted-own tags clients client part task there, map-own_task tags client part.entries (task_slot tags)) refl)

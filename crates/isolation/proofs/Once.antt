@@ -15,7 +15,8 @@ use Rattle.scsi_cmd.specs.Request.{ended_by}
 use Rattle.scsi_cmd.specs.declared.Request.{Request}
 use Rattle.scsi_cmd.specs.declared.Request.TheVariants.{Execute, Manage}
 use Rattle.scsi_cmd.specs.declared.Task.{Task as SoloTask}
-use Rattle.uas_profile.specs.declared.TheConstants.{TAGS, TASK_SLOT}
+use Rattle.uas_profile.specs.declared.TheConstants.{MOST_TAGS}
+use Rattle.uas_profile.specs.Tags.{task_slot}
 use Rattle.solo_model.specs.declared.Phase.TheVariants.{Gone}
 use Rattle.solo_model.specs.TaggedTask.{TaggedTask, after_notes, can_be_ended, carried, finds, is_noted, moved, queued, queued_management, reply_of, sent}
 use Rattle.solo_model.specs.declared.Label.{Label}
@@ -257,7 +258,7 @@ submit-given_out : (state : SoloState) (index ticket : ℕ) (command : Command) 
     IsGivenOut state ticket after
 submit-given_out state zero ticket command after is = absurd (none-some after is)
 submit-given_out state (suc slot) ticket command after is =
-    let fault = first_submit_fault (is_command_index (suc slot)) (is_some (held_at state.tasks slot)) state.least_ticket ticket command in
+    let fault = first_submit_fault (is_command_index state.tags (suc slot)) (is_some (held_at state.tasks slot)) state.least_ticket ticket command in
     elim fault as (λ f. fault ≡ f → submitted state (suc slot) ticket command f ≡ Some after → IsGivenOut state ticket after) [
       | Some first ↦ λ found none. absurd (none-some after none)
       | None ↦ λ none some.
@@ -268,7 +269,7 @@ submit-given_out state (suc slot) ticket command after is =
             slot = slot;
             tickets_now = map-set (option_map ticket_of) state.tasks slot (Some (queued ticket command));
             least_now = refl;
-            least_before = no_fault-least (is_command_index (suc slot)) (is_some (held_at state.tasks slot)) state.least_ticket ticket command none;
+            least_before = no_fault-least (is_command_index state.tags (suc slot)) (is_some (held_at state.tasks slot)) state.least_ticket ticket command none;
             reply = refl;
           })
     ] refl is
@@ -279,18 +280,18 @@ no_task_fault-least yours in_use least ticket there none = grind (arith, common_
 task-given_out : (state : SoloState) (ticket : ℕ) (task : SoloTask) (after : SoloState × Option Reply) → solo_step state (Task ticket task) ≡ Some after →
     IsGivenOut state ticket after
 task-given_out state ticket task after is =
-    let fault = first_task_fault true (is_some (held_at state.tasks TASK_SLOT)) state.least_ticket ticket (is_there state.tasks task) in
+    let fault = first_task_fault true (is_some (held_at state.tasks (task_slot state.tags))) state.least_ticket ticket (is_there state.tags state.tasks task) in
     elim fault as (λ f. fault ≡ f → managed state ticket task f ≡ Some after → IsGivenOut state ticket after) [
       | Some first ↦ λ found none. absurd (none-some after none)
       | None ↦ λ none some.
-          let submitted_task : TaggedTask = queued_management ticket task (noted_tickets state.tasks task) in
-          let made : SoloState × Option Reply = silently (record (with_task state task_index (state.unit, submitted_task)) { least_ticket = ticket + 1 }) in
+          let submitted_task : TaggedTask = queued_management ticket task (noted_tickets state.tags state.tasks task) in
+          let made : SoloState × Option Reply = silently (record (with_task state (task_index state.tags) (state.unit, submitted_task)) { least_ticket = ticket + 1 }) in
           let same : made ≡ after = same_Some made after some in
           subst (IsGivenOut state ticket) same (record {
-            slot = TASK_SLOT;
-            tickets_now = map-set (option_map ticket_of) state.tasks TASK_SLOT (Some submitted_task);
+            slot = task_slot state.tags;
+            tickets_now = map-set (option_map ticket_of) state.tasks (task_slot state.tags) (Some submitted_task);
             least_now = refl;
-            least_before = no_task_fault-least true (is_some (held_at state.tasks TASK_SLOT)) state.least_ticket ticket (is_there state.tasks task) none;
+            least_before = no_task_fault-least true (is_some (held_at state.tasks (task_slot state.tags))) state.least_ticket ticket (is_there state.tags state.tasks task) none;
             reply = refl;
           })
     ] refl is
@@ -436,23 +437,23 @@ none_held zero slot ticket is = none-some ticket is
 none_held (suc places) zero ticket is = none-some ticket is
 none_held (suc places) (suc slot) ticket is = none_held places slot ticket is
 
-AreOnce-new : (unit : BlockMaps) → AreOnce (tickets (solo_opening unit)) 0 [] []
-AreOnce-new unit = record {
+AreOnce-new : (tags : ℕ) (unit : BlockMaps) → AreOnce (tickets (solo_opening tags unit)) 0 [] []
+AreOnce-new tags unit = record {
   accepted_below = All-nil (λ t. t < 0);
   settled_below = All-nil (λ t. t < 0);
-  owed = λ slot ticket is. absurd (none_held TAGS slot ticket is);
-  apart = λ first second ticket at_first at_second. absurd (none_held TAGS first ticket at_first);
+  owed = λ slot ticket is. absurd (none_held MOST_TAGS slot ticket is);
+  apart = λ first second ticket at_first at_second. absurd (none_held MOST_TAGS first ticket at_first);
 }
 
 -- THE LAWS
 
-pub solo-once : (unit : BlockMaps) (labels : List Label) (last : SoloState) (replies : List Reply)
-    → solo_run (solo_opening unit) labels ≡ Some (last, replies) →
+pub solo-once : (tags : ℕ) (unit : BlockMaps) (labels : List Label) (last : SoloState) (replies : List Reply)
+    → solo_run (solo_opening tags unit) labels ≡ Some (last, replies) →
     SettlesOnce [] [] labels replies
-solo-once unit labels last replies is = run-once (solo_opening unit) labels last replies [] [] (AreOnce-new unit) is
+solo-once tags unit labels last replies is = run-once (solo_opening tags unit) labels last replies [] [] (AreOnce-new tags unit) is
 
-pub replay-once : (units : List BlockMaps) (steps : List Step) (client : ℕ) (unit : BlockMaps) → slice_get units client ≡ Some unit →
-    SettlesOnce [] [] (own_labels client steps (replay units steps).1) (own_replies client (replay units steps).1)
-replay-once units steps client unit is =
-    solo-once unit (own_labels client steps (replay units steps).1) (own_state (replay units steps).0 client) (own_replies client (replay units steps).1)
-    (replay-solo units steps client unit is)
+pub replay-once : (tags : ℕ) (units : List BlockMaps) (steps : List Step) (client : ℕ) (unit : BlockMaps) → slice_get units client ≡ Some unit →
+    SettlesOnce [] [] (own_labels tags client steps (replay tags units steps).1) (own_replies tags client (replay tags units steps).1)
+replay-once tags units steps client unit is =
+    solo-once tags unit (own_labels tags client steps (replay tags units steps).1) (own_state (replay tags units steps).0 client) (own_replies tags client (replay tags units steps).1)
+    (replay-solo tags units steps client unit is)

@@ -8,6 +8,7 @@ use Rattle.shared_machine.specs.declared.Outcome.{Outcome}
 use Rattle.shared_machine.specs.Shared.{Shared, shared_step}
 use Rattle.shared_machine.specs.Bus.{AllTicketed, HasTicket}
 use Rattle.shared_machine.specs.Replay.{replayed}
+use Rattle.shared_machine.proofs.NumberOfTags.{kept-tags}
 use Rattle.isolation.specs.Isolation.{IsIsolated, own_label, own_labels, own_reply, own_replies, own_state}
 use Rattle.isolation.proofs.Acts.{solo_try}
 use Rattle.isolation.proofs.Routes.{shared_step-own}
@@ -23,10 +24,12 @@ pub replayed-isolated : (state : Shared) (steps : List Step) (client : ℕ) → 
 replayed-isolated state [] client = refl
 replayed-isolated state (step ∷ steps) client =
     let after = shared_step state step in
-    solo_run-append (own_state state client) (own_state after.0 client) (own_state (replayed after.0 steps).0 client)
-    (own_label client step after.1) (own_labels client steps (replayed after.0 steps).1)
-    (own_reply client after.1) (own_replies client (replayed after.0 steps).1)
-    (shared_step-own client state step) (replayed-isolated after.0 steps client)
+    let rest = replayed after.0 steps in
+    solo_run-append (own_state state client) (own_state after.0 client) (own_state rest.0 client)
+    (own_label state.tags client step after.1) (own_labels state.tags client steps rest.1)
+    (own_reply state.tags client after.1) (own_replies state.tags client rest.1) (shared_step-own client state step)
+    (subst (λ tags. solo_run (own_state after.0 client) (own_labels tags client steps rest.1) ≡ Some (own_state rest.0 client, own_replies tags client rest.1))
+    (kept-tags state step) (replayed-isolated after.0 steps client))
 
 -- so is whatever is the shared machine's run
 pub run_isolated : (old new : Shared) (steps : List Step) (outcomes : List Outcome) (client : ℕ) → (new, outcomes) ≡ replayed old steps →

@@ -17,6 +17,6 @@ abbrev pub WorldsAgree : Type 0
 WorldsAgree =
     (here there : Shared) (first second : List Step) (a b : ℕ)
     → own_state here a ≡ own_state there b
-    → own_labels a first (replayed here first).1 ≡ own_labels b second (replayed there second).1
-    → (own_replies a (replayed here first).1 ≡ own_replies b (replayed there second).1)
+    → own_labels here.tags a first (replayed here first).1 ≡ own_labels there.tags b second (replayed there second).1
+    → (own_replies here.tags a (replayed here first).1 ≡ own_replies there.tags b (replayed there second).1)
     × (own_state (replayed here first).0 a ≡ own_state (replayed there second).0 b)

@@ -36,13 +36,13 @@ SettlesOnce accepted settled (Settle index ∷ labels) (reply ∷ replies) =
 -- A solo run from a new unit accepts and settles each ticket once.
 abbrev pub SoloSettlesOnce : Type 0
 SoloSettlesOnce =
-    (unit : BlockMaps) (labels : List Label) (last : SoloState) (replies : List Reply)
-    → solo_run (solo_opening unit) labels ≡ Some (last, replies)
+    (tags : ℕ) (unit : BlockMaps) (labels : List Label) (last : SoloState) (replies : List Reply)
+    → solo_run (solo_opening tags unit) labels ≡ Some (last, replies)
     → SettlesOnce [] [] labels replies
 
 -- So does each client's part of a replay.
 abbrev pub ReplaySettlesOnce : Type 0
 ReplaySettlesOnce =
-    (units : List BlockMaps) (steps : List Step) (client : ℕ) (unit : BlockMaps)
+    (tags : ℕ) (units : List BlockMaps) (steps : List Step) (client : ℕ) (unit : BlockMaps)
     → slice_get units client ≡ Some unit
-    → SettlesOnce [] [] (own_labels client steps (replay units steps).1) (own_replies client (replay units steps).1)
+    → SettlesOnce [] [] (own_labels tags client steps (replay tags units steps).1) (own_replies tags client (replay tags units steps).1)

@@ -21,23 +21,23 @@ use Rattle.shared_machine.specs.Part.{own_tag}
 -- the fault of a submission under this index: it reads what the client has there, and its least ticket
 abbrev pub solo_fault : SoloState → ℕ → ℕ → Command → Option SubmitFault
 solo_fault own index ticket command =
-    first_submit_fault (is_command_index index) (is_some (held_under own.tasks index)) own.least_ticket ticket command
+    first_submit_fault (is_command_index own.tags index) (is_some (held_under own.tasks index)) own.least_ticket ticket command
 
 -- The first fault of a client's submission, or none: it reads the client's own state, and how many clients there are.
 -- Checked by hand: of 3 clients client 2 may submit under 33 to 47; under 32 and 48 it is NotYours, and so is all of client 3.
 abbrev pub own_fault : ℕ → SoloState → ℕ → ℕ → ℕ → Command → Option SubmitFault
 own_fault clients own client tag ticket command =
-    if nat_lt client clients then solo_fault own (own_tag client tag) ticket command else Some NotYours
+    if nat_lt client clients then solo_fault own (own_tag own.tags client tag) ticket command else Some NotYours
 
 -- The first fault of a client's task management, likewise. Checked by hand: of 3 clients client 2 may abort tag 34 while a command of its is there,
 -- and tag 17 or 48 is no such task of its.
 abbrev pub solo_task_fault : SoloState → ℕ → Task → Option SubmitFault
 solo_task_fault own ticket task =
-    first_task_fault true (is_some (held_under own.tasks task_index)) own.least_ticket ticket (is_there own.tasks task)
+    first_task_fault true (is_some (held_under own.tasks (task_index own.tags))) own.least_ticket ticket (is_there own.tags own.tasks task)
 
 abbrev pub own_task_fault : ℕ → SoloState → ℕ → ℕ → Task → Option SubmitFault
 own_task_fault clients own client ticket task =
-    if nat_lt client clients then solo_task_fault own ticket (own_management client task) else Some NotYours
+    if nat_lt client clients then solo_task_fault own ticket (own_management own.tags client task) else Some NotYours
 
 -- a task management's fault comes alone
 abbrev pub fault_alone : Option SubmitFault → Option Refusal
@@ -123,7 +123,7 @@ AllRefusedAsOwn clients client own [] outcomes = outcomes ≡ []
 AllRefusedAsOwn clients client own (step ∷ steps) [] = ⊥
 AllRefusedAsOwn clients client own (step ∷ steps) (outcome ∷ outcomes) =
     RefusedAsOwn clients client own step outcome
-    × (after : SoloState) × (after_label own (own_label client step outcome) ≡ Some after) × AllRefusedAsOwn clients client after steps outcomes
+    × (after : SoloState) × (after_label own (own_label own.tags client step outcome) ≡ Some after) × AllRefusedAsOwn clients client after steps outcomes
 
 -- One step with this outcome: each client's submission is refused as its own state has it, and nothing but a submission is refused.
 pub record IsRefusedAsOwn (old : Shared) (step : Step) (outcome : Outcome) : Type 0 where
@@ -133,6 +133,6 @@ pub record IsRefusedAsOwn (old : Shared) (step : Step) (outcome : Outcome) : Typ
 -- In a replay from new units each refusal follows from the client's first blocks and its own labels.
 abbrev pub ReplayRefusesAsOwn : Type 0
 ReplayRefusesAsOwn =
-    (units : List BlockMaps) (steps : List Step) (client : ℕ) (unit : BlockMaps)
+    (tags : ℕ) (units : List BlockMaps) (steps : List Step) (client : ℕ) (unit : BlockMaps)
     → slice_get units client ≡ Some unit
-    → AllRefusedAsOwn (length units) client (solo_opening unit) steps (replay units steps).1
+    → AllRefusedAsOwn (length units) client (solo_opening tags unit) steps (replay tags units steps).1

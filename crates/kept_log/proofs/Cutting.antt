@@ -6,8 +6,8 @@ use Rattle.std.proofs.Math.Seq.{take-append-add}
 use Rattle.std.proofs.lemmas.Bool.{leb-false, leb-true, ne_eqb}
 use Rattle.std.proofs.lemmas.List.{length-append, length-take-le, take-append-le}
 use Rattle.uas_log.specs.declared.FirstUnit.{FirstUnit}
-use Rattle.log_checksum.specs.Bytes.{AreBytes}
-use Rattle.log_checksum.proofs.Bytes.{bytes_taken}
+use Rattle.log_records.specs.checksum.Bytes.{AreBytes}
+use Rattle.log_records.proofs.Bytes.{bytes_taken}
 use Rattle.log_records.specs.declared.First.TheVariants.{Torn}
 use Rattle.log_records.specs.Finding.{first_record}
 use Rattle.log_records.specs.Records.{last_sum, record_text, records_text, sum_after}
@@ -123,74 +123,75 @@ whole_few size (entry ∷ entries) =
 
 -- THE WHOLE
 
-abbrev log_of : List FirstUnit → List Entry → Option Why → Kept
-log_of units entries ending = record { units = units; entries = entries; ending = ending }
+abbrev log_of : ℕ → List FirstUnit → List Entry → Option Why → Kept
+log_of tags units entries ending = record { tags = tags; units = units; entries = entries; ending = ending }
 
-abbrev loaded_at : List FirstUnit → List Entry → Option ℕ → Result Loaded KeptFault
-loaded_at units entries torn = Ok (record { log = log_of units entries None; torn = torn })
+abbrev loaded_at : ℕ → List FirstUnit → List Entry → Option ℕ → Result Loaded KeptFault
+loaded_at tags units entries torn = Ok (record { log = log_of tags units entries None; torn = torn })
 
-cut_text : (size : ℕ) (kept : Kept) → AreKeepable kept.units kept.entries → length (head_text kept.units) ≤ size → size < length (kept_text kept)
-    → CutTo (head_sum kept.units) (whole_steps size kept) (take (size - length (head_text kept.units)) (tail_of (head_sum kept.units) kept.entries (length kept.entries) kept.ending))
+cut_text : (size : ℕ) (kept : Kept) → AreKeepable kept.tags kept.units kept.entries → length (head_text kept.tags kept.units) ≤ size → size < length (kept_text kept)
+    → CutTo (head_sum kept.tags kept.units) (whole_steps size kept) (take (size - length (head_text kept.tags kept.units)) (tail_of (head_sum kept.tags kept.units) kept.entries (length kept.entries) kept.ending))
 cut_text size kept keepable long cut =
-    let head : List ℕ = head_text kept.units in
-    let tail : List ℕ = tail_of (head_sum kept.units) kept.entries (length kept.entries) kept.ending in
-    let records : List ℕ = records_text (head_sum kept.units) (bodies_of kept.entries) in
-    let ends : List ℕ = records_text (front_sum kept.units kept.entries) (end_bodies (length kept.entries) kept.ending) in
+    let head : List ℕ = head_text kept.tags kept.units in
+    let tail : List ℕ = tail_of (head_sum kept.tags kept.units) kept.entries (length kept.entries) kept.ending in
+    let records : List ℕ = records_text (head_sum kept.tags kept.units) (bodies_of kept.entries) in
+    let ends : List ℕ = records_text (front_sum kept.tags kept.units kept.entries) (end_bodies (length kept.entries) kept.ending) in
     let parts : kept_text kept ≡ head ++ tail = append_assoc head records ends in
-    records_cut (length kept.units) (head_sum kept.units) (size - length head) (length kept.entries) kept.entries kept.ending keepable.entries_fit
+    records_cut (length kept.units) (head_sum kept.tags kept.units) (size - length head) (length kept.entries) kept.entries kept.ending keepable.entries_fit
     (omega (arith, cut, long, ap length parts, length-append head tail))
 
-cut_parts : (size : ℕ) (kept : Kept) (left : List ℕ) → length (head_text kept.units) ≤ size
-    → take (size - length (head_text kept.units)) (tail_of (head_sum kept.units) kept.entries (length kept.entries) kept.ending)
-    ≡ records_text (head_sum kept.units) (bodies_of (whole_steps size kept)) ++ left
-    → take size (kept_text kept) ≡ front_text kept.units (whole_steps size kept) ++ left
+cut_parts : (size : ℕ) (kept : Kept) (left : List ℕ) → length (head_text kept.tags kept.units) ≤ size
+    → take (size - length (head_text kept.tags kept.units)) (tail_of (head_sum kept.tags kept.units) kept.entries (length kept.entries) kept.ending)
+    ≡ records_text (head_sum kept.tags kept.units) (bodies_of (whole_steps size kept)) ++ left
+    → take size (kept_text kept) ≡ front_text kept.tags kept.units (whole_steps size kept) ++ left
 cut_parts size kept left long e =
-    let head : List ℕ = head_text kept.units in
-    let tail : List ℕ = tail_of (head_sum kept.units) kept.entries (length kept.entries) kept.ending in
-    let records : List ℕ = records_text (head_sum kept.units) (bodies_of kept.entries) in
-    let ends : List ℕ = records_text (front_sum kept.units kept.entries) (end_bodies (length kept.entries) kept.ending) in
+    let head : List ℕ = head_text kept.tags kept.units in
+    let tail : List ℕ = tail_of (head_sum kept.tags kept.units) kept.entries (length kept.entries) kept.ending in
+    let records : List ℕ = records_text (head_sum kept.tags kept.units) (bodies_of kept.entries) in
+    let ends : List ℕ = records_text (front_sum kept.tags kept.units kept.entries) (end_bodies (length kept.entries) kept.ending) in
     let at : size ≡ length head + (size - length head) = omega (arith, long) in
     ap (take size) (append_assoc head records ends) ∙ ap (λ n. take n (head ++ tail)) at ∙ take-append-add head tail (size - length head)
-    ∙ ap (λ (bytes : List ℕ). head ++ bytes) e ∙ sym (append_assoc head (records_text (head_sum kept.units) (bodies_of (whole_steps size kept))) left)
+    ∙ ap (λ (bytes : List ℕ). head ++ bytes) e ∙ sym (append_assoc head (records_text (head_sum kept.tags kept.units) (bodies_of (whole_steps size kept))) left)
 
-torn_at : (size : ℕ) (kept : Kept) (left : List ℕ) (at : ℕ) → AreBytes (take size (kept_text kept)) → AreKeepable kept.units (whole_steps size kept)
-    → take size (kept_text kept) ≡ front_text kept.units (whole_steps size kept) ++ left → size ≡ at + length left
-    → at ≡ length (front_text kept.units (whole_steps size kept)) → length (take size (kept_text kept)) ≡ size
-    → IsCut (front_sum kept.units (whole_steps size kept)) left
-    → load_at (take size (kept_text kept)) ≡ loaded_at kept.units (whole_steps size kept) (cond (size == at) None (Some at))
+torn_at : (size : ℕ) (kept : Kept) (left : List ℕ) (at : ℕ) → AreBytes (take size (kept_text kept)) → AreKeepable kept.tags kept.units (whole_steps size kept)
+    → take size (kept_text kept) ≡ front_text kept.tags kept.units (whole_steps size kept) ++ left → size ≡ at + length left
+    → at ≡ length (front_text kept.tags kept.units (whole_steps size kept)) → length (take size (kept_text kept)) ≡ size
+    → IsCut (front_sum kept.tags kept.units (whole_steps size kept)) left
+    → load_at (take size (kept_text kept)) ≡ loaded_at kept.tags kept.units (whole_steps size kept) (cond (size == at) None (Some at))
 torn_at size kept left at are keepable parts place front taken cut =
     let text : List ℕ = take size (kept_text kept) in
     let steps : List Entry = whole_steps size kept in
     elim cut [
       | inl none ↦
-          ends_load text kept.units steps None None are (record {
+          ends_load text kept.tags kept.units steps None None are (record {
             at = at;
             rest = [];
-            stand = record { parts = parts ∙ ap (λ (rest : List ℕ). front_text kept.units steps ++ rest) none; place = omega (arith, place, taken, ap length none); keepable = keepable };
-            comes = nothing_comes (length kept.units) (length steps) at (front_sum kept.units steps);
+            stand = record { parts = parts ∙ ap (λ (rest : List ℕ). front_text kept.tags kept.units steps ++ rest) none; place = omega (arith, place, taken, ap length none); keepable = keepable };
+            comes = nothing_comes (length kept.units) (length steps) at (front_sum kept.tags kept.units steps);
           })
-          ∙ ap (λ (whole : Bool). loaded_at kept.units steps (cond whole None (Some at))) (sym (eq-eqb size at (omega (arith, place, ap length none))))
+          ∙ ap (λ (whole : Bool). loaded_at kept.tags kept.units steps (cond whole None (Some at))) (sym (eq-eqb size at (omega (arith, place, ap length none))))
       | inr some ↦
-          ends_load text kept.units steps None (Some at) are (record {
+          ends_load text kept.tags kept.units steps None (Some at) are (record {
             at = at;
             rest = left;
             stand = record { parts = parts; place = omega (arith, place, taken); keepable = keepable };
-            comes = torn_comes (length kept.units) (length steps) at (front_sum kept.units steps) left some.1;
+            comes = torn_comes (length kept.units) (length steps) at (front_sum kept.tags kept.units steps) left some.1;
           })
-          ∙ ap (λ (whole : Bool). loaded_at kept.units steps (cond whole None (Some at))) (sym (ne_eqb size at (λ e. absurd (omega (arith, e, place, some.0)))))
+          ∙ ap (λ (whole : Bool). loaded_at kept.tags kept.units steps (cond whole None (Some at))) (sym (ne_eqb size at (λ e. absurd (omega (arith, e, place, some.0)))))
     ]
 
-pub cut_loads : (kept : Kept) (size : ℕ) → AreKeepable kept.units kept.entries → AreBytes (kept_text kept) → length (head_text kept.units) ≤ size
+pub cut_loads : (kept : Kept) (size : ℕ) → AreKeepable kept.tags kept.units kept.entries → AreBytes (kept_text kept) → length (head_text kept.tags kept.units) ≤ size
     → size < length (kept_text kept) → load_at (take size (kept_text kept)) ≡ Ok (cut_log size kept)
 cut_loads kept size keepable are long cut =
     let steps : List Entry = whole_steps size kept in
     let it = cut_text size kept keepable long cut in
-    let parts : take size (kept_text kept) ≡ front_text kept.units steps ++ it.left = cut_parts size kept it.left long it.parts in
+    let parts : take size (kept_text kept) ≡ front_text kept.tags kept.units steps ++ it.left = cut_parts size kept it.left long it.parts in
     let taken : length (take size (kept_text kept)) ≡ size = length-take-le size (kept_text kept) (omega (arith, cut)) in
-    torn_at size kept it.left (length (front_text kept.units steps)) (bytes_taken size (kept_text kept) are) (record {
+    torn_at size kept it.left (length (front_text kept.tags kept.units steps)) (bytes_taken size (kept_text kept) are) (record {
+      are_tags = keepable.are_tags;
       some = keepable.some;
       most = keepable.most;
       units_fit = keepable.units_fit;
-      entries_fit = whole_hold (EntryFits (length kept.units)) (size - length (head_text kept.units)) kept.entries keepable.entries_fit;
-      few = omega (arith, keepable.few, whole_few (size - length (head_text kept.units)) kept.entries);
-    }) parts (omega (arith, taken, ap length parts, length-append (front_text kept.units steps) it.left)) refl taken it.cut
+      entries_fit = whole_hold (EntryFits (length kept.units)) (size - length (head_text kept.tags kept.units)) kept.entries keepable.entries_fit;
+      few = omega (arith, keepable.few, whole_few (size - length (head_text kept.tags kept.units)) kept.entries);
+    }) parts (omega (arith, taken, ap length parts, length-append (front_text kept.tags kept.units steps) it.left)) refl taken it.cut

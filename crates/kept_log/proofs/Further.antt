@@ -4,8 +4,8 @@ use Rattle.std.proofs.lemmas.Bool.{and_parts, ne_eqb}
 use Rattle.std.proofs.Math.Dec.{eqb-suc-zero}
 use Rattle.std.proofs.lemmas.List.{length-append}
 use Rattle.byteorder.specs.Numbers.{big_from-lt}
-use Rattle.log_checksum.specs.Bytes.{AreBytes}
-use Rattle.log_checksum.proofs.Bytes.{bytes_dropped, bytes_taken}
+use Rattle.log_records.specs.checksum.Bytes.{AreBytes}
+use Rattle.log_records.proofs.Bytes.{bytes_dropped, bytes_taken}
 use Rattle.log_records.specs.declared.First.{First}
 use Rattle.log_records.specs.declared.First.TheVariants.{Nothing, Whole, Torn, Wrong}
 use Rattle.log_records.specs.Finding.{behind, body_len, body_of, first_record, is_followed, is_long_enough, is_whole, sum_of}

@@ -3,14 +3,15 @@ use Rattle.std.proofs.Common.{◌≡◌, ℕ, ◌==◌, Bool, true, false, cond,
 use Rattle.std.proofs.lemmas.Bool.{eqb-true}
 use Rattle.std.proofs.lemmas.List.{append-nil, length-append, nil_from_length}
 use Rattle.uas_log.specs.declared.FirstUnit.{FirstUnit}
-use Rattle.log_checksum.specs.Bytes.{AreBytes}
-use Rattle.log_checksum.proofs.Bytes.{bytes_back, bytes_dropped, bytes_taken}
+use Rattle.log_records.specs.checksum.Bytes.{AreBytes}
+use Rattle.log_records.proofs.Bytes.{bytes_back, bytes_dropped, bytes_taken}
 use Rattle.log_records.specs.declared.First.{First}
 use Rattle.log_records.specs.declared.First.TheVariants.{Nothing, Whole, Torn, Wrong}
 use Rattle.log_records.specs.Finding.{behind, body_len, body_of, first_record}
 use Rattle.log_records.specs.Records.{record_text}
 use Rattle.log_records.proofs.Found.{found_record, nothing_there}
 use Rattle.log_text.specs.declared.LogFault.{LogFault}
+use Rattle.log_text.proofs.TakenLog.{few_clients}
 use Rattle.kept_log.specs.declared.Body.{Body}
 use Rattle.kept_log.specs.declared.Body.TheVariants as bodies
 use Rattle.kept_log.specs.declared.Entry.{Entry}
@@ -72,51 +73,51 @@ body_ends count at len sum rest ending torn (Ok (bodies.End steps reason)) e =
 
 -- THE WHOLE
 
-abbrev log_of : List FirstUnit → List Entry → Option Why → Kept
-log_of units entries ending = record { units = units; entries = entries; ending = ending }
+abbrev log_of : ℕ → List FirstUnit → List Entry → Option Why → Kept
+log_of tags units entries ending = record { tags = tags; units = units; entries = entries; ending = ending }
 
-kept_when : (text : List ℕ) (units : List FirstUnit) (entries : List Entry) (at : ℕ) (rest : List ℕ) (ending : Option Why) (torn : Option ℕ) (first : First)
-    → AreBytes rest → StandsIn text units entries at rest → first_record (front_sum units entries) rest ≡ first
-    → of_first (length units) (length entries) at rest first ≡ Ok (Ends ending torn) → IsKept (log_of units entries ending) torn text
-kept_when text units entries at rest ending torn Nothing are stand is e =
+kept_when : (text : List ℕ) (tags : ℕ) (units : List FirstUnit) (entries : List Entry) (at : ℕ) (rest : List ℕ) (ending : Option Why) (torn : Option ℕ) (first : First)
+    → AreBytes rest → StandsIn text tags units entries at rest → first_record (front_sum tags units entries) rest ≡ first
+    → of_first (length units) (length entries) at rest first ≡ Ok (Ends ending torn) → IsKept (log_of tags units entries ending) torn text
+kept_when text tags units entries at rest ending torn Nothing are stand is e =
     let ends = ends_are None ending None torn e in
-    let none : rest ≡ [] = nothing_there (front_sum units entries) rest is in
-    subst (λ (other : Option Why). IsKept (log_of units entries other) torn text) ends.0
-    (subst (λ (cut : Option ℕ). IsKept (log_of units entries None) cut text) ends.1 (record {
+    let none : rest ≡ [] = nothing_there (front_sum tags units entries) rest is in
+    subst (λ (other : Option Why). IsKept (log_of tags units entries other) torn text) ends.0
+    (subst (λ (cut : Option ℕ). IsKept (log_of tags units entries None) cut text) ends.1 (record {
       rest = rest;
-      parts = stand.parts ∙ ap (λ (front : List ℕ). front ++ rest) (sym (append-nil (front_text units entries)));
+      parts = stand.parts ∙ ap (λ (front : List ℕ). front ++ rest) (sym (append-nil (front_text tags units entries)));
       left = none;
       keepable = stand.keepable;
     }))
-kept_when text units entries at rest ending torn Torn are stand is e =
+kept_when text tags units entries at rest ending torn Torn are stand is e =
     let ends = ends_are None ending (Some at) torn e in
-    let whole : front_text units entries ≡ kept_text (log_of units entries None) = sym (append-nil (front_text units entries)) in
-    subst (λ (other : Option Why). IsKept (log_of units entries other) torn text) ends.0
-    (subst (λ (cut : Option ℕ). IsKept (log_of units entries None) cut text) ends.1 (record {
+    let whole : front_text tags units entries ≡ kept_text (log_of tags units entries None) = sym (append-nil (front_text tags units entries)) in
+    subst (λ (other : Option Why). IsKept (log_of tags units entries other) torn text) ends.0
+    (subst (λ (cut : Option ℕ). IsKept (log_of tags units entries None) cut text) ends.1 (record {
       rest = rest;
       parts = stand.parts ∙ ap (λ (front : List ℕ). front ++ rest) whole;
       left = (
         refl,
-        omega (arith, stand.place, ap length stand.parts, length-append (front_text units entries) rest, ap length whole),
+        omega (arith, stand.place, ap length stand.parts, length-append (front_text tags units entries) rest, ap length whole),
         is,
       );
       keepable = stand.keepable;
     }))
-kept_when text units entries at rest ending torn Wrong are stand is e = absurd cc
-kept_when text units entries at rest ending torn (Whole len sum) are stand is e =
-    let before : ℕ = front_sum units entries in
+kept_when text tags units entries at rest ending torn Wrong are stand is e = absurd cc
+kept_when text tags units entries at rest ending torn (Whole len sum) are stand is e =
+    let before : ℕ = front_sum tags units entries in
     let it = body_ends (length entries) at len sum (behind rest) ending torn (body_at (length units) (body_of rest)) e in
     let at_front = found_record before rest len sum are is in
-    let body = body_taken (length units) (body_of rest) (bodies.End (length entries) it.reason) stand.keepable.some (omega (arith, stand.keepable.most))
+    let body = body_taken (length units) (body_of rest) (bodies.End (length entries) it.reason) stand.keepable.some (omega (arith, stand.keepable.most, few_clients tags))
     (bytes_taken (body_len rest) (drop 4 rest) (bytes_dropped 4 rest are)) it.read_is in
     let parts : rest ≡ record_text before (end_text (length entries) it.reason) ++ [] =
     at_front.text ∙ ap (λ (text : List ℕ). record_text before text ++ behind rest) body.text_is
     ∙ ap (λ (back : List ℕ). record_text before (end_text (length entries) it.reason) ++ back) it.none in
-    subst (λ (other : Option Why). IsKept (log_of units entries other) torn text) it.ending_is
-    (subst (λ (cut : Option ℕ). IsKept (log_of units entries (Some it.reason)) cut text) it.torn_is (record {
+    subst (λ (other : Option Why). IsKept (log_of tags units entries other) torn text) it.ending_is
+    (subst (λ (cut : Option ℕ). IsKept (log_of tags units entries (Some it.reason)) cut text) it.torn_is (record {
       rest = [];
-      parts = stand.parts ∙ ap (λ (back : List ℕ). front_text units entries ++ back) parts
-          ∙ sym (append-nil (front_text units entries ++ (record_text before (end_text (length entries) it.reason) ++ [])));
+      parts = stand.parts ∙ ap (λ (back : List ℕ). front_text tags units entries ++ back) parts
+          ∙ sym (append-nil (front_text tags units entries ++ (record_text before (end_text (length entries) it.reason) ++ [])));
       left = refl;
       keepable = stand.keepable;
     }))
@@ -125,6 +126,6 @@ pub loaded_kept : (text : List ℕ) (loaded : Loaded) → AreBytes text → IsLo
 unfolding next_at
 loaded_kept text loaded are it =
     let whole = it.whole in
-    kept_when text loaded.log.units loaded.log.entries whole.at whole.rest loaded.log.ending loaded.torn
-    (first_record (front_sum loaded.log.units loaded.log.entries) whole.rest)
-    (bytes_back (front_text loaded.log.units loaded.log.entries) whole.rest (subst AreBytes whole.stand.parts are)) whole.stand refl whole.comes
+    kept_when text loaded.log.tags loaded.log.units loaded.log.entries whole.at whole.rest loaded.log.ending loaded.torn
+    (first_record (front_sum loaded.log.tags loaded.log.units loaded.log.entries) whole.rest)
+    (bytes_back (front_text loaded.log.tags loaded.log.units loaded.log.entries) whole.rest (subst AreBytes whole.stand.parts are)) whole.stand refl whole.comes

@@ -2,8 +2,8 @@
 use Rattle.std.proofs.Common.{◌≡◌, ℕ, ◌+◌, ◌^◌, ◌<◌, ◌≤◌, ◌==◌, Bool, cond, List, [], ◌++◌, length, drop, Result, Ok, Err, Some, None, refl, sym, ap, ◌∙◌, append_assoc, arith, eq-eqb}
 use Rattle.std.proofs.lemmas.Bool.{ne_eqb}
 use Rattle.std.proofs.lemmas.List.{append-nil, drop_at}
-use Rattle.log_checksum.specs.Bytes.{AreBytes}
-use Rattle.log_checksum.proofs.Bytes.{bytes_joined}
+use Rattle.log_records.specs.checksum.Bytes.{AreBytes}
+use Rattle.log_records.proofs.Bytes.{bytes_joined}
 use Rattle.log_records.specs.declared.First.TheVariants.{Torn}
 use Rattle.log_records.specs.Finding.{behind, body_of, first_record}
 use Rattle.log_records.specs.Records.{record_text, sum_after}

@@ -51,22 +51,22 @@ asked_more (Some sum) before bodies body = place_more sum before bodies body
 
 -- STEPS
 
-abbrev pub step_so_far : Option ℕ → List FirstUnit → List Entry → Option ℕ
-step_so_far wanted units entries = place_asked wanted (head_sum units) (map entry_text entries)
+abbrev pub step_so_far : Option ℕ → ℕ → List FirstUnit → List Entry → Option ℕ
+step_so_far wanted tags units entries = place_asked wanted (head_sum tags units) (map entry_text entries)
 
-pub step_first : (wanted : Option ℕ) (units : List FirstUnit) → step_with None wanted (head_sum units) 0 ≡ step_so_far wanted units []
-step_first None units = refl
-step_first (Some sum) units = refl
+pub step_first : (wanted : Option ℕ) (tags : ℕ) (units : List FirstUnit) → step_with None wanted (head_sum tags units) 0 ≡ step_so_far wanted tags units []
+step_first None tags units = refl
+step_first (Some sum) tags units = refl
 
-pub step_more : (wanted : Option ℕ) (units : List FirstUnit) (entries : List Entry) (entry : Entry)
-    → step_so_far wanted units (entries ++ entry ∷ [])
-    ≡ step_with (step_so_far wanted units entries) wanted (front_sum units (entries ++ entry ∷ [])) (suc (length entries))
-step_more wanted units entries entry =
+pub step_more : (wanted : Option ℕ) (tags : ℕ) (units : List FirstUnit) (entries : List Entry) (entry : Entry)
+    → step_so_far wanted tags units (entries ++ entry ∷ [])
+    ≡ step_with (step_so_far wanted tags units entries) wanted (front_sum tags units (entries ++ entry ∷ [])) (suc (length entries))
+step_more wanted tags units entries entry =
     let bodies : List (List ℕ) = map entry_text entries in
-    ap (place_asked wanted (head_sum units)) (map_more entries entry)
-    ∙ asked_more wanted (head_sum units) bodies (entry_text entry)
-    ∙ ap (λ n. step_with (place_asked wanted (head_sum units) bodies) wanted n (suc (length bodies))) (sym (sum_more units entries entry))
-    ∙ ap (λ n. step_with (place_asked wanted (head_sum units) bodies) wanted (front_sum units (entries ++ entry ∷ [])) (suc n)) (length-map entries entry_text)
+    ap (place_asked wanted (head_sum tags units)) (map_more entries entry)
+    ∙ asked_more wanted (head_sum tags units) bodies (entry_text entry)
+    ∙ ap (λ n. step_with (place_asked wanted (head_sum tags units) bodies) wanted n (suc (length bodies))) (sym (sum_more tags units entries entry))
+    ∙ ap (λ n. step_with (place_asked wanted (head_sum tags units) bodies) wanted (front_sum tags units (entries ++ entry ∷ [])) (suc n)) (length-map entries entry_text)
 
 -- THE END
 
@@ -107,39 +107,39 @@ end_with : (steps : ℕ) (found : Option ℕ) (wanted sum : ℕ) → IsWithin st
 end_with steps (Some place) wanted sum within = ap (λ (n : ℕ). Some n) (up_to_same steps place within)
 end_with steps None wanted sum within = end_here steps (sum == wanted)
 
-abbrev pub log_of : List FirstUnit → List Entry → Option Why → Kept
-log_of units entries ending = record { units = units; entries = entries; ending = ending }
+abbrev pub log_of : ℕ → List FirstUnit → List Entry → Option Why → Kept
+log_of tags units entries ending = record { tags = tags; units = units; entries = entries; ending = ending }
 
 -- behind how many steps of a log the checksum stands first that is asked for
 abbrev pub log_asked : Option ℕ → Kept → Option ℕ
 log_asked None kept = None
 log_asked (Some sum) kept = step_of_sum sum kept
 
-steps_within : (sum : ℕ) (units : List FirstUnit) (entries : List Entry) → IsWithin (length entries) (place_of sum (head_sum units) (map entry_text entries))
-steps_within sum units entries =
-    subst (λ (most : ℕ). IsWithin most (place_of sum (head_sum units) (map entry_text entries))) (length-map entries entry_text)
-    (place_within sum (head_sum units) (map entry_text entries))
+steps_within : (sum : ℕ) (tags : ℕ) (units : List FirstUnit) (entries : List Entry) → IsWithin (length entries) (place_of sum (head_sum tags units) (map entry_text entries))
+steps_within sum tags units entries =
+    subst (λ (most : ℕ). IsWithin most (place_of sum (head_sum tags units) (map entry_text entries))) (length-map entries entry_text)
+    (place_within sum (head_sum tags units) (map entry_text entries))
 
 -- a log without an end has the checksums of its steps
-pub step_no_end : (wanted : Option ℕ) (units : List FirstUnit) (entries : List Entry) → step_so_far wanted units entries ≡ log_asked wanted (log_of units entries None)
-step_no_end None units entries = refl
-step_no_end (Some sum) units entries =
+pub step_no_end : (wanted : Option ℕ) (tags : ℕ) (units : List FirstUnit) (entries : List Entry) → step_so_far wanted tags units entries ≡ log_asked wanted (log_of tags units entries None)
+step_no_end None tags units entries = refl
+step_no_end (Some sum) tags units entries =
     let bodies : List (List ℕ) = map entry_text entries in
-    sym (ap (λ (all : List (List ℕ)). option_map (steps_up_to (length entries)) (place_of sum (head_sum units) all)) (append-nil bodies)
-    ∙ within_same (length entries) (place_of sum (head_sum units) bodies) (steps_within sum units entries))
+    sym (ap (λ (all : List (List ℕ)). option_map (steps_up_to (length entries)) (place_of sum (head_sum tags units) all)) (append-nil bodies)
+    ∙ within_same (length entries) (place_of sum (head_sum tags units) bodies) (steps_within sum tags units entries))
 
 -- another one has its end's too
-pub step_end : (wanted : Option ℕ) (units : List FirstUnit) (entries : List Entry) (reason : Why)
-    → step_with (step_so_far wanted units entries) wanted (sum_after (front_sum units entries) (end_text (length entries) reason)) (length entries)
-    ≡ log_asked wanted (log_of units entries (Some reason))
-step_end None units entries reason = refl
-step_end (Some sum) units entries reason =
+pub step_end : (wanted : Option ℕ) (tags : ℕ) (units : List FirstUnit) (entries : List Entry) (reason : Why)
+    → step_with (step_so_far wanted tags units entries) wanted (sum_after (front_sum tags units entries) (end_text (length entries) reason)) (length entries)
+    ≡ log_asked wanted (log_of tags units entries (Some reason))
+step_end None tags units entries reason = refl
+step_end (Some sum) tags units entries reason =
     let bodies : List (List ℕ) = map entry_text entries in
-    let last : ℕ = sum_after (front_sum units entries) (end_text (length entries) reason) in
-    let found : Option ℕ = place_of sum (head_sum units) bodies in
-    sym (ap (option_map (steps_up_to (length entries))) (place_more sum (head_sum units) bodies (end_text (length entries) reason))
+    let last : ℕ = sum_after (front_sum tags units entries) (end_text (length entries) reason) in
+    let found : Option ℕ = place_of sum (head_sum tags units) bodies in
+    sym (ap (option_map (steps_up_to (length entries))) (place_more sum (head_sum tags units) bodies (end_text (length entries) reason))
     ∙ ap (λ n. option_map (steps_up_to (length entries)) (step_with found (Some sum) last (suc n))) (length-map entries entry_text)
-    ∙ end_with (length entries) found sum last (steps_within sum units entries))
+    ∙ end_with (length entries) found sum last (steps_within sum tags units entries))
 
 pub asked_in : (wanted : Option ℕ) (text : List ℕ) (loaded : Loaded) → load_at text ≡ Ok loaded → step_asked wanted text ≡ log_asked wanted loaded.log
 asked_in None text loaded e = refl

@@ -3,10 +3,11 @@ use Rattle.std.proofs.Common.{◌≡◌, ℕ, zero, suc, ◌+◌, ◌-◌, ◌^�
 use Rattle.std.specs.List.{AllByRecursion}
 use Rattle.std.proofs.lemmas.List.{length-append}
 use Rattle.uas_log.specs.declared.FirstUnit.{FirstUnit}
-use Rattle.log_checksum.specs.Bytes.{AreBytes}
-use Rattle.log_checksum.proofs.Bytes.{bytes_back, bytes_front}
+use Rattle.log_records.specs.checksum.Bytes.{AreBytes}
+use Rattle.log_records.proofs.Bytes.{bytes_back, bytes_front}
 use Rattle.log_records.specs.Records.{last_sum, record_text, records_text, sum_after}
 use Rattle.byteorder.specs.Endian.{big_bytes}
+use Rattle.log_text.proofs.TakenLog.{few_clients}
 use Rattle.kept_log.specs.declared.Entry.{Entry}
 use Rattle.kept_log.specs.declared.KeptFault.{KeptFault}
 use Rattle.kept_log.specs.declared.KeptFault.TheVariants.{HeadSum}
@@ -111,47 +112,47 @@ records_long sum (entry ∷ entries) =
     omega (arith, length-append (record_text sum body) back, record_size sum body, records_long (sum_after sum body) entries)
 
 -- what is loaded where this comes behind the records of these steps, with as many bytes left
-comes_at : (text : List ℕ) (units : List FirstUnit) (entries : List Entry) (next : Result Next KeptFault) (it : Comes text units entries next)
-    → AreBytes (front_text units entries)
-    → load_at text ≡ loaded_of units (with_entries entries
-    (rest_at (length (records_text (head_sum units) (bodies_of entries) ++ it.rest) - length entries) (length units) (length entries) it.at
-    (front_sum units entries) it.rest))
+comes_at : (text : List ℕ) (tags : ℕ) (units : List FirstUnit) (entries : List Entry) (next : Result Next KeptFault) (it : Comes text tags units entries next)
+    → AreBytes (front_text tags units entries)
+    → load_at text ≡ loaded_of tags units (with_entries entries
+    (rest_at (length (records_text (head_sum tags units) (bodies_of entries) ++ it.rest) - length entries) (length units) (length entries) it.at
+    (front_sum tags units entries) it.rest))
 unfolding load_at
-comes_at text units entries next it are =
+comes_at text tags units entries next it are =
     let keepable = it.stand.keepable in
-    let sum : ℕ = head_sum units in
+    let sum : ℕ = head_sum tags units in
     let records : List ℕ = records_text sum (bodies_of entries) in
     let back : List ℕ = records ++ it.rest in
-    let parts : text ≡ head_text units ++ back = it.stand.parts ∙ append_assoc (head_text units) records it.rest in
-    let head : head_at text ≡ Ok ((units, sum), back) =
-    ap head_at parts ∙ head_again units back (are_units units entries keepable) (bytes_front (head_text units) records are) in
+    let parts : text ≡ head_text tags units ++ back = it.stand.parts ∙ append_assoc (head_text tags units) records it.rest in
+    let head : head_at text ≡ Ok (record { tags = tags; units = units; sum = sum }, back) =
+    ap head_at parts ∙ head_again tags units back keepable.are_tags (are_units tags units entries keepable) (bytes_front (head_text tags units) records are) in
     let size = length-append records it.rest in
     let on = read_on (length back - length entries) (length back) (length units) 0 (length text - length back) sum (length entries) it.at entries it.rest keepable.some
-    (omega (arith, keepable.most)) keepable.entries_fit keepable.few (bytes_back (head_text units) records are)
+    (omega (arith, keepable.most, few_clients tags)) keepable.entries_fit keepable.few (bytes_back (head_text tags units) records are)
     (omega (arith, size, records_long sum entries)) (omega arith)
-    (omega (arith, size, it.stand.place, ap length parts, length-append (head_text units) back)) in
+    (omega (arith, size, it.stand.place, ap length parts, length-append (head_text tags units) back)) in
     ap (behind_head text) head
-    ∙ ap (λ (right : Bool). cond right (loaded_of units (rest_at (length back) (length units) 0 (length text - length back) sum back)) (Err HeadSum))
+    ∙ ap (λ (right : Bool). cond right (loaded_of tags units (rest_at (length back) (length units) 0 (length text - length back) sum back)) (Err HeadSum))
     (eq-eqb sum sum refl)
-    ∙ ap (loaded_of units) on
+    ∙ ap (loaded_of tags units) on
 
 left_over : (sum : ℕ) (entries : List Entry) (rest : List ℕ) → length rest ≤ length (records_text sum (bodies_of entries) ++ rest) - length entries
 left_over sum entries rest = omega (arith, length-append (records_text sum (bodies_of entries)) rest, records_long sum entries)
 
-pub ends_load : (text : List ℕ) (units : List FirstUnit) (entries : List Entry) (ending : Option Why) (torn : Option ℕ) → AreBytes text
-    → Comes text units entries (Ok (Ends ending torn)) → load_at text ≡ Ok (record { log = record { units = units; entries = entries; ending = ending }; torn = torn })
-ends_load text units entries ending torn are it =
-    comes_at text units entries (Ok (Ends ending torn)) it (bytes_front (front_text units entries) it.rest (subst AreBytes it.stand.parts are))
-    ∙ ap (λ (rest : Result Rest KeptFault). loaded_of units (with_entries entries rest))
-    (rest_ends (length (records_text (head_sum units) (bodies_of entries) ++ it.rest) - length entries) (length units) (length entries) it.at
-    (front_sum units entries) it.rest ending torn (left_over (head_sum units) entries it.rest) it.comes)
-    ∙ ap (loaded_of units) (entries_end entries ending torn)
+pub ends_load : (text : List ℕ) (tags : ℕ) (units : List FirstUnit) (entries : List Entry) (ending : Option Why) (torn : Option ℕ) → AreBytes text
+    → Comes text tags units entries (Ok (Ends ending torn)) → load_at text ≡ Ok (record { log = record { tags = tags; units = units; entries = entries; ending = ending }; torn = torn })
+ends_load text tags units entries ending torn are it =
+    comes_at text tags units entries (Ok (Ends ending torn)) it (bytes_front (front_text tags units entries) it.rest (subst AreBytes it.stand.parts are))
+    ∙ ap (λ (rest : Result Rest KeptFault). loaded_of tags units (with_entries entries rest))
+    (rest_ends (length (records_text (head_sum tags units) (bodies_of entries) ++ it.rest) - length entries) (length units) (length entries) it.at
+    (front_sum tags units entries) it.rest ending torn (left_over (head_sum tags units) entries it.rest) it.comes)
+    ∙ ap (loaded_of tags units) (entries_end entries ending torn)
 
-pub faults_load : (text : List ℕ) (units : List FirstUnit) (entries : List Entry) (fault : KeptFault) → AreBytes (front_text units entries)
-    → Comes text units entries (Err fault) → load_at text ≡ Err fault
-faults_load text units entries fault are it =
-    comes_at text units entries (Err fault) it are
-    ∙ ap (λ (rest : Result Rest KeptFault). loaded_of units (with_entries entries rest))
-    (rest_fails (length (records_text (head_sum units) (bodies_of entries) ++ it.rest) - length entries) (length units) (length entries) it.at
-    (front_sum units entries) it.rest fault (left_over (head_sum units) entries it.rest) it.comes)
-    ∙ ap (loaded_of units) (entries_fail entries fault)
+pub faults_load : (text : List ℕ) (tags : ℕ) (units : List FirstUnit) (entries : List Entry) (fault : KeptFault) → AreBytes (front_text tags units entries)
+    → Comes text tags units entries (Err fault) → load_at text ≡ Err fault
+faults_load text tags units entries fault are it =
+    comes_at text tags units entries (Err fault) it are
+    ∙ ap (λ (rest : Result Rest KeptFault). loaded_of tags units (with_entries entries rest))
+    (rest_fails (length (records_text (head_sum tags units) (bodies_of entries) ++ it.rest) - length entries) (length units) (length entries) it.at
+    (front_sum tags units entries) it.rest fault (left_over (head_sum tags units) entries it.rest) it.comes)
+    ∙ ap (loaded_of tags units) (entries_fail entries fault)

@@ -1,5 +1,5 @@
 -- A kept log's steps and replies, step by step, and that they are within the limits of the second version.
-use Rattle.std.proofs.Common.{◌≡◌, ℕ, ◌+◌, ◌^◌, ◌<◌, ◌≤◌, List, [], ◌∷◌, ◌++◌, length, Option, Some, None, refl, sym, ap, ◌∙◌, append_assoc, arith}
+use Rattle.std.proofs.Common.{◌≡◌, ℕ, ◌+◌, ◌^◌, ◌<◌, ◌≤◌, List, [], ◌∷◌, ◌++◌, length, Option, Some, None, refl, sym, ap, ◌∙◌, append_assoc, subst, arith}
 use Rattle.std.specs.Prelude.{option_to_list}
 use Rattle.std.specs.List.{AllByRecursion}
 use Rattle.std.proofs.lemmas.List.{append-nil}
@@ -7,6 +7,7 @@ use Rattle.shared_machine.specs.declared.Step.{Step}
 use Rattle.log_text.specs.declared.SavedReply.{SavedReply}
 use Rattle.log_text.specs.declared.Version.TheVariants.{Second}
 use Rattle.log_text.specs.Text.{IsWithin, ReplyFits, Saved, StepFits}
+use Rattle.uas_profile.specs.Tags.{most_clients}
 use Rattle.kept_log.specs.declared.Entry.{Entry}
 use Rattle.kept_log.specs.declared.Entry.TheVariants.{Acted, Refused}
 use Rattle.kept_log.specs.Form.{AreKeepable, EntryFits, GivenFits, Kept}
@@ -46,10 +47,14 @@ few_replies (Acted step None ∷ rest) = omega (arith, few_replies rest)
 few_replies (Acted step (Some saved) ∷ rest) = omega (arith, few_replies rest)
 few_replies (Refused step number ∷ rest) = omega (arith, few_replies rest)
 
-pub saved_within : (kept : Kept) → AreKeepable kept.units kept.entries → IsWithin (saved_of kept)
-saved_within kept it = record {
+-- of 16 tags there are as many clients as the second version has
+of_sixteen : most_clients 16 ≡ 15
+of_sixteen = refl
+
+pub saved_within : (kept : Kept) → kept.tags ≡ 16 → AreKeepable kept.tags kept.units kept.entries → IsWithin (saved_of kept)
+saved_within kept sixteen it = record {
   some = it.some;
-  most = it.most;
+  most = subst (λ (most : ℕ). length kept.units ≤ most) (ap most_clients sixteen ∙ of_sixteen) it.most;
   units = it.units_fit;
   steps = steps_fit (length kept.units) kept.entries it.entries_fit;
   few_steps = omega (arith, few_steps kept.entries, it.few);

@@ -4,8 +4,8 @@ use Rattle.std.specs.List.{AllByRecursion}
 use Rattle.std.proofs.lemmas.Bool.{eqb-false}
 use Rattle.std.proofs.lemmas.List.{append-nil, length-append, length-drop}
 use Rattle.uas_log.specs.declared.FirstUnit.{FirstUnit}
-use Rattle.log_checksum.specs.Bytes.{AreBytes}
-use Rattle.log_checksum.proofs.Bytes.{bytes_dropped, bytes_taken}
+use Rattle.log_records.specs.checksum.Bytes.{AreBytes}
+use Rattle.log_records.proofs.Bytes.{bytes_dropped, bytes_taken}
 use Rattle.log_records.specs.declared.First.{First}
 use Rattle.log_records.specs.declared.First.TheVariants.{Nothing, Whole, Torn, Wrong}
 use Rattle.log_records.specs.Finding.{behind, body_len, body_of, first_record}
@@ -14,6 +14,7 @@ use Rattle.log_records.proofs.Found.{found_record}
 use Rattle.log_records.proofs.Framing.{body_size}
 use Rattle.log_records.proofs.Growing.{last_sum-append, records-append}
 use Rattle.log_text.specs.declared.LogFault.{LogFault}
+use Rattle.log_text.proofs.TakenLog.{few_clients}
 use Rattle.kept_log.specs.declared.Body.{Body}
 use Rattle.kept_log.specs.declared.Body.TheVariants as bodies
 use Rattle.kept_log.specs.declared.Entry.{Entry}
@@ -113,39 +114,39 @@ not_of_head : (clients count at sum : ℕ) (bytes : List ℕ) → NotOfHead (nex
 unfolding next_at
 not_of_head clients count at sum bytes = first_not_of_head clients count at bytes (first_record sum bytes)
 
-pub comes_there : (text : List ℕ) (units : List FirstUnit) (entries : List Entry) (at sum : ℕ) (rest : List ℕ) (next : Result Next KeptFault)
-    → StandsIn text units entries at rest → sum ≡ front_sum units entries → next_at (length units) (length entries) at sum rest ≡ next
-    → Comes text units entries next
-comes_there text units entries at sum rest next stand right e =
+pub comes_there : (text : List ℕ) (tags : ℕ) (units : List FirstUnit) (entries : List Entry) (at sum : ℕ) (rest : List ℕ) (next : Result Next KeptFault)
+    → StandsIn text tags units entries at rest → sum ≡ front_sum tags units entries → next_at (length units) (length entries) at sum rest ≡ next
+    → Comes text tags units entries next
+comes_there text tags units entries at sum rest next stand right e =
     record { at = at; rest = rest; stand = stand; comes = ap (λ n. next_at (length units) (length entries) at n rest) (sym right) ∙ e }
 
-stops : (text : List ℕ) (units : List FirstUnit) (entries : List Entry) (at sum : ℕ) (rest : List ℕ) (fault : KeptFault)
-    → StandsIn text units entries at rest → sum ≡ front_sum units entries → next_at (length units) (length entries) at sum rest ≡ Err fault
+stops : (text : List ℕ) (tags : ℕ) (units : List FirstUnit) (entries : List Entry) (at sum : ℕ) (rest : List ℕ) (fault : KeptFault)
+    → StandsIn text tags units entries at rest → sum ≡ front_sum tags units entries → next_at (length units) (length entries) at sum rest ≡ Err fault
     → Stops text fault
-stops text units entries at sum rest fault stand right e =
-    record { units = units; entries = entries; stops = comes_there text units entries at sum rest (Err fault) stand right e }
+stops text tags units entries at sum rest fault stand right e =
+    record { tags = tags; units = units; entries = entries; stops = comes_there text tags units entries at sum rest (Err fault) stand right e }
 
 -- the end of a log, or of what there is of it
-pub loaded_there : (text : List ℕ) (at sum : ℕ) (rest : List ℕ) (loaded : Loaded) → StandsIn text loaded.log.units loaded.log.entries at rest
-    → sum ≡ front_sum loaded.log.units loaded.log.entries
+pub loaded_there : (text : List ℕ) (at sum : ℕ) (rest : List ℕ) (loaded : Loaded) → StandsIn text loaded.log.tags loaded.log.units loaded.log.entries at rest
+    → sum ≡ front_sum loaded.log.tags loaded.log.units loaded.log.entries
     → next_at (length loaded.log.units) (length loaded.log.entries) at sum rest ≡ Ok (Ends loaded.log.ending loaded.torn) → IsLoaded text loaded
 loaded_there text at sum rest loaded stand right e =
-    record { whole = comes_there text loaded.log.units loaded.log.entries at sum rest (Ok (Ends loaded.log.ending loaded.torn)) stand right e }
+    record { whole = comes_there text loaded.log.tags loaded.log.units loaded.log.entries at sum rest (Ok (Ends loaded.log.ending loaded.torn)) stand right e }
 
 -- a fault that comes is one of the text
-pub refused_there : (text : List ℕ) (units : List FirstUnit) (entries : List Entry) (at sum : ℕ) (rest : List ℕ) (fault : KeptFault)
-    → StandsIn text units entries at rest → sum ≡ front_sum units entries → IsNext (Err fault) (next_at (length units) (length entries) at sum rest)
+pub refused_there : (text : List ℕ) (tags : ℕ) (units : List FirstUnit) (entries : List Entry) (at sum : ℕ) (rest : List ℕ) (fault : KeptFault)
+    → StandsIn text tags units entries at rest → sum ≡ front_sum tags units entries → IsNext (Err fault) (next_at (length units) (length entries) at sum rest)
     → IsRefusedBy text fault
-refused_there text units entries at sum rest (faults.Head fault) stand right e =
+refused_there text tags units entries at sum rest (faults.Head fault) stand right e =
     absurd (subst NotOfHead e (not_of_head (length units) (length entries) at sum rest))
-refused_there text units entries at sum rest faults.HeadSum stand right e =
+refused_there text tags units entries at sum rest faults.HeadSum stand right e =
     absurd (subst NotOfHead e (not_of_head (length units) (length entries) at sum rest))
-refused_there text units entries at sum rest (WrongRecord place) stand right e = stops text units entries at sum rest (WrongRecord place) stand right e
-refused_there text units entries at sum rest (BadBody place) stand right e = stops text units entries at sum rest (BadBody place) stand right e
-refused_there text units entries at sum rest (TooMany place) stand right e = stops text units entries at sum rest (TooMany place) stand right e
-refused_there text units entries at sum rest (WrongCount place) stand right e = stops text units entries at sum rest (WrongCount place) stand right e
-refused_there text units entries at sum rest (BehindEnd place) stand right e = stops text units entries at sum rest (BehindEnd place) stand right e
-refused_there text units entries at sum rest faults.NoMemory stand right e = tt
+refused_there text tags units entries at sum rest (WrongRecord place) stand right e = stops text tags units entries at sum rest (WrongRecord place) stand right e
+refused_there text tags units entries at sum rest (BadBody place) stand right e = stops text tags units entries at sum rest (BadBody place) stand right e
+refused_there text tags units entries at sum rest (TooMany place) stand right e = stops text tags units entries at sum rest (TooMany place) stand right e
+refused_there text tags units entries at sum rest (WrongCount place) stand right e = stops text tags units entries at sum rest (WrongCount place) stand right e
+refused_there text tags units entries at sum rest (BehindEnd place) stand right e = stops text tags units entries at sum rest (BehindEnd place) stand right e
+refused_there text tags units entries at sum rest faults.NoMemory stand right e = tt
 
 -- ONE STEP MORE
 
@@ -157,48 +158,49 @@ all_more : (holds : Entry → Type 0) (entries : List Entry) (entry : Entry) →
 all_more holds [] entry all one = (one, tt)
 all_more holds (first ∷ rest) entry all one = (all.0, all_more holds rest entry all.1 one)
 
-pub sum_more : (units : List FirstUnit) (entries : List Entry) (entry : Entry) → front_sum units (entries ++ entry ∷ []) ≡ sum_after (front_sum units entries) (entry_text entry)
-sum_more units entries entry =
-    ap (last_sum (head_sum units)) (map_more entries entry) ∙ last_sum-append (head_sum units) (map entry_text entries) (entry_text entry ∷ [])
+pub sum_more : (tags : ℕ) (units : List FirstUnit) (entries : List Entry) (entry : Entry) → front_sum tags units (entries ++ entry ∷ []) ≡ sum_after (front_sum tags units entries) (entry_text entry)
+sum_more tags units entries entry =
+    ap (last_sum (head_sum tags units)) (map_more entries entry) ∙ last_sum-append (head_sum tags units) (map entry_text entries) (entry_text entry ∷ [])
 
-pub text_more : (units : List FirstUnit) (entries : List Entry) (entry : Entry)
-    → front_text units (entries ++ entry ∷ []) ≡ front_text units entries ++ record_text (front_sum units entries) (entry_text entry)
-text_more units entries entry =
-    let records : records_text (head_sum units) (map entry_text (entries ++ entry ∷ [])) ≡
-    records_text (head_sum units) (map entry_text entries) ++ record_text (front_sum units entries) (entry_text entry) =
-    ap (records_text (head_sum units)) (map_more entries entry) ∙ records-append (head_sum units) (map entry_text entries) (entry_text entry ∷ [])
-    ∙ ap (λ (back : List ℕ). records_text (head_sum units) (map entry_text entries) ++ back) (append-nil (record_text (front_sum units entries) (entry_text entry))) in
-    ap (λ (back : List ℕ). head_text units ++ back) records
-    ∙ sym (append_assoc (head_text units) (records_text (head_sum units) (map entry_text entries)) (record_text (front_sum units entries) (entry_text entry)))
+pub text_more : (tags : ℕ) (units : List FirstUnit) (entries : List Entry) (entry : Entry)
+    → front_text tags units (entries ++ entry ∷ []) ≡ front_text tags units entries ++ record_text (front_sum tags units entries) (entry_text entry)
+text_more tags units entries entry =
+    let records : records_text (head_sum tags units) (map entry_text (entries ++ entry ∷ [])) ≡
+    records_text (head_sum tags units) (map entry_text entries) ++ record_text (front_sum tags units entries) (entry_text entry) =
+    ap (records_text (head_sum tags units)) (map_more entries entry) ∙ records-append (head_sum tags units) (map entry_text entries) (entry_text entry ∷ [])
+    ∙ ap (λ (back : List ℕ). records_text (head_sum tags units) (map entry_text entries) ++ back) (append-nil (record_text (front_sum tags units entries) (entry_text entry))) in
+    ap (λ (back : List ℕ). head_text tags units ++ back) records
+    ∙ sym (append_assoc (head_text tags units) (records_text (head_sum tags units) (map entry_text entries)) (record_text (front_sum tags units entries) (entry_text entry)))
 
-pub record HasOneMore (text : List ℕ) (units : List FirstUnit) (entries : List Entry) (at : ℕ) (rest : List ℕ) (after : ℕ) : Type 0 where
-  pub stand : StandsIn text units entries at rest
-  pub sum : after ≡ front_sum units entries
+pub record HasOneMore (text : List ℕ) (tags : ℕ) (units : List FirstUnit) (entries : List Entry) (at : ℕ) (rest : List ℕ) (after : ℕ) : Type 0 where
+  pub stand : StandsIn text tags units entries at rest
+  pub sum : after ≡ front_sum tags units entries
 
 -- a step that comes is one more
-pub one_more : (text : List ℕ) (units : List FirstUnit) (entries : List Entry) (at : ℕ) (rest : List ℕ) (sum len after : ℕ) (entry : Entry) → AreBytes rest
-    → StandsIn text units entries at rest → sum ≡ front_sum units entries → next_at (length units) (length entries) at sum rest ≡ Ok (Goes entry len after)
-    → HasOneMore text units (entries ++ entry ∷ []) (length text - length (drop (8 + len) rest)) (drop (8 + len) rest) after
-one_more text units entries at rest sum len after entry are stand right e =
+pub one_more : (text : List ℕ) (tags : ℕ) (units : List FirstUnit) (entries : List Entry) (at : ℕ) (rest : List ℕ) (sum len after : ℕ) (entry : Entry) → AreBytes rest
+    → StandsIn text tags units entries at rest → sum ≡ front_sum tags units entries → next_at (length units) (length entries) at sum rest ≡ Ok (Goes entry len after)
+    → HasOneMore text tags units (entries ++ entry ∷ []) (length text - length (drop (8 + len) rest)) (drop (8 + len) rest) after
+one_more text tags units entries at rest sum len after entry are stand right e =
     let goes = next_goes (length units) (length entries) at len after sum rest entry e in
     let at_front = found_record sum rest len after are goes.found in
     let keepable = stand.keepable in
-    let body = body_taken (length units) (body_of rest) (bodies.Step entry) keepable.some (omega (arith, keepable.most))
+    let body = body_taken (length units) (body_of rest) (bodies.Step entry) keepable.some (omega (arith, keepable.most, few_clients tags))
     (bytes_taken (body_len rest) (drop 4 rest) (bytes_dropped 4 rest are)) goes.body in
     let long : len ≡ body_len rest = sym at_front.len_is ∙ body_size rest at_front.long in
     let back : behind rest ≡ drop (8 + len) rest = ap (λ n. drop (8 + n) rest) (sym long) in
-    let parts : rest ≡ record_text (front_sum units entries) (entry_text entry) ++ drop (8 + len) rest =
+    let parts : rest ≡ record_text (front_sum tags units entries) (entry_text entry) ++ drop (8 + len) rest =
     at_front.text ∙ ap (λ (text : List ℕ). record_text sum text ++ behind rest) body.text_is
-    ∙ ap (λ n. record_text n (entry_text entry) ++ behind rest) right ∙ ap (λ (more : List ℕ). record_text (front_sum units entries) (entry_text entry) ++ more) back in
-    let whole : text ≡ front_text units (entries ++ entry ∷ []) ++ drop (8 + len) rest =
-    stand.parts ∙ ap (λ (more : List ℕ). front_text units entries ++ more) parts
-    ∙ sym (append_assoc (front_text units entries) (record_text (front_sum units entries) (entry_text entry)) (drop (8 + len) rest))
-    ∙ ap (λ (front : List ℕ). front ++ drop (8 + len) rest) (sym (text_more units entries entry)) in
+    ∙ ap (λ n. record_text n (entry_text entry) ++ behind rest) right ∙ ap (λ (more : List ℕ). record_text (front_sum tags units entries) (entry_text entry) ++ more) back in
+    let whole : text ≡ front_text tags units (entries ++ entry ∷ []) ++ drop (8 + len) rest =
+    stand.parts ∙ ap (λ (more : List ℕ). front_text tags units entries ++ more) parts
+    ∙ sym (append_assoc (front_text tags units entries) (record_text (front_sum tags units entries) (entry_text entry)) (drop (8 + len) rest))
+    ∙ ap (λ (front : List ℕ). front ++ drop (8 + len) rest) (sym (text_more tags units entries entry)) in
     record {
       stand = record {
         parts = whole;
         place = omega (arith, stand.place, length-drop (8 + len) rest);
         keepable = record {
+          are_tags = keepable.are_tags;
           some = keepable.some;
           most = keepable.most;
           units_fit = keepable.units_fit;
@@ -206,5 +208,5 @@ one_more text units entries at rest sum len after entry are stand right e =
           few = omega (arith, length-append entries (entry ∷ []), keepable.few, eqb-false (length entries) 0xffffffff goes.few);
         };
       };
-      sum = at_front.sum_is ∙ ap (sum_after sum) body.text_is ∙ ap (λ n. sum_after n (entry_text entry)) right ∙ sym (sum_more units entries entry);
+      sum = at_front.sum_is ∙ ap (sum_after sum) body.text_is ∙ ap (λ n. sum_after n (entry_text entry)) right ∙ sym (sum_more tags units entries entry);
     }

@@ -1,14 +1,8 @@
--- What fits a client of the profile fits the writers of fields, which take more clients.
-use Rattle.std.proofs.Common.{[], ◌∷◌, arith}
-use Rattle.uas_profile.specs.declared.TheConstants.{MAX_CLIENTS}
-use Rattle.shared_machine.specs.declared.Step.{Step}
-use Rattle.log_text.specs.declared.SavedReply.{SavedReply}
-use Rattle.log_text.specs.declared.Version.TheVariants.{Second}
-use Rattle.log_text.specs.Text.{ReplyFits, StepFits}
-use Rattle.log_text.proofs.Keeping.{replies_wider, steps_wider}
+-- However many tags each client has, there are few enough clients for the writers of fields.
+use Rattle.std.proofs.Common.{ℕ, ◌≤◌, List, length, arith}
+use Rattle.uas_log.specs.declared.FirstUnit.{FirstUnit}
+use Rattle.uas_profile.specs.Tags.{most_clients}
+use Rattle.log_text.proofs.TakenLog.{few_clients}
 
-pub step_fits_wider : (step : Step) → StepFits Second MAX_CLIENTS step → StepFits Second 31 step
-step_fits_wider step fits = (steps_wider Second MAX_CLIENTS 31 (step ∷ []) (omega arith) (fits, tt)).0
-
-pub reply_fits_wider : (saved : SavedReply) → ReplyFits MAX_CLIENTS saved → ReplyFits 31 saved
-reply_fits_wider saved fits = (replies_wider MAX_CLIENTS 31 (saved ∷ []) (omega arith) (fits, tt)).0
+pub units_few : (tags : ℕ) (units : List FirstUnit) → length units ≤ most_clients tags → length units ≤ 31
+units_few tags units few = omega (arith, few, few_clients tags)

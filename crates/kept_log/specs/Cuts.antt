@@ -15,13 +15,13 @@ whole_in size (entry ∷ rest) =
 
 -- the steps of a log whose records are whole in the first bytes of its text
 abbrev pub whole_steps : ℕ → Kept → List Entry
-whole_steps size kept = whole_in (size - length (head_text kept.units)) kept.entries
+whole_steps size kept = whole_in (size - length (head_text kept.tags kept.units)) kept.entries
 
 -- A beginning of the log: these steps, and torn where the next record begins; cut between two records it isn't torn.
 abbrev pub cut_log : ℕ → Kept → Loaded
 cut_log size kept = record {
-  log = record { units = kept.units; entries = whole_steps size kept; ending = None };
-  torn = if size == length (front_text kept.units (whole_steps size kept)) then None else Some (length (front_text kept.units (whole_steps size kept)));
+  log = record { tags = kept.tags; units = kept.units; entries = whole_steps size kept; ending = None };
+  torn = if size == length (front_text kept.tags kept.units (whole_steps size kept)) then None else Some (length (front_text kept.tags kept.units (whole_steps size kept)));
 }
 
 -- a text whose head was cut off: it is refused for its head

@@ -3,35 +3,37 @@ use Rattle.std.specs.Prelude.{◌≡◌, ℕ, ◌^◌, ◌<◌, ◌≤◌, Bool,
 use Rattle.std.specs.List.{flat_map, AllByRecursion}
 use Rattle.shared_machine.specs.declared.Step.{Step}
 use Rattle.shared_machine.specs.declared.Step.TheVariants as steps
-use Rattle.uas_profile.specs.declared.TheConstants.{MAX_CLIENTS}
+use Rattle.uas_profile.specs.Tags.{AreTags}
 use Rattle.uas_log.specs.declared.FirstUnit.{FirstUnit}
-use Rattle.log_checksum.specs.Division.{crc32c_of}
+use Rattle.log_records.specs.checksum.Division.{crc32c_of}
 use Rattle.log_records.specs.Records.{last_sum, records_text}
 use Rattle.log_text.specs.declared.SavedReply.{SavedReply}
 use Rattle.log_text.specs.declared.Version.TheVariants.{Second}
 use Rattle.log_text.specs.Text.{ReplyFits, StepFits, UnitFits, field, reply_text, step_text, unit_text}
+use Rattle.uas_profile.specs.Tags.{most_clients}
 use Rattle.kept_log.specs.declared.Entry.{Entry}
 use Rattle.kept_log.specs.declared.Entry.TheVariants.{Acted, Refused}
 use Rattle.kept_log.specs.declared.Why.{Why}
 use Rattle.kept_log.specs.declared.Why.TheVariants as why
 
--- a log as its text tells it: its steps, refused ones too, and why it ended, where it did
+-- a log as its text tells it: how many tags each client has, the units, the steps, refused ones too, and why it ended, where it did
 pub record Kept : Type 0 where
+  pub tags : ℕ
   pub units : List FirstUnit
   pub entries : List Entry
   pub ending : Option Why
 
 -- THE HEAD
 
--- name, version 3, the number of tags of a client, and the units behind their count
-abbrev pub head_front : List FirstUnit → List ℕ
-head_front units = codes "UASLOG" ++ field 2 3 ++ field 1 16 ++ (field 1 (length units) ++ flat_map unit_text units)
+-- name, version 3, how many tags each client has, and the units behind their count
+abbrev pub head_front : ℕ → List FirstUnit → List ℕ
+head_front tags units = codes "UASLOG" ++ field 2 3 ++ field 1 tags ++ (field 1 (length units) ++ flat_map unit_text units)
 
-abbrev pub head_sum : List FirstUnit → ℕ
-head_sum units = crc32c_of (head_front units)
+abbrev pub head_sum : ℕ → List FirstUnit → ℕ
+head_sum tags units = crc32c_of (head_front tags units)
 
-abbrev pub head_text : List FirstUnit → List ℕ
-head_text units = head_front units ++ field 4 (head_sum units)
+abbrev pub head_text : ℕ → List FirstUnit → List ℕ
+head_text tags units = head_front tags units ++ field 4 (head_sum tags units)
 
 -- THE BODIES OF RECORDS
 
@@ -62,15 +64,17 @@ end_bodies count (Some reason) = end_text count reason ∷ []
 -- THE WHOLE
 
 -- the head and the records of these entries
-abbrev pub front_text : List FirstUnit → List Entry → List ℕ
-front_text units entries = head_text units ++ records_text (head_sum units) (map entry_text entries)
+abbrev pub front_text : ℕ → List FirstUnit → List Entry → List ℕ
+front_text tags units entries = head_text tags units ++ records_text (head_sum tags units) (map entry_text entries)
 
 -- the last checksum of them
-abbrev pub front_sum : List FirstUnit → List Entry → ℕ
-front_sum units entries = last_sum (head_sum units) (map entry_text entries)
+abbrev pub front_sum : ℕ → List FirstUnit → List Entry → ℕ
+front_sum tags units entries = last_sum (head_sum tags units) (map entry_text entries)
 
 abbrev pub kept_text : Kept → List ℕ
-kept_text kept = front_text kept.units kept.entries ++ records_text (front_sum kept.units kept.entries) (end_bodies (length kept.entries) kept.ending)
+kept_text kept =
+    front_text kept.tags kept.units kept.entries
+    ++ records_text (front_sum kept.tags kept.units kept.entries) (end_bodies (length kept.entries) kept.ending)
 
 -- LIMITS
 
@@ -95,9 +99,10 @@ EntryFits clients (Acted step given) = StepFits Second clients step × GivenFits
 EntryFits clients (Refused step number) = StepFits Second clients step × (1 ≤ number) × (number < 2 ^ 8)
 
 -- the parts of a log that has a text
-pub record AreKeepable (units : List FirstUnit) (entries : List Entry) : Type 0 where
+pub record AreKeepable (tags : ℕ) (units : List FirstUnit) (entries : List Entry) : Type 0 where
+  pub are_tags : AreTags tags
   pub some : 1 ≤ length units
-  pub most : length units ≤ MAX_CLIENTS
+  pub most : length units ≤ most_clients tags
   pub units_fit : AllByRecursion UnitFits units
   pub entries_fit : AllByRecursion (EntryFits (length units)) entries
   pub few : length entries < 2 ^ 32

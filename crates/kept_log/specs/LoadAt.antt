@@ -11,7 +11,7 @@ use Rattle.kept_log.specs.declared.Next.TheVariants.{Goes, Ends}
 use Rattle.kept_log.specs.declared.Why.{Why}
 use Rattle.kept_log.specs.Form.{head_sum}
 use Rattle.kept_log.specs.Loading.{next_at}
-use Rattle.kept_log.specs.Reading.{head_at}
+use Rattle.kept_log.specs.Reading.{ReadHead, head_at}
 
 -- what stands behind a place: more steps, why the log ended, and where the beginning of a record stands that was cut off
 pub record Rest : Type 0 where
@@ -34,16 +34,16 @@ unfoldable pub rest_at : ℕ → ℕ → ℕ → ℕ → ℕ → List ℕ → Re
 rest_at zero clients count at sum bytes = Ok (record { entries = []; ending = None; torn = None })
 rest_at (suc most) clients count at sum bytes = then_read (rest_at most clients (suc count)) at bytes (next_at clients count at sum bytes)
 
-abbrev pub loaded_of : List FirstUnit → Result Rest KeptFault → Result Loaded KeptFault
-loaded_of units (Err fault) = Err fault
-loaded_of units (Ok rest) = Ok (record { log = record { units = units; entries = rest.entries; ending = rest.ending }; torn = rest.torn })
+abbrev pub loaded_of : ℕ → List FirstUnit → Result Rest KeptFault → Result Loaded KeptFault
+loaded_of tags units (Err fault) = Err fault
+loaded_of tags units (Ok rest) = Ok (record { log = record { tags = tags; units = units; entries = rest.entries; ending = rest.ending }; torn = rest.torn })
 
 -- behind a head whose checksum is right
-abbrev pub behind_head : List ℕ → Result ((List FirstUnit × ℕ) × List ℕ) LogFault → Result Loaded KeptFault
+abbrev pub behind_head : List ℕ → Result (ReadHead × List ℕ) LogFault → Result Loaded KeptFault
 behind_head text (Err fault) = Err (Head fault)
 behind_head text (Ok read) =
-    if read.0.1 == head_sum read.0.0
-    then loaded_of read.0.0 (rest_at (length read.1) (length read.0.0) 0 (length text - length read.1) read.0.1 read.1)
+    if read.0.sum == head_sum read.0.tags read.0.units
+    then loaded_of read.0.tags read.0.units (rest_at (length read.1) (length read.0.units) 0 (length text - length read.1) read.0.sum read.1)
     else Err HeadSum
 
 unfoldable pub load_at : List ℕ → Result Loaded KeptFault

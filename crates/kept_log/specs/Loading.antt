@@ -14,7 +14,7 @@ use Rattle.kept_log.specs.declared.Loaded.{Loaded}
 use Rattle.kept_log.specs.declared.Next.{Next}
 use Rattle.kept_log.specs.declared.Next.TheVariants.{Goes, Ends}
 use Rattle.kept_log.specs.Form.{AreKeepable, Kept, front_sum, front_text, head_sum, kept_text}
-use Rattle.kept_log.specs.Reading.{body_at, head_at}
+use Rattle.kept_log.specs.Reading.{ReadHead, body_at, head_at}
 
 -- ONE RECORD MORE
 
@@ -60,33 +60,34 @@ EndsIn bytes (Ends reason torn) = Unit {0}
 -- THE WHOLE
 
 -- The head and the records of these entries stand at the front of a text. This stands behind them, at this place.
-pub record StandsIn (text : List ℕ) (units : List FirstUnit) (entries : List Entry) (at : ℕ) (rest : List ℕ) : Type 0 where
-  pub parts : text ≡ front_text units entries ++ rest
+pub record StandsIn (text : List ℕ) (tags : ℕ) (units : List FirstUnit) (entries : List Entry) (at : ℕ) (rest : List ℕ) : Type 0 where
+  pub parts : text ≡ front_text tags units entries ++ rest
   pub place : at + length rest ≡ length text
-  pub keepable : AreKeepable units entries
+  pub keepable : AreKeepable tags units entries
 
 -- At a place behind the records of these entries this comes.
-pub record Comes (text : List ℕ) (units : List FirstUnit) (entries : List Entry) (next : Result Next KeptFault) : Type 0 where
+pub record Comes (text : List ℕ) (tags : ℕ) (units : List FirstUnit) (entries : List Entry) (next : Result Next KeptFault) : Type 0 where
   pub at : ℕ
   pub rest : List ℕ
-  pub stand : StandsIn text units entries at rest
-  pub comes : next_at (length units) (length entries) at (front_sum units entries) rest ≡ next
+  pub stand : StandsIn text tags units entries at rest
+  pub comes : next_at (length units) (length entries) at (front_sum tags units entries) rest ≡ next
 
 -- A text is loaded: the records at its front are the log's, up to the end, or up to a torn one.
 pub record IsLoaded (text : List ℕ) (loaded : Loaded) : Type 0 where
-  pub whole : Comes text loaded.log.units loaded.log.entries (Ok (Ends loaded.log.ending loaded.torn))
+  pub whole : Comes text loaded.log.tags loaded.log.units loaded.log.entries (Ok (Ends loaded.log.ending loaded.torn))
 
 -- Something comes that can't be behind the records at the front.
 pub record Stops (text : List ℕ) (fault : KeptFault) : Type 0 where
+  pub tags : ℕ
   pub units : List FirstUnit
   pub entries : List Entry
-  pub stops : Comes text units entries (Err fault)
+  pub stops : Comes text tags units entries (Err fault)
 
 -- a head whose checksum is wrong
 pub record HasOtherSum (text : List ℕ) : Type 0 where
-  pub read : (List FirstUnit × ℕ) × List ℕ
+  pub read : ReadHead × List ℕ
   pub head : head_at text ≡ Ok read
-  pub other : read.0.1 ≡ head_sum read.0.0 → ⊥
+  pub other : read.0.sum ≡ head_sum read.0.tags read.0.units → ⊥
 
 -- what is wrong with a text
 abbrev pub IsRefusedBy : List ℕ → KeptFault → Type 0
@@ -104,11 +105,11 @@ IsRefusedBy text NoMemory = Unit {0}
 -- what a text has behind a log's: nothing, or at a place behind a log without an end a beginning of a record
 abbrev pub IsLeft : Kept → Option ℕ → List ℕ → Type 0
 IsLeft log None rest = rest ≡ []
-IsLeft log (Some at) rest = (log.ending ≡ None) × (at ≡ length (kept_text log)) × (first_record (front_sum log.units log.entries) rest ≡ Torn)
+IsLeft log (Some at) rest = (log.ending ≡ None) × (at ≡ length (kept_text log)) × (first_record (front_sum log.tags log.units log.entries) rest ≡ Torn)
 
 -- A text is a log's: its head, a record for each step and the end, where it has one; and what a cut has left behind them.
 pub record IsKept (log : Kept) (torn : Option ℕ) (text : List ℕ) : Type 0 where
   pub rest : List ℕ
   pub parts : text ≡ kept_text log ++ rest
   pub left : IsLeft log torn rest
-  pub keepable : AreKeepable log.units log.entries
+  pub keepable : AreKeepable log.tags log.units log.entries

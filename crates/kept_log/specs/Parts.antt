@@ -2,7 +2,7 @@
 use Rattle.std.specs.Prelude.{◌≡◌, ℕ, ◌==◌, if◌then◌else◌, Bool, IsTrue, List, ◌++◌, Option, Some, None, IfSome, Ok, Err}
 use Rattle.std.specs.Io.KnownBytes.{Consumes, IsAtEnd}
 use Rattle.byte_io.specs.declared.StreamFault.TheVariants.{File, NoMemory}
-use Rattle.log_checksum.specs.Bytes.{AreBytes}
+use Rattle.log_records.specs.checksum.Bytes.{AreBytes}
 use Rattle.log_records.specs.declared.First.{First}
 use Rattle.log_records.specs.declared.First.TheVariants.{Nothing, Whole, Torn, Wrong}
 use Rattle.uas_log.specs.declared.FirstUnit.{FirstUnit}
@@ -55,12 +55,12 @@ pub record Reads (old new : Option (List ℕ)) (window : List ℕ) (shown : Show
 
 -- The head and the records of these entries stand at the front of what was seen of a text: these bytes, and more that a source lost. The
 -- window has what stands behind them, and `sum` is the last checksum.
-pub record HasTaken (seen : List ℕ) (old new : Option (List ℕ)) (units : List FirstUnit) (entries : List Entry) (at sum : ℕ) (shown : Shown) : Type 0 where
+pub record HasTaken (seen : List ℕ) (old new : Option (List ℕ)) (tags : ℕ) (units : List FirstUnit) (entries : List Entry) (at sum : ℕ) (shown : Shown) : Type 0 where
   pub more : List ℕ
   pub are : AreBytes (seen ++ more)
   pub consumed : Consumes old new more
-  pub stand : StandsIn (seen ++ more) units entries at shown.bytes
-  pub sum_is : sum ≡ front_sum units entries
+  pub stand : StandsIn (seen ++ more) tags units entries at shown.bytes
+  pub sum_is : sum ≡ front_sum tags units entries
   pub ended : IsTrue shown.has_ended → IsAtEnd new
 
 -- THE CHECKSUM

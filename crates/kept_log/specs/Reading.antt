@@ -4,7 +4,9 @@ use Rattle.shared_machine.specs.declared.Step as machine
 use Rattle.uas_log.specs.declared.FirstUnit.{FirstUnit}
 use Rattle.log_text.specs.declared.LogFault.{LogFault}
 use Rattle.log_text.specs.declared.LogFault.TheVariants.{BadHeader, TrailingBytes}
+use Rattle.uas_profile.specs.declared.TheConstants.{LEAST_TAGS, MOST_TAGS}
 use Rattle.log_text.specs.declared.Version.TheVariants.{Second}
+use Rattle.uas_profile.specs.Tags.{most_clients}
 use Rattle.log_text.specs.Reading.{◌>>=◌, field_at, name_number, number_at, reply_at, step_at, units_at}
 use Rattle.kept_log.specs.declared.Body.{Body}
 use Rattle.kept_log.specs.declared.Body.TheVariants.{Step, End}
@@ -13,15 +15,21 @@ use Rattle.kept_log.specs.declared.Why.{Why}
 use Rattle.kept_log.specs.declared.Why.TheVariants as why
 use Rattle.kept_log.specs.Form.{is_take}
 
--- the units and the checksum of a head, and the bytes behind it
-unfoldable pub head_at : List ℕ → Result ((List FirstUnit × ℕ) × List ℕ) LogFault
+-- what a head says: how many tags each client has, the units, and its checksum
+pub record ReadHead : Type 0 where
+  pub tags : ℕ
+  pub units : List FirstUnit
+  pub sum : ℕ
+
+-- what a head says, and the bytes behind it; there are at most as many clients as can have so many tags
+unfoldable pub head_at : List ℕ → Result (ReadHead × List ℕ) LogFault
 head_at bytes = do
   name ← number_at BadHeader 6 name_number name_number bytes
   version ← number_at BadHeader 2 3 3 name.1
-  tags ← number_at BadHeader 1 16 16 version.1
-  units ← units_at Second tags.1
+  tags ← number_at BadHeader 1 LEAST_TAGS MOST_TAGS version.1
+  units ← units_at (most_clients tags.0) tags.1
   sum ← field_at 4 0 0xffffffff units.1
-  Ok ((units.0, sum.0), sum.1)
+  Ok (record { tags = tags.0; units = units.0; sum = sum.0 }, sum.1)
 
 -- the reply that a Take gave
 unfoldable pub given_at : ℕ → machine.Step → List ℕ → Result Body LogFault

@@ -20,6 +20,6 @@ given_replies [] = []
 given_replies (Acted step given ∷ rest) = option_to_list given ++ given_replies rest
 given_replies (Refused step number ∷ rest) = given_replies rest
 
--- a log without its refused steps, as the second version has it
+-- a log without its refused steps, as the second version has one of clients of 16 tags
 abbrev pub saved_of : Kept → Saved
 saved_of kept = record { version = Second; units = kept.units; steps = acted_steps kept.entries; replies = given_replies kept.entries }

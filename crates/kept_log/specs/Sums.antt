@@ -22,7 +22,7 @@ steps_up_to steps place = if nat_le place steps then place else steps
 
 -- How many steps stand in a log up to the first checksum that is this one: none up to its head's.
 abbrev pub step_of_sum : ℕ → Kept → Option ℕ
-step_of_sum wanted kept = option_map (steps_up_to (length kept.entries)) (place_of wanted (head_sum kept.units) (bodies_of kept))
+step_of_sum wanted kept = option_map (steps_up_to (length kept.entries)) (place_of wanted (head_sum kept.tags kept.units) (bodies_of kept))
 
 -- and in the log of a text, where it has one
 abbrev pub step_of_loaded : ℕ → Result Loaded KeptFault → Option ℕ

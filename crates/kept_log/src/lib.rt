@@ -5,11 +5,13 @@
 //! those before has written the text of a longer log, and a text that is cut off somewhere is the text of a beginning.
 //!
 //! ```text
-//!     UASLOG, 3 (2), 16 (1), clients (1)   of each client its unit   CRC-32C (4)
+//!     UASLOG, 3 (2), tags (1), clients (1)   of each client its unit   CRC-32C (4)
 //!     length (4)   1, a step, and the reply that it gave         CRC-32C (4)
 //!     length (4)   2, a refused step, its refusal's number (1)   CRC-32C (4)
 //!     length (4)   3, the number of steps (8), why it ended (1)  CRC-32C (4)
 //! ```
+//!
+//! *tags* is how many tags each client has, 2 to 16, and there are as many clients at most as can have so many (`most_clients` of uas_profile).
 //!
 //! [`load`] reads one: the longest whole prefix of its records, up to the end or up to a torn record, of which it tells the place; or what is
 //! wrong with it (`load_at` in specs/LoadAt.antt). So what is written loads ([`kept_logs_load`]), and what is left of it where a write was
@@ -69,6 +71,7 @@ pub enum Why {
 /// A log as its text tells it: within the limits of the form (`AreKeepable` in specs/Form.antt), so that it has a text.
 #[derive(Debug, Drop)]
 pub struct KeptLog {
+    tags: usize,
     units: FirstUnits,
     entries: Entries,
     ending: Option<Why>,
@@ -79,9 +82,9 @@ impl Model for KeptLog {
 
     ghost Value = { Kept };
 
-    ghost view = { λ log. record { units = log.units; entries = log.entries; ending = log.ending } };
+    ghost view = { λ log. record { tags = log.tags; units = log.units; entries = log.entries; ending = log.ending } };
 
-    ghost invariant = { λ log. AreKeepable log.units log.entries };
+    ghost invariant = { λ log. AreKeepable log.tags log.units log.entries };
 }
 
 /// What a text has.
@@ -117,6 +120,15 @@ pub enum KeptFault {
     WrongCount(usize),
     #[error("bytes stand behind the end at byte {0}")]
     BehindEnd(usize),
+    #[error("no memory for the log")]
+    NoMemory,
+}
+
+/// Why a log has no saved form.
+#[derive(Clone, Copy, Debug, PartialEq, Eq, Error)]
+pub enum SavedFault {
+    #[error("clients of another number of tags than 16")]
+    OtherTags = 1,
     #[error("no memory for the log")]
     NoMemory,
 }

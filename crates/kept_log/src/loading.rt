@@ -43,15 +43,17 @@ pub fn load(alloc: Global, text: &[u8]) -> Result<Loaded, KeptFault>
 
 /// The log of these parts; takes no memory.
 pub(crate) fn made(
+    tags: usize,
     units: Vec<FirstUnit>,
     entries: Vec<Entry>,
     ending: Option<Why>,
     torn: Option<usize>,
 ) -> Loaded
-    requires { AreKeepable units.items entries.items }
-    ensures { result ≡ record { log = record { units = units.items; entries = entries.items; ending = ending }; torn = torn } }
+    requires { AreKeepable tags units.items entries.items }
+    ensures { result ≡ record { log = record { tags = tags; units = units.items; entries = entries.items; ending = ending }; torn = torn } }
 {
     let log = KeptLog {
+        tags,
         units: FirstUnits::from_vec(units),
         entries: Entries::from_vec(entries),
         ending,

@@ -1,7 +1,7 @@
 //! A log from a text that comes in parts.
 ghost use Rattle.std.specs.Prelude.{◌≡◌, ◌+◌, ◌≤◌, ◌<◌, ◌^◌, ◌++◌, [], IfErr, IfOk, IfSome, IsTrue, OnOk, length};
 ghost use Rattle.std.specs.Io.KnownBytes.{IsAtEnd};
-ghost use Rattle.log_checksum.specs.Bytes.{AreBytes};
+ghost use Rattle.log_records.specs.checksum.Bytes.{AreBytes};
 ghost use Rattle.log_records.specs.Finding.{first_record};
 ghost use Rattle.kept_log.specs.Form.{AreKeepable, head_sum, head_text};
 ghost use Rattle.kept_log.specs.Parts.{GivesUp, HasTaken, IsFound, step_behind, step_with};
@@ -39,6 +39,8 @@ impl From<StreamFault> for PartsFault {
 /// A head that was read.
 #[derive(Debug, Drop)]
 struct TextHead {
+    /// How many tags each client has.
+    tags: usize,
     units: Vec<FirstUnit>,
     sum: u32,
     /// How many bytes it has.
@@ -73,7 +75,7 @@ fn head_from<S: Source>(
     requires there { IsTrue (S.is_there source.old) }
     requires are { AreBytes window.old.bytes }
     requires ended { IsTrue window.old.has_ended → IsAtEnd (S.left source.old) }
-    ensures head { IfOk result (λ head. HasTaken window.old.bytes (S.left source.old) (S.left source.new) head.units.items [] head.len head.sum window.new) }
+    ensures head { IfOk result (λ head. HasTaken window.old.bytes (S.left source.old) (S.left source.new) head.tags head.units.items [] head.len head.sum window.new) }
     ensures len { IfOk result (λ head. head.len < 2 ^ 63) }
     ensures same { S.can_fail source.new ≡ S.can_fail source.old }
     ensures stays { S.is_there source.new ≡ S.is_there source.old }
@@ -81,10 +83,15 @@ fn head_from<S: Source>(
 {
     loop {
         match head(alloc, window.bytes()) {
-            Ok((units, sum, rest)) => {
+            Ok((tags, units, sum, rest)) => {
                 let len = window.bytes().len() - rest.len();
                 window.take(len);
-                return Ok(TextHead { units, sum, len });
+                return Ok(TextHead {
+                    tags,
+                    units,
+                    sum,
+                    len,
+                });
             }
             Err(fault) if window.has_ended() => return Err(PartsFault::Kept(fault)),
             Err(KeptFault::NoMemory) => return Err(PartsFault::Kept(KeptFault::NoMemory)),
@@ -103,14 +110,19 @@ fn records<S: Source>(
 ) -> Result<Found, PartsFault>
     requires there { IsTrue (S.is_there source.old) }
     requires ended { IsTrue window.old.has_ended → IsAtEnd (S.left source.old) }
-    requires keepable { AreKeepable head.units.items [] }
-    requires len { (head.len ≡ length (head_text head.units.items)) × (head.len < 2 ^ 63) }
-    requires sum { head.sum ≡ head_sum head.units.items }
-    requires are { AreBytes (head_text head.units.items ++ window.old.bytes) }
-    ensures found { IfOk result (λ found. IfSome (S.left source.old) (λ left. IsFound wanted ((head_text head.units.items ++ window.old.bytes) ++ left) found)) }
-    ensures fault { IfErr result (GivesUp (head_text head.units.items ++ window.old.bytes) (S.left source.old) (S.is_there source.old) (S.can_fail source.old)) }
+    requires keepable { AreKeepable head.tags head.units.items [] }
+    requires len { (head.len ≡ length (head_text head.tags head.units.items)) × (head.len < 2 ^ 63) }
+    requires sum { head.sum ≡ head_sum head.tags head.units.items }
+    requires are { AreBytes (head_text head.tags head.units.items ++ window.old.bytes) }
+    ensures found { IfOk result (λ found. IfSome (S.left source.old) (λ left. IsFound wanted ((head_text head.tags head.units.items ++ window.old.bytes) ++ left) found)) }
+    ensures fault { IfErr result (GivesUp (head_text head.tags head.units.items ++ window.old.bytes) (S.left source.old) (S.is_there source.old) (S.can_fail source.old)) }
 {
-    let TextHead { units, sum, len } = head;
+    let TextHead {
+        tags,
+        units,
+        sum,
+        len,
+    } = head;
     let mut entries = Vec::new(alloc);
     let mut sum = sum;
     let mut at = len;
@@ -126,7 +138,7 @@ fn records<S: Source>(
             }
             Ok(Next::Ends(ending, torn)) if window.has_ended() => {
                 let step = step_at_end(step, wanted, entries.len(), sum, window.bytes());
-                let loaded = made(units, entries, ending, torn);
+                let loaded = made(tags, units, entries, ending, torn);
                 return Ok(Found { loaded, step });
             }
             Ok(Next::Ends(_, _)) => window.read_more(source)?,

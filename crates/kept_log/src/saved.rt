@@ -1,14 +1,23 @@
 //! What a log tells that was kept.
-ghost use Rattle.std.specs.Prelude.{◌≡◌, ◌∷◌, ◌++◌, [], IfOk, OnOk, option_to_list};
+ghost use Rattle.std.specs.Prelude.{◌≡◌, ◌≢◌, ◌↔◌, ◌∷◌, ◌++◌, [], IfOk, IsErrOf, OnOk, option_to_list};
+ghost use Rattle.uas_profile.specs.Tags.{AreTags};
 ghost use Rattle.kept_log.specs.Saved.{acted_steps, given_replies, saved_of};
 
-use crate::{Entry, KeptLog, Why};
+use crate::{Entry, KeptLog, SavedFault, Why};
 use log_text::{SavedLog, SavedReplies, SavedReply, Version};
 use shared_machine::Step;
 use std::alloc::{AllocError, Global};
 use uas_log::{FirstUnit, Steps};
 
 impl KeptLog {
+    /// How many tags each client has, as the head says: 2 to 16.
+    pub fn tags(&self) -> usize
+        ensures tags { result ≡ self.now.tags }
+        ensures are { AreTags result }
+    {
+        self.tags
+    }
+
     /// The unit of each client as the log began, by number.
     pub fn units(&self) -> &[FirstUnit]
         ensures { result.now ≡ self.now.units }
@@ -30,8 +39,25 @@ impl KeptLog {
         self.ending
     }
 
-    /// The log without its refused steps, as `load_log` gives one. Nothing is copied.
-    pub fn into_saved(self, alloc: Global) -> Result<SavedLog, AllocError>
+    /// The log without its refused steps, as `load_log` gives one of the second version. Nothing is copied. `OtherTags` exactly where its
+    /// clients don't have 16 tags each, as those of that version do.
+    pub fn into_saved(self, alloc: Global) -> Result<SavedLog, SavedFault>
+        ensures saved { IfOk result (λ saved. saved ≡ saved_of self) }
+        ensures tags { OnOk result (self.tags ≡ 16) }
+        ensures other { IsErrOf result SavedFault.OtherTags ↔ (self.tags ≢ 16) }
+    {
+        if self.tags != Version::Second.tags() {
+            return Err(SavedFault::OtherTags);
+        }
+        match self.saved(alloc) {
+            Ok(saved) => Ok(saved),
+            Err(_) => Err(SavedFault::NoMemory),
+        }
+    }
+
+    /// The log of clients of 16 tags without its refused steps.
+    fn saved(self, alloc: Global) -> Result<SavedLog, AllocError>
+        requires { self.tags ≡ 16 }
         ensures { IfOk result (λ saved. saved ≡ saved_of self) }
     {
         let KeptLog { units, entries, .. } = self;

@@ -1,6 +1,6 @@
 //! The bytes of a source that were read and aren't taken yet.
 ghost use Rattle.std.specs.Prelude.{◌≡◌, ◌<◌, ◌≤◌, ◌^◌, Err, IfOk, IsTrue, Ok, OnOk, drop, false, length, take};
-ghost use Rattle.log_checksum.specs.Bytes.{AreBytes};
+ghost use Rattle.log_records.specs.checksum.Bytes.{AreBytes};
 ghost use Rattle.kept_log.specs.Parts.{Reads};
 
 use byte_io::{Source, StreamFault};

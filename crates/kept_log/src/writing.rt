@@ -4,12 +4,13 @@ ghost use Rattle.std.specs.List.{AllByRecursion};
 ghost use Rattle.log_records.specs.Records.{record_text, sum_after};
 ghost use Rattle.log_text.specs.declared.Version.TheVariants.{Second};
 ghost use Rattle.log_text.specs.Text.{ReplyFits, StepFits, UnitFits};
-ghost use Rattle.uas_profile.specs.declared.TheConstants.{MAX_CLIENTS};
+ghost use Rattle.uas_profile.specs.Tags.{most_clients};
+ghost use Rattle.uas_profile.specs.Tags.{AreTags};
 ghost use Rattle.kept_log.specs.declared.Entry.TheVariants.{Acted, Refused};
 ghost use Rattle.kept_log.specs.Form.{end_text, entry_text, head_front, head_sum, head_text, why_number};
 
 use crate::Why;
-use log_checksum::crc32c;
+use log_records::checksum::crc32c;
 use log_records::{RecordFault, append_record};
 use log_text::{put, put_reply, put_step, put_units};
 use scsi_cmd::Reply;
@@ -17,12 +18,10 @@ use shared_machine::Step;
 use std::alloc::{AllocError, Global};
 use uas_log::FirstUnit;
 
-/// `UASLOG`, the version, and the tags of a client.
+/// `UASLOG`, and the version.
 const NAME: &[u8; 6] = b"UASLOG";
 
 const VERSION: u64 = 3;
-
-const TAGS: u64 = 16;
 
 /// The kinds of records.
 const ACTED: u64 = 1;
@@ -45,15 +44,21 @@ impl Why {
     }
 }
 
-/// Adds the head of a log of these units, and gives its checksum. At a fault `out` is as before.
-pub fn write_head(alloc: Global, units: &[FirstUnit], out: &mut Vec<u8>) -> Result<u32, AllocError>
-    requires few { length units.now ≤ MAX_CLIENTS }
+/// Adds the head of a log of these units, each of a client of so many tags, 2 to 16, and gives its checksum. At a fault `out` is as before.
+pub fn write_head(
+    alloc: Global,
+    tags: usize,
+    units: &[FirstUnit],
+    out: &mut Vec<u8>,
+) -> Result<u32, AllocError>
+    requires tags { AreTags tags }
+    requires few { length units.now ≤ most_clients tags }
     requires fit { AllByRecursion UnitFits units.now }
-    ensures text { OnOk result (out.new.items ≡ out.old.items ++ head_text units.now) }
-    ensures sum { IfOk result (λ sum. sum ≡ head_sum units.now) }
+    ensures text { OnOk result (out.new.items ≡ out.old.items ++ head_text tags units.now) }
+    ensures sum { IfOk result (λ sum. sum ≡ head_sum tags units.now) }
     ensures same { OnErr result (out.new.items ≡ out.old.items) }
 {
-    let mut head = head_front(alloc, units)?;
+    let mut head = head_front(alloc, tags, units)?;
     let sum = crc32c(&head);
     put(&mut head, 4, u64::from(sum)).map_err(|_| AllocError)?;
     out.extend_from_slice(&head)?;
@@ -61,28 +66,29 @@ pub fn write_head(alloc: Global, units: &[FirstUnit], out: &mut Vec<u8>) -> Resu
 }
 
 /// What stands before a head's checksum.
-fn head_front(alloc: Global, units: &[FirstUnit]) -> Result<Vec<u8>, AllocError>
-    requires few { length units.now ≤ MAX_CLIENTS }
+#[tactic(auto, using(crate::proofs::Wider::units_few))]
+fn head_front(alloc: Global, tags: usize, units: &[FirstUnit]) -> Result<Vec<u8>, AllocError>
+    requires tags { AreTags tags }
+    requires few { length units.now ≤ most_clients tags }
     requires fit { AllByRecursion UnitFits units.now }
-    ensures { IfOk result (λ front. front.items ≡ head_front units.now) }
+    ensures { IfOk result (λ front. front.items ≡ head_front tags units.now) }
 {
     let mut front = Vec::new(alloc);
     front.extend_from_slice(NAME)?;
     put(&mut front, 2, VERSION).map_err(|_| AllocError)?;
-    put(&mut front, 1, TAGS).map_err(|_| AllocError)?;
+    put(&mut front, 1, tags as u64).map_err(|_| AllocError)?;
     put_units(&mut front, units).map_err(|_| AllocError)?;
     Ok(front)
 }
 
 /// Adds the record of a step that acted and gave no reply, behind `before`, and gives its checksum. At a fault `out` is as before.
-#[tactic(auto, using(crate::proofs::Wider::step_fits_wider))]
 pub fn write_step(
     alloc: Global,
     step: &Step,
     before: u32,
     out: &mut Vec<u8>,
 ) -> Result<u32, RecordFault>
-    requires { StepFits Second MAX_CLIENTS step.now }
+    requires { StepFits Second 31 step.now }
     ensures text { OnOk result (out.new.items ≡ out.old.items ++ record_text before (entry_text (Acted step.now None))) }
     ensures sum { IfOk result (λ sum. sum ≡ sum_after before (entry_text (Acted step.now None))) }
     ensures same { OnErr result (out.new.items ≡ out.old.items) }
@@ -94,7 +100,6 @@ pub fn write_step(
 }
 
 /// Adds the record of a Take and the reply that it gave, behind `before`, and gives its checksum. At a fault `out` is as before.
-#[tactic(auto, using(crate::proofs::Wider::step_fits_wider, crate::proofs::Wider::reply_fits_wider))]
 pub fn write_taken(
     alloc: Global,
     step: &Step,
@@ -103,8 +108,8 @@ pub fn write_taken(
     before: u32,
     out: &mut Vec<u8>,
 ) -> Result<u32, RecordFault>
-    requires step { StepFits Second MAX_CLIENTS step.now }
-    requires reply { ReplyFits MAX_CLIENTS (record { client = client; reply = reply.now }) }
+    requires step { StepFits Second 31 step.now }
+    requires reply { ReplyFits 31 (record { client = client; reply = reply.now }) }
     ensures text { OnOk result
         (out.new.items ≡ out.old.items ++ record_text before (entry_text (Acted step.now (Some (record { client = client; reply = reply.now }))))) }
     ensures sum { IfOk result (λ sum. sum ≡ sum_after before (entry_text (Acted step.now (Some (record { client = client; reply = reply.now }))))) }
@@ -118,7 +123,6 @@ pub fn write_taken(
 }
 
 /// Adds the record of a refused step and its refusal's number, behind `before`, and gives its checksum. At a fault `out` is as before.
-#[tactic(auto, using(crate::proofs::Wider::step_fits_wider))]
 pub fn write_refused(
     alloc: Global,
     step: &Step,
@@ -126,7 +130,7 @@ pub fn write_refused(
     before: u32,
     out: &mut Vec<u8>,
 ) -> Result<u32, RecordFault>
-    requires { StepFits Second MAX_CLIENTS step.now }
+    requires { StepFits Second 31 step.now }
     ensures text { OnOk result (out.new.items ≡ out.old.items ++ record_text before (entry_text (Refused step.now number))) }
     ensures sum { IfOk result (λ sum. sum ≡ sum_after before (entry_text (Refused step.now number))) }
     ensures same { OnErr result (out.new.items ≡ out.old.items) }

@@ -100,7 +100,7 @@ managed_or-silent state part place slot ticket task (Some fault) = refl
 pub managed-silent : (state : Shared) (place : Place) (slot : Option ℕ) (ticket : ℕ) (task : Task) (at : Option Part)
     → (managed_to state place slot ticket task at).1.reply ≡ None
 managed-silent state place slot ticket task None = refl
-managed-silent state place slot ticket task (Some part) = managed_or-silent state part place slot ticket task (task_fault_at part slot ticket task)
+managed-silent state place slot ticket task (Some part) = managed_or-silent state part place slot ticket task (task_fault_at state.tags part slot ticket task)
 
 pub carry-silent : (state : Shared) (messages : List Place) → (carry_step state messages).1.reply ≡ None
 carry-silent state [] = refl

@@ -1,6 +1,5 @@
 -- When a client's own account of its submissions and replies is that of a log.
 use Rattle.std.specs.Prelude.{◌≡◌, ℕ, ◌-◌, ◌/◌, ◌==◌, Bool, false, List, ◌++◌, filter, map, Some, slice_get}
-use Rattle.uas_profile.specs.declared.TheConstants.{TAGS}
 use Rattle.block_unit.specs.BlockMaps.{BlockMaps}
 use Rattle.scsi_cmd.specs.declared.Reply.{Reply}
 use Rattle.scsi_cmd.specs.Replies.{reply_tag}
@@ -36,16 +35,16 @@ pub record IsBeginning (first whole : List Step) : Type 0 where
 
 -- WHAT WAS TAKEN
 
--- a reply brings back a tag of this client: 1 to 16 are client 0's
-abbrev pub is_taken_by : ℕ → Reply → Bool
-is_taken_by client reply = (reply_tag reply - 1) / TAGS == client
+-- a reply brings back a tag of this client, for so many tags of each: of 16 tags 1 to 16 are client 0's, and of 8 tags 1 to 8
+abbrev pub is_taken_by : ℕ → ℕ → Reply → Bool
+is_taken_by tags client reply = (reply_tag reply - 1) / tags == client
 
--- The solo machine on the client's first unit, run over the client's own labels of the log's steps, gives these replies.
+-- The solo machine of the log's number of tags on the client's first unit, run over the client's own labels of the log's steps, gives these replies.
 pub record AreSolos (log : Log) (client : ℕ) (replies : List Reply) : Type 0 where
   pub unit : BlockMaps
   pub there : slice_get (first_units log) client ≡ Some unit
   pub last : SoloState
-  pub run : solo_run (solo_opening unit) (own_labels client log.steps (log_replay log).1) ≡ Some (last, replies)
+  pub run : solo_run (solo_opening log.tags unit) (own_labels log.tags client log.steps (log_replay log).1) ≡ Some (last, replies)
 
 -- THE AUDIT
 
@@ -53,4 +52,4 @@ pub record AreSolos (log : Log) (client : ℕ) (replies : List Reply) : Type 0 w
 -- indices, are the solo machine's.
 pub record IsAudited (log : Log) (client : ℕ) (sent : List Step) (replies : List Reply) : Type 0 where
   pub asked : IsBeginning (submissions_of client log.steps) sent
-  pub told : AreSolos log client (map (renumbered client) replies)
+  pub told : AreSolos log client (map (renumbered log.tags client) replies)

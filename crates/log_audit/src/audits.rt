@@ -1,5 +1,6 @@
 //! The audit of a client's own account.
 ghost use Rattle.std.specs.Prelude.{◌≡◌, ◌<◌, ◌↔◌, IsTrue, IsOkAnd, filter, length};
+ghost use Rattle.uas_profile.specs.Tags.{AreTags};
 ghost use Rattle.uas_log.specs.Booking.{IsReplay};
 ghost use Rattle.log_audit.specs.Audit.{IsAudited, IsBeginning, is_asked_by, is_taken_by, submissions_of};
 
@@ -7,11 +8,10 @@ use scsi_cmd::Reply;
 use shared_machine::Step;
 use std::alloc::{AllocError, Global};
 use uas_log::Log;
-use uas_profile::TAGS;
 
 /// Whether a client's account is the log's: its Submit and Task steps of the log, refused ones too, are the first of `sent`, in
-/// order, and `replies` are, but for their tags' numbers, those of the solo machine for the client's own labels of the log's steps
-/// on its first unit. Asks a log that is true, and a client of it. It takes no memory as yet.
+/// order, and `replies` are, but for their tags' numbers, those of the solo machine of as many tags for the client's own labels of the
+/// log's steps on its first unit. Asks a log that is true, and a client of it. It takes no memory as yet.
 pub fn audit(
     _alloc: Global,
     log: &Log,
@@ -24,7 +24,7 @@ pub fn audit(
     ensures { IsOkAnd result (λ told. IsTrue told ↔ IsAudited log.now client sent.now replies.now) }
 {
     let began = are_first(client, log.steps.as_slice(), sent);
-    let took = are_all(client, log.replies.as_slice(), replies);
+    let took = are_all(log.tags, client, log.replies.as_slice(), replies);
     Ok(began && took)
 }
 
@@ -44,13 +44,14 @@ fn are_first(client: usize, steps: &[Step], sent: &[Step]) -> bool
     true
 }
 
-/// Whether a client's replies among those of all are these.
-fn are_all(client: usize, taken: &[Reply], replies: &[Reply]) -> bool
-    ensures { IsTrue result ↔ (filter (is_taken_by client) taken.now ≡ replies.now) }
+/// Whether a client's replies among those of all are these, for so many tags of each client.
+fn are_all(tags: usize, client: usize, taken: &[Reply], replies: &[Reply]) -> bool
+    requires { AreTags tags }
+    ensures { IsTrue result ↔ (filter (is_taken_by tags client) taken.now ≡ replies.now) }
 {
     let mut next = 0;
     for reply in taken {
-        if is_taken_by(client, reply) {
+        if is_taken_by(tags, client, reply) {
             if next == replies.len() || !reply.same(&replies[next]) {
                 return false;
             }
@@ -77,8 +78,9 @@ pub fn is_asked_by(client: usize, step: &Step) -> bool
 }
 
 /// Whether a reply brings back a tag of a client.
-fn is_taken_by(client: usize, reply: &Reply) -> bool
-    ensures { result ≡ is_taken_by client reply.now }
+fn is_taken_by(tags: usize, client: usize, reply: &Reply) -> bool
+    requires { AreTags tags }
+    ensures { result ≡ is_taken_by tags client reply.now }
 {
-    usize::from(reply.tag()).saturating_sub(1) / TAGS == client
+    usize::from(reply.tag()).saturating_sub(1) / tags == client
 }

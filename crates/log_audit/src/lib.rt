@@ -10,7 +10,7 @@
 //!                    --its own labels------>  solo machine  --same replies-->  replies
 //! ```
 //!
-//! It asks a log that is true (`IsReplay` in uas_log specs/Booking.antt), as a `Booked` of `uas_work` keeps it and `log_replay` gives
+//! It asks a log that is true (`IsReplay` in uas_log specs/Booking.antt), as a `Booked` of `uas_work` keeps it and `audit_run` gives
 //! it of a text. Of such a log the replies needn't be worked out again: by isolation those of the client are the solo machine's.
 //!
 //! [`planned`] has what a client of `uasdisk work` submits. It stands on uas_log, isolation and machine_invariant.

@@ -1,12 +1,13 @@
 //! What a client of `uasdisk work` submits.
 ghost use Rattle.std.specs.Prelude.{◌≡◌, ◌+◌, ◌*◌, ◌<◌, IfOk};
-ghost use Rattle.uas_profile.specs.declared.TheConstants.{MAX_CLIENTS};
+ghost use Rattle.uas_profile.specs.declared.TheConstants.{USUAL_CLIENTS};
+ghost use Rattle.uas_profile.specs.Tags.{AreTags};
 ghost use Rattle.log_audit.specs.Plan.{filled, planned_read, planned_steps, planned_write};
 
 use scsi_cmd::{Buffer, Command, Op};
 use shared_machine::Step;
 use std::alloc::{AllocError, Global};
-use uas_profile::{BLOCK_BYTES, TAGS};
+use uas_profile::BLOCK_BYTES;
 
 /// Blocks of each command of a round.
 const ROUND_BLOCKS: u16 = 8;
@@ -16,26 +17,34 @@ const ROUNDS_AROUND: u32 = 8;
 
 /// The submissions of a client of so many rounds, in order: in round r, from 0 on, a WRITE without FUA of 8 blocks at block
 /// 8 (r mod 8) with bytes (16 client + r) mod 256, and a READ of the same blocks into zeros, on its first tag, with tickets from 0 on.
-pub fn planned(alloc: Global, client: usize, rounds: u32) -> Result<Vec<Step>, AllocError>
-    requires { client < MAX_CLIENTS }
-    ensures { IfOk result (λ steps. steps.items ≡ planned_steps client rounds) }
+/// Asks for 2 to 16 tags of each client.
+pub fn planned(
+    alloc: Global,
+    tags: usize,
+    client: usize,
+    rounds: u32,
+) -> Result<Vec<Step>, AllocError>
+    requires tags { AreTags tags }
+    requires client { client < USUAL_CLIENTS }
+    ensures { IfOk result (λ steps. steps.items ≡ planned_steps tags client rounds) }
 {
     let mut steps = Vec::new(alloc);
     for round in 0..rounds {
-        steps.push(planned_write(alloc, client, round)?)?;
-        steps.push(planned_read(alloc, client, round)?)?;
+        steps.push(planned_write(alloc, tags, client, round)?)?;
+        steps.push(planned_read(alloc, tags, client, round)?)?;
     }
     Ok(steps)
 }
 
-fn planned_write(alloc: Global, client: usize, round: u32) -> Result<Step, AllocError>
-    requires { client < MAX_CLIENTS }
-    ensures { IfOk result (λ step. step ≡ planned_write client round) }
+fn planned_write(alloc: Global, tags: usize, client: usize, round: u32) -> Result<Step, AllocError>
+    requires tags { AreTags tags }
+    requires client { client < USUAL_CLIENTS }
+    ensures { IfOk result (λ step. step ≡ planned_write tags client round) }
 {
     let byte = ((16 * client as u64 + u64::from(round)) % 256) as u8;
     Ok(Step::Submit {
         client,
-        tag: first_tag(client),
+        tag: first_tag(tags, client),
         ticket: 2 * u64::from(round),
         command: Command {
             op: Op::Write {
@@ -48,13 +57,14 @@ fn planned_write(alloc: Global, client: usize, round: u32) -> Result<Step, Alloc
     })
 }
 
-fn planned_read(alloc: Global, client: usize, round: u32) -> Result<Step, AllocError>
-    requires { client < MAX_CLIENTS }
-    ensures { IfOk result (λ step. step ≡ planned_read client round) }
+fn planned_read(alloc: Global, tags: usize, client: usize, round: u32) -> Result<Step, AllocError>
+    requires tags { AreTags tags }
+    requires client { client < USUAL_CLIENTS }
+    ensures { IfOk result (λ step. step ≡ planned_read tags client round) }
 {
     Ok(Step::Submit {
         client,
-        tag: first_tag(client),
+        tag: first_tag(tags, client),
         ticket: 2 * u64::from(round) + 1,
         command: Command {
             op: Op::Read {
@@ -68,11 +78,12 @@ fn planned_read(alloc: Global, client: usize, round: u32) -> Result<Step, AllocE
 }
 
 /// A client's first tag.
-fn first_tag(client: usize) -> u16
-    requires { client < MAX_CLIENTS }
-    ensures { result ≡ TAGS * client + 1 }
+fn first_tag(tags: usize, client: usize) -> u16
+    requires tags { AreTags tags }
+    requires client { client < USUAL_CLIENTS }
+    ensures { result ≡ tags * client + 1 }
 {
-    (TAGS * client) as u16 + 1
+    (tags * client) as u16 + 1
 }
 
 /// A buffer of so many of a byte.

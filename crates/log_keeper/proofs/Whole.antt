@@ -16,14 +16,14 @@ use Rattle.log_keeper.specs.Entries.{Added, StandsAt, bare_entry, entries_before
 
 pub whole_text : (log : Log) (place new : Place) (text after : List ℕ) → StandsAt log place text
     → log_entries log ≡ entries_before log place ++ entries_behind log place → Added log place text new after → entries_behind log new ≡ []
-    → after ≡ front_text log.units (log_entries log)
+    → after ≡ front_text log.tags log.units (log_entries log)
 whole_text log place new text after stand parts added none =
     let before : List Entry = entries_before log place in
     let behind : List Entry = entries_behind log place in
     all_written log place new text after added none
     ∙ ap (λ (front : List ℕ). front ++ records_text place.sum (map entry_text behind)) stand.text
-    ∙ ap (λ n. front_text log.units before ++ records_text n (map entry_text behind)) stand.sum
-    ∙ sym (text_goes_on log.units before behind) ∙ ap (front_text log.units) (sym parts)
+    ∙ ap (λ n. front_text log.tags log.units before ++ records_text n (map entry_text behind)) stand.sum
+    ∙ sym (text_goes_on log.tags log.units before behind) ∙ ap (front_text log.tags log.units) (sym parts)
 
 -- STEPS BEHIND STEPS
 

@@ -8,11 +8,11 @@ use Rattle.kept_log.specs.Form.{front_sum, front_text, kept_text}
 use Rattle.log_keeper.specs.declared.Place.{Place}
 use Rattle.log_keeper.specs.Entries.{entries_behind}
 
--- a head of these logical units, and the records of as many entries as a place has steps before it
-pub record IsBeginning (units : List FirstUnit) (place : Place) (bytes : List ℕ) : Type 0 where
+-- a head of clients of so many tags with these logical units, and the records of as many entries as a place has steps before it
+pub record IsBeginning (tags : ℕ) (units : List FirstUnit) (place : Place) (bytes : List ℕ) : Type 0 where
   pub entries : List Entry
-  pub text : bytes ≡ front_text units entries
-  pub sum : place.sum ≡ front_sum units entries
+  pub text : bytes ≡ front_text tags units entries
+  pub sum : place.sum ≡ front_sum tags units entries
   pub steps : place.steps ≡ length entries
 
 -- The whole text of a log that ended for this reason: as many entries as there are steps before some place, then all that this log has
@@ -21,4 +21,4 @@ pub record IsWhole (log : Log) (why : Why) (bytes : List ℕ) : Type 0 where
   pub place : Place
   pub entries : List Entry
   pub steps : place.steps ≡ length entries
-  pub text : bytes ≡ kept_text (record { units = log.units; entries = entries ++ entries_behind log place; ending = Some why })
+  pub text : bytes ≡ kept_text (record { tags = log.tags; units = log.units; entries = entries ++ entries_behind log place; ending = Some why })

@@ -6,9 +6,10 @@ use Rattle.shared_machine.specs.declared.Step.{Step}
 use Rattle.uas_log.specs.declared.FirstUnit.{FirstUnit}
 use Rattle.uas_log.specs.declared.Log.{Log}
 use Rattle.log_records.specs.Records.{last_sum, record_text, records_text, sum_after}
-use Rattle.log_text.specs.declared.Version.TheVariants.{Second}
+use Rattle.uas_profile.specs.Tags.{AreTags}
 use Rattle.log_text.specs.Kept.{with_client}
-use Rattle.log_text.specs.Text.{UnitFits, version_clients}
+use Rattle.log_text.specs.Text.{UnitFits}
+use Rattle.uas_profile.specs.Tags.{most_clients}
 use Rattle.kept_log.specs.declared.Entry.{Entry}
 use Rattle.kept_log.specs.declared.Entry.TheVariants.{Acted, Refused}
 use Rattle.kept_log.specs.Form.{EntryFits, entry_text, front_sum, front_text, is_take}
@@ -53,9 +54,9 @@ sum_behind log place = last_sum place.sum (map entry_text (entries_behind log pl
 
 -- LIMITS
 
--- the logical units of a log are within the limits of its text
-abbrev pub AreUnits : List FirstUnit → Type 0
-AreUnits units = (1 ≤ length units) × (length units ≤ version_clients Second) × AllByRecursion UnitFits units
+-- each client of a log has 2 to 16 tags, and the logical units are within the limits of its text
+abbrev pub AreUnits : ℕ → List FirstUnit → Type 0
+AreUnits tags units = AreTags tags × (1 ≤ length units) × (length units ≤ most_clients tags) × AllByRecursion UnitFits units
 
 -- all of these fit a log of so many clients
 abbrev pub AllFit : ℕ → List Entry → Type 0
@@ -104,8 +105,8 @@ entries_before log place = entries_of log.tags (take place.steps log.steps) (tak
 
 -- a text is the head of a log and the records of the entries before a place
 pub record StandsAt (log : Log) (place : Place) (bytes : List ℕ) : Type 0 where
-  pub text : bytes ≡ front_text log.units (entries_before log place)
-  pub sum : place.sum ≡ front_sum log.units (entries_before log place)
+  pub text : bytes ≡ front_text log.tags log.units (entries_before log place)
+  pub sum : place.sum ≡ front_sum log.tags log.units (entries_before log place)
 
 -- how many replies these steps gave
 abbrev pub given_count : List Step → List ℕ → ℕ

@@ -1,10 +1,9 @@
 //! The records of the steps behind a place.
-ghost use Rattle.std.specs.Prelude.{◌≡◌, ◌+◌, ◌<◌, ◌≤◌, ◌++◌, ◌⊎◌, ◌&&◌, ◌↔◌, nat_lt, IfErr, IfOk, IsErr, IsErrOf, Ok, OnErr, OnOk, Some, [], length};
+ghost use Rattle.std.specs.Prelude.{◌≡◌, ◌+◌, ◌<◌, ◌≤◌, ◌++◌, ◌⊎◌, ◌&&◌, ◌↔◌, nat_lt, IfErr, IfOk, IsErr, IsErrOf, IsTrue, Ok, OnErr, OnOk, Some, [], length};
 ghost use Rattle.log_records.specs.Records.{record_text, sum_after};
 ghost use Rattle.log_text.specs.declared.Version.TheVariants.{Second};
 ghost use Rattle.log_text.specs.Kept.{with_client};
 ghost use Rattle.log_text.specs.Text.{ReplyFits, StepFits};
-ghost use Rattle.uas_profile.specs.declared.TheConstants.{MAX_CLIENTS};
 ghost use Rattle.kept_log.specs.declared.Entry.TheVariants.{Acted};
 ghost use Rattle.kept_log.specs.Form.{entry_text, head_sum, head_text};
 ghost use Rattle.log_keeper.specs.Entries.{Added, AllFit, AreUnits, FirstFits, OneMore, bare_entry, entries_behind, gives, records_behind, sum_behind};
@@ -17,21 +16,22 @@ use log_text::Version;
 use scsi_cmd::Reply;
 use shared_machine::Step;
 use std::alloc::Global;
-use uas_log::Log;
+use uas_log::{FirstUnit, Log};
+use uas_profile::{LEAST_TAGS, MOST_TAGS, most_clients};
 
-/// Adds the head of a log to a text: the place behind it. `Limits` exactly where a unit is past the limits of a log's text, or there are none,
-/// or too many; at a fault the text is as before.
+/// Adds the head of a log to a text: the place behind it. `Limits` exactly where each client doesn't have 2 to 16 tags, a unit is past the
+/// limits of a log's text, or there are none, or more than clients of so many tags can be; at a fault the text is as before.
 pub fn begin(alloc: Global, log: &Log, text: &mut Vec<u8>) -> Result<Place, KeepFault>
-    ensures text { OnOk result (text.new.items ≡ text.old.items ++ head_text log.now.units) }
-    ensures place { IfOk result (λ place. place ≡ record { steps = 0; replies = 0; sum = head_sum log.now.units }) }
+    ensures text { OnOk result (text.new.items ≡ text.old.items ++ head_text log.now.tags log.now.units) }
+    ensures place { IfOk result (λ place. place ≡ record { steps = 0; replies = 0; sum = head_sum log.now.tags log.now.units }) }
     ensures same { OnErr result (text.new.items ≡ text.old.items) }
-    ensures limits { IsErrOf result KeepFault.Limits ↔ (AreUnits log.now.units → ⊥) }
+    ensures limits { IsErrOf result KeepFault.Limits ↔ (AreUnits log.now.tags log.now.units → ⊥) }
 {
     let units = log.units.as_slice();
-    if !are_units(Version::Second, units) {
+    if !units_fit(log.tags, units) {
         return Err(KeepFault::Limits);
     }
-    match write_head(alloc, units, text) {
+    match write_head(alloc, log.tags, units, text) {
         Ok(sum) => Ok(Place {
             steps: 0,
             replies: 0,
@@ -41,15 +41,22 @@ pub fn begin(alloc: Global, log: &Log, text: &mut Vec<u8>) -> Result<Place, Keep
     }
 }
 
+/// Whether each client has 2 to 16 tags, and the logical units are within the limits of a log's text.
+fn units_fit(tags: usize, units: &[FirstUnit]) -> bool
+    ensures { IsTrue result ↔ AreUnits tags units.now }
+{
+    LEAST_TAGS <= tags && tags <= MOST_TAGS && are_units(most_clients(tags), units)
+}
+
 /// Adds the records of a log's steps behind a place to a text, and moves the place behind them. `Limits` where a step or a reply is past the
-/// limits of a log's text; at a fault the steps before have their records, whole. Asks a log of at most 15 clients.
+/// limits of a log's text; at a fault the steps before have their records, whole. Asks a log of at most 31 clients.
 pub fn add_records(
     alloc: Global,
     log: &Log,
     place: &mut Place,
     text: &mut Vec<u8>,
 ) -> Result<(), KeepFault>
-    requires few { length log.now.units ≤ MAX_CLIENTS }
+    requires few { length log.now.units ≤ 31 }
     requires tags { 1 ≤ log.now.tags }
     ensures all { OnOk result (text.new.items ≡ text.old.items ++ records_behind log.now place.old) }
     ensures fit { OnOk result (AllFit (length log.now.units) (entries_behind log.now place.old)) }
@@ -87,7 +94,7 @@ fn add_next(
     place: &mut Place,
     text: &mut Vec<u8>,
 ) -> Result<(), KeepFault>
-    requires few { length log.now.units ≤ MAX_CLIENTS }
+    requires few { length log.now.units ≤ 31 }
     requires tags { 1 ≤ log.now.tags }
     requires steps { place.old.steps < length log.now.steps }
     requires refusals { place.old.steps < length log.now.refusals }
@@ -137,7 +144,7 @@ fn add_taken(
     before: u32,
     text: &mut Vec<u8>,
 ) -> Result<u32, KeepFault>
-    requires clients { clients ≤ MAX_CLIENTS }
+    requires clients { clients ≤ 31 }
     requires tags { 1 ≤ tags }
     ensures text { OnOk result (text.new.items ≡ text.old.items ++ record_text before (entry_text (Acted step.now (Some (with_client tags reply.now))))) }
     ensures sum { IfOk result (λ sum. sum ≡ sum_after before (entry_text (Acted step.now (Some (with_client tags reply.now))))) }
@@ -162,7 +169,7 @@ fn add_bare(
     before: u32,
     text: &mut Vec<u8>,
 ) -> Result<u32, KeepFault>
-    requires { clients ≤ MAX_CLIENTS }
+    requires { clients ≤ 31 }
     ensures text { OnOk result (text.new.items ≡ text.old.items ++ record_text before (entry_text (bare_entry number step.now))) }
     ensures sum { IfOk result (λ sum. sum ≡ sum_after before (entry_text (bare_entry number step.now))) }
     ensures fits { OnOk result (StepFits Second clients step.now) }

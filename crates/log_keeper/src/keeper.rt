@@ -3,7 +3,6 @@ ghost use Rattle.std.specs.Prelude.{◌≡◌, ◌+◌, ◌-◌, ◌≤◌, ◌+
 ghost use Rattle.std.specs.Io.KnownBytes.{Appends};
 ghost use Rattle.kept_log.specs.Form.{end_text, head_sum, head_text};
 ghost use Rattle.log_records.specs.Records.{record_text};
-ghost use Rattle.uas_profile.specs.declared.TheConstants.{MAX_CLIENTS};
 ghost use Rattle.log_keeper.specs.Entries.{Added, AllFit, AreUnits, FirstFits, entries_behind, records_behind, sum_behind};
 ghost use Rattle.log_keeper.specs.Syncing.{is_due, unsynced_after};
 
@@ -27,13 +26,13 @@ pub struct Keeper<F: KeptFile> {
 
 impl<F: KeptFile + Drop> Keeper<F> {
     /// Begins to keep a log in an empty file, which is synced after each `every` steps, or at the end alone where that is 0. Its head
-    /// waits for the file. `Limits` exactly where the log's logical units are past the limits of its text.
+    /// waits for the file. `Limits` exactly where the log's logical units, or how many tags each client has, are past the limits of its text.
     pub fn new(alloc: Global, log: &Log, every: usize, file: F) -> Result<Keeper<F>, KeepFault>
-        ensures waiting { IfOk result (λ keeper. keeper.waiting.items ≡ head_text log.now.units) }
-        ensures place { IfOk result (λ keeper. keeper.place ≡ record { steps = 0; replies = 0; sum = head_sum log.now.units }) }
+        ensures waiting { IfOk result (λ keeper. keeper.waiting.items ≡ head_text log.now.tags log.now.units) }
+        ensures place { IfOk result (λ keeper. keeper.place ≡ record { steps = 0; replies = 0; sum = head_sum log.now.tags log.now.units }) }
         ensures file { IfOk result (λ keeper. keeper.writer ≡ record { file = file; every = every; unsynced = 0 }) }
         ensures written { IfOk result (λ keeper. keeper.written ≡ 0) }
-        ensures limits { IsErrOf result KeepFault.Limits ↔ (AreUnits log.now.units → ⊥) }
+        ensures limits { IsErrOf result KeepFault.Limits ↔ (AreUnits log.now.tags log.now.units → ⊥) }
     {
         let mut waiting = Vec::new(alloc);
         let place = begin(alloc, log, &mut waiting)?;
@@ -50,9 +49,9 @@ impl<F: KeptFile + Drop> Keeper<F> {
     }
 
     /// Takes the records of all steps behind its place from the log: they wait for the file. At a fault those before it do: `Limits` where
-    /// the next one is past the limits of a log's text. Asks a log of at most 15 clients.
+    /// the next one is past the limits of a log's text. Asks a log of at most 31 clients.
     pub fn gather(&mut self, alloc: Global, log: &Log) -> Result<(), KeepFault>
-        requires few { length log.now.units ≤ MAX_CLIENTS }
+        requires few { length log.now.units ≤ 31 }
         requires tags { 1 ≤ log.now.tags }
         ensures all { OnOk result (self.new.waiting.items ≡ self.old.waiting.items ++ records_behind log.now self.old.place) }
         ensures fit { OnOk result (AllFit (length log.now.units) (entries_behind log.now self.old.place)) }
@@ -96,9 +95,9 @@ impl<F: KeptFile + Drop> Keeper<F> {
         Ok(did)
     }
 
-    /// Writes what waits, the records of all further steps and the end with its reason, and syncs. Asks a log of at most 15 clients.
+    /// Writes what waits, the records of all further steps and the end with its reason, and syncs. Asks a log of at most 31 clients.
     pub fn finish(&mut self, alloc: Global, log: &Log, why: Why) -> Result<(), KeepStop>
-        requires few { length log.now.units ≤ MAX_CLIENTS }
+        requires few { length log.now.units ≤ 31 }
         requires tags { 1 ≤ log.now.tags }
         ensures bytes { OnOk result (Appends (F.written self.old.writer.file) (F.written self.new.writer.file)
             ((self.old.waiting.items ++ records_behind log.now self.old.place)

@@ -14,7 +14,7 @@ ghost use Rattle.log_keeper.specs.Entries.{Added, AllActedFit, StandsAt, entries
 pub fn kept_texts_are_the_logs()
     ensures { (log : Log) (place new : Place) (text after : List ℕ) → StandsAt log place text
         → log_entries log ≡ entries_before log place ++ entries_behind log place → Added log place text new after → entries_behind log new ≡ []
-        → after ≡ front_text log.units (log_entries log) }
+        → after ≡ front_text log.tags log.units (log_entries log) }
 {}
 
 /// The entries of steps behind others: where those have as many replies as they gave.

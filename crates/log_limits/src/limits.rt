@@ -2,7 +2,7 @@
 ghost use Rattle.std.specs.Prelude.{◌≡◌, ◌≤◌, ◌<◌, ◌^◌, ◌↔◌, All, IsTrue, length, map};
 ghost use Rattle.std.specs.List.{AllByRecursion};
 ghost use Rattle.log_text.specs.Kept.{IsSavable, kept, with_client};
-ghost use Rattle.log_text.specs.Text.{ReplyFits, StepFits, UnitFits, version_clients};
+ghost use Rattle.log_text.specs.Text.{ReplyFits, StepFits, UnitFits};
 
 use crate::replies::reply_fits;
 use crate::steps::kept_fit;
@@ -25,16 +25,16 @@ pub fn is_savable(log: &Log) -> bool
     }
     let version = version_with(log.tags);
     let units = log.units.as_slice();
-    are_units(version, units)
+    are_units(version.most_clients(), units)
         && are_steps(version, units.len(), steps, refusals)
         && are_replies(units.len(), log.tags, log.replies.as_slice())
 }
 
-/// Whether the units are those of 1 to so many clients as the version can have.
-pub fn are_units(version: Version, units: &[FirstUnit]) -> bool
-    ensures { IsTrue result ↔ ((1 ≤ length units.now) × (length units.now ≤ version_clients version) × AllByRecursion UnitFits units.now) }
+/// Whether the units are those of 1 to `most` clients.
+pub fn are_units(most: usize, units: &[FirstUnit]) -> bool
+    ensures { IsTrue result ↔ ((1 ≤ length units.now) × (length units.now ≤ most) × AllByRecursion UnitFits units.now) }
 {
-    1 <= units.len() && units.len() <= version.most_clients() && all_units(units)
+    1 <= units.len() && units.len() <= most && all_units(units)
 }
 
 fn all_units(units: &[FirstUnit]) -> bool

@@ -8,7 +8,7 @@ use Rattle.byteorder.specs.Endian.{big_bytes}
 use Rattle.byteorder.specs.Numbers.{big_from-lt, big_from-take}
 use Rattle.byte_numbers.specs.Bytes.{AreBytes}
 use Rattle.byte_numbers.proofs.Bytes.{bytes_joined}
-use Rattle.log_checksum.proofs.Fits.{checksum_fits}
+use Rattle.log_records.proofs.Fits.{checksum_fits}
 use Rattle.log_records.specs.declared.First.{First}
 use Rattle.log_records.specs.declared.First.TheVariants.{Nothing, Whole, Torn, Wrong}
 use Rattle.log_records.specs.Finding.{behind, body_len, body_of, first_record, is_followed, is_long_enough, is_whole, sum_of}

@@ -2,3 +2,8 @@ pub mod Numbers
 pub mod Framing
 pub mod Found
 pub mod Growing
+pub mod Bytewise
+pub mod Places
+pub mod Fits
+pub mod Telling
+pub mod Bytes

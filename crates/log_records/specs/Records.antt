@@ -1,6 +1,6 @@
 -- Records one behind the other, each with a checksum of all that came before its end.
 use Rattle.std.specs.Prelude.{ℕ, List, [], ◌∷◌, ◌++◌, length}
-use Rattle.log_checksum.specs.Division.{crc32c_of}
+use Rattle.log_records.specs.checksum.Division.{crc32c_of}
 use Rattle.byteorder.specs.Endian.{big_bytes}
 
 -- The checksum of a record: CRC-32C of the length of its body, the body, and the checksum before it.

@@ -12,10 +12,11 @@
 //! nothing whole may be found behind it, so that this too looks like a write that was cut short.
 //!
 //! What is promised: a record that was written is found, with its body and its checksum ([`records_are_found`]); what is found is a record's
-//! text ([`found_records_are_records`]); and each part of a record at the end of bytes is torn ([`cut_records_are_torn`]). It stands on
-//! log_checksum, and on `byteorder` and `thiserror`.
+//! text ([`found_records_are_records`]); and each part of a record at the end of bytes is torn ([`cut_records_are_torn`]). The checksum is
+//! that of [`checksum`]. It stands on byte_numbers, `byteorder` and `thiserror`.
 #![tactic(auto)]
 
+pub mod checksum;
 mod finding;
 mod laws;
 mod writing;

@@ -3,7 +3,7 @@ ghost use Rattle.std.specs.Prelude.{◌≡◌, ◌↔◌, ◌≤◌, ◌<◌, �
 ghost use Rattle.log_records.specs.Records.{record_text, sum_after};
 
 use crate::RecordFault;
-use log_checksum::Checksum;
+use crate::checksum::Checksum;
 use std::alloc::AllocError;
 
 /// The most bytes of a body.

@@ -10,6 +10,7 @@ use Rattle.log_text.specs.declared.LogFault.TheVariants.{BadField, BadHeader, Tr
 use Rattle.log_text.specs.declared.Version.{Version}
 use Rattle.log_text.specs.declared.Version.TheVariants.{First, Second}
 use Rattle.log_text.specs.Text.{IsWithin, ReplyFits, Saved, StepFits, UnitFits, field, header_text, listed, log_text, reply_text, step_text, unit_text, version_clients, version_number, version_tags}
+use Rattle.uas_profile.specs.Tags.{most_clients}
 use Rattle.log_text.specs.Reading.{field_at, header_at, listed_at, log_at, name_number, number_at, reply_at, step_at, unit_at, units_at, version_of, whole_log}
 use Rattle.byte_numbers.specs.Bytes.{AreBytes}
 use Rattle.log_text.proofs.ReadResults.{bind_ok, ok_is, test_ok}
@@ -97,17 +98,21 @@ header_again version rest =
 
 -- THE UNITS
 
-pub record AreUnits (version : Version) (units : List FirstUnit) : Type 0 where
+-- however many tags each client has, the clients are at most 31
+pub few_clients : (tags : ℕ) → most_clients tags ≤ 31
+few_clients tags = omega arith
+
+pub record AreUnits (limit : ℕ) (units : List FirstUnit) : Type 0 where
   pub some : 1 ≤ length units
-  pub most : length units ≤ version_clients version
+  pub most : length units ≤ limit
   pub each : AreItems UnitFits (length units) units
 
-pub units_taken : (version : Version) (bytes : List ℕ) (x : List FirstUnit × List ℕ) → AreBytes bytes → units_at version bytes ≡ Ok x
-    → Taken (λ units. field 1 (length units) ++ flat_map unit_text units) (AreUnits version) bytes x
+pub units_taken : (most : ℕ) (bytes : List ℕ) (x : List FirstUnit × List ℕ) → AreBytes bytes → units_at most bytes ≡ Ok x
+    → Taken (λ units. field 1 (length units) ++ flat_map unit_text units) (AreUnits most) bytes x
 unfolding units_at
-units_taken version bytes x is e =
-    let a = bind_ok (field_at 1 1 (version_clients version) bytes) _ x e in
-    let count = number_taken BadField 1 1 (version_clients version) bytes a.0 is a.1 in
+units_taken most bytes x is e =
+    let a = bind_ok (field_at 1 1 most bytes) _ x e in
+    let count = number_taken BadField 1 1 most bytes a.0 is a.1 in
     let items = items_taken unit_at unit_text UnitFits reads_unit a.0.0 a.0.1 x count.takes.rest_bytes a.2 in
     record {
       takes = subst (λ (n : ℕ). Takes bytes (field 1 n ++ flat_map unit_text x.0) x.1) (sym items.fits.len) (then_takes count.takes items.takes);
@@ -118,14 +123,13 @@ units_taken version bytes x is e =
       };
     }
 
-pub units_again : (version : Version) (units : List FirstUnit) (rest : List ℕ) → AreUnits version units
-    → units_at version ((field 1 (length units) ++ flat_map unit_text units) ++ rest) ≡ Ok (units, rest)
+pub units_again : (most : ℕ) (units : List FirstUnit) (rest : List ℕ) → most ≤ 31 → AreUnits most units
+    → units_at most ((field 1 (length units) ++ flat_map unit_text units) ++ rest) ≡ Ok (units, rest)
 unfolding units_at
-units_again version units rest fits =
-    let few = (any version).few in
-    let within : Within 1 1 (version_clients version) (length units) = record { least = fits.some; most = fits.most; wide = omega (arith, fits.most, few) } in
-    ap (units_at version) (append_assoc (field 1 (length units)) (flat_map unit_text units) rest)
-    ∙ rw (number_again BadField 1 1 (version_clients version) (length units) (flat_map unit_text units ++ rest) within)
+units_again most units rest few fits =
+    let within : Within 1 1 most (length units) = record { least = fits.some; most = fits.most; wide = omega (arith, fits.most, few) } in
+    ap (units_at most) (append_assoc (field 1 (length units)) (flat_map unit_text units) rest)
+    ∙ rw (number_again BadField 1 1 most (length units) (flat_map unit_text units ++ rest) within)
     (items_again unit_at unit_text UnitFits reads_unit units rest fits.each.each)
 
 -- THE WHOLE
@@ -134,12 +138,12 @@ log_taken : (bytes : List ℕ) (x : Saved × List ℕ) → AreBytes bytes → lo
 unfolding log_at
 log_taken bytes x is e =
     let a = bind_ok (header_at bytes) _ x e in
-    let b = bind_ok (units_at a.0.0 a.0.1) _ x a.2 in
+    let b = bind_ok (units_at (version_clients a.0.0) a.0.1) _ x a.2 in
     let clients : ℕ = length b.0.0 in
     let c = bind_ok (listed_at (step_at a.0.0 clients) b.0.1) _ x b.2 in
     let d = bind_ok (listed_at (reply_at clients) c.0.1) _ x c.2 in
     let header = header_taken bytes a.0 is a.1 in
-    let units = units_taken a.0.0 a.0.1 b.0 header.takes.rest_bytes b.1 in
+    let units = units_taken (version_clients a.0.0) a.0.1 b.0 header.takes.rest_bytes b.1 in
     let few : clients ≤ 31 = omega (arith, units.fits.most, header.fits.few) in
     let steps = (reads_listed (step_at a.0.0 clients) step_text (StepFits a.0.0 clients) (reads_step a.0.0 clients units.fits.some few)).taken b.0.1 c.0
     units.takes.rest_bytes c.1 in
@@ -172,11 +176,11 @@ log_again log rest fits =
     let r1 : List ℕ = units ++ r2 in
     let regrouped : log_text log ++ rest ≡ head ++ r1 =
     append_assoc ((head ++ units) ++ steps) replies rest ∙ append_assoc (head ++ units) steps r3 ∙ append_assoc head units r2 in
-    let are-units : AreUnits log.version log.units = record { some = fits.some; most = fits.most; each = record { len = refl; each = fits.units } } in
+    let are-units : AreUnits (version_clients log.version) log.units = record { some = fits.some; most = fits.most; each = record { len = refl; each = fits.units } } in
     ap log_at regrouped
     ∙ rw (
       header_again log.version r1,
-      units_again log.version log.units r2 are-units,
+      units_again (version_clients log.version) log.units r2 (any log.version).few are-units,
       (reads_listed (step_at log.version clients) step_text (StepFits log.version clients) (reads_step log.version clients fits.some few)).again log.steps r3
           (record { few = fits.few_steps; each = fits.steps }),
       (reads_listed (reply_at clients) reply_text (ReplyFits clients) (reads_reply clients fits.some few)).again log.replies rest (record { few = fits.few_replies; each = fits.replies }),

@@ -250,15 +250,16 @@ listed_at item_at bytes = do
   count ← field_at 4 0 0xffffffff bytes
   items_at item_at count.0 count.1
 
-unfoldable pub units_at : Version → List ℕ → Result (List FirstUnit × List ℕ) LogFault
-units_at version bytes = do
-  clients ← field_at 1 1 (version_clients version) bytes
+-- the units of 1 to so many clients, behind their number
+unfoldable pub units_at : ℕ → List ℕ → Result (List FirstUnit × List ℕ) LogFault
+units_at most bytes = do
+  clients ← field_at 1 1 most bytes
   items_at unit_at clients.0 clients.1
 
 unfoldable pub log_at : List ℕ → Result (Saved × List ℕ) LogFault
 log_at bytes = do
   version ← header_at bytes
-  units ← units_at version.0 version.1
+  units ← units_at (version_clients version.0) version.1
   steps ← listed_at (step_at version.0 (length units.0)) units.1
   replies ← listed_at (reply_at (length units.0)) steps.1
   Ok (record { version = version.0; units = units.0; steps = steps.0; replies = replies.0 }, replies.1)

@@ -40,17 +40,14 @@ fn header(bytes: &[u8]) -> Result<(Version, &[u8]), Stop>
     Ok((version, rest))
 }
 
-/// As many units as the version can have clients, and the bytes behind them.
+/// The units of 1 to `most` clients behind their number, and the bytes behind them; `BadField` for another number of clients, and for a
+/// field of a unit that has a value that it can't have, and `Truncated` where the bytes end before.
 #[tactic(auto, unfolding(crate::specs::Reading::units_at))]
-pub fn all_units(
-    alloc: Global,
-    version: Version,
-    bytes: &[u8],
-) -> Result<(Vec<FirstUnit>, &[u8]), Stop>
-    ensures gives { Gives (λ read. (read.0.items, read.1.now)) result (units_at version bytes.now) }
+pub fn all_units(alloc: Global, most: u8, bytes: &[u8]) -> Result<(Vec<FirstUnit>, &[u8]), Stop>
+    ensures gives { Gives (λ read. (read.0.items, read.1.now)) result (units_at most bytes.now) }
     ensures some { IfOk result (λ read. 1 ≤ length read.0.items) }
 {
-    let (clients, rest) = field(bytes, 1, 1, version.most_clients() as u64)?;
+    let (clients, rest) = field(bytes, 1, 1, u64::from(most))?;
     units(alloc, clients as u32, rest)
 }
 
@@ -87,7 +84,7 @@ fn parts(alloc: Global, text: &[u8]) -> Result<Parts, Stop>
     ensures { Gives saved_of result (whole_log text.now) }
 {
     let (version, rest) = header(text)?;
-    let (units, rest) = all_units(alloc, version, rest)?;
+    let (units, rest) = all_units(alloc, version.most_clients() as u8, rest)?;
     let (steps, rest) = all_steps(alloc, version, units.len(), rest)?;
     let (replies, rest) = all_replies(alloc, units.len(), rest)?;
     if !rest.is_empty() {

@@ -1,5 +1,5 @@
 //! What a saved log tells.
-ghost use Rattle.std.specs.Prelude.{◌≡◌};
+ghost use Rattle.std.specs.Prelude.{◌≡◌, ◌≤◌};
 ghost use Rattle.log_text.specs.Text.{IsWithin, has_queries, version_clients, version_number, version_tags};
 
 use crate::{SavedLog, SavedReplies, SavedReply, Version};

@@ -12,7 +12,7 @@ use Rattle.scsi_cmd.specs.declared.Request.{Request}
 use Rattle.scsi_cmd.specs.declared.Request.TheVariants.{Manage}
 use Rattle.scsi_cmd.specs.declared.SubmitFault.{SubmitFault}
 use Rattle.scsi_cmd.specs.declared.Task.{Task}
-use Rattle.uas_profile.specs.declared.TheConstants.{TASK_SLOT}
+use Rattle.uas_profile.specs.Tags.{task_slot}
 use Rattle.solo_model.specs.TaggedTask.{is_noted}
 use Rattle.uas_profile.specs.declared.Place.{Place}
 use Rattle.shared_machine.specs.declared.Step.{Step}
@@ -56,12 +56,12 @@ gone-noted state step place old now was is gone before =
     )
 
 -- the order facts say what a task management noted
-ends-named : (place : Place) (old management : Entry) (request : Request) (what : Task) (noted : ArrayVec ℕ) (part : Part) → request ≡ Manage what noted
-    → NotedBy place.client part management request → held_at part.entries place.slot ≡ Some old → place.slot < TASK_SLOT
-    → is_noted (ended_by what noted).items old.task.ticket ≡ true → (names place.client place.slot what ≡ true) × (old.task.ticket < management.task.ticket)
-ends-named place old management request what noted part asks noted_by held within is =
-    let noting : HasNoted place.client part management what noted = subst (λ r. NotedBy place.client part management r) asks noted_by in
-    let both = and_parts (names place.client place.slot what) (nat_lt old.task.ticket management.task.ticket)
+ends-named : (tags : ℕ) (place : Place) (old management : Entry) (request : Request) (what : Task) (noted : ArrayVec ℕ) (part : Part) → request ≡ Manage what noted
+    → NotedBy tags place.client part management request → held_at part.entries place.slot ≡ Some old → place.slot < (task_slot tags)
+    → is_noted (ended_by what noted).items old.task.ticket ≡ true → (names tags place.client place.slot what ≡ true) × (old.task.ticket < management.task.ticket)
+ends-named tags place old management request what noted part asks noted_by held within is =
+    let noting : HasNoted tags place.client part management what noted = subst (λ r. NotedBy tags place.client part management r) asks noted_by in
+    let both = and_parts (names tags place.client place.slot what) (nat_lt old.task.ticket management.task.ticket)
     (sym (noting.exact place.slot old within held) ∙ ended-noted what noted old.task.ticket is) in
     (both.0, ltb-true old.task.ticket management.task.ticket both.1)
 
@@ -70,7 +70,7 @@ ends-earlier state place old ordered was within ended =
     let found = under-found state.parts place old was in
     let there : slice_get state.parts ended.head.client ≡ Some found.part = ap (λ client. slice_get state.parts client) ended.client ∙ found.there in
     let held : held_at found.part.entries ended.head.slot ≡ Some ended.management = sym (under-there state.parts ended.head found.part there) ∙ ended.held in
-    ends-named place old ended.management ended.management.task.request ended.what ended.noted found.part ended.request
+    ends-named _ place old ended.management ended.management.task.request ended.what ended.noted found.part ended.request
     ((ordered.parts place.client found.part found.there).noted ended.head.slot ended.management held) found.held within ended.ticket_ended
 
 pub requests-stay : RequestsStay
@@ -78,22 +78,22 @@ requests-stay state step place old now was is = let on = taken-on state step pla
 
 -- what an accepted task management is, and no refusal
 noted-or : (state : Shared) (client ticket : ℕ) (task : Task) (part : Part) (slot : Option ℕ) (fault : Option SubmitFault)
-    → slice_get state.parts client ≡ Some part → TASK_SLOT < length part.entries
-    → (managed_or state part (task_place client) slot ticket task fault).1.refused ≡ None
-    → under (managed_or state part (task_place client) slot ticket task fault).0.parts (task_place client)
-    ≡ Some (new_management ticket task (noted_tickets part slot task))
+    → slice_get state.parts client ≡ Some part → (task_slot state.tags) < length part.entries
+    → (managed_or state part (task_place state.tags client) slot ticket task fault).1.refused ≡ None
+    → under (managed_or state part (task_place state.tags client) slot ticket task fault).0.parts (task_place state.tags client)
+    ≡ Some (new_management ticket task (noted_tickets state.tags part slot task))
 noted-or state client ticket task part slot None there within refused =
-    let new : Entry = new_management ticket task (noted_tickets part slot task) in
-    under-there (slice_set state.parts client (managed_part part slot ticket task)) (task_place client) (managed_part part slot ticket task)
-    (slice_get-slice_set_same state.parts client part (managed_part part slot ticket task) there)
-    ∙ get_or-set_same part.entries TASK_SLOT (Some new) None within
+    let new : Entry = new_management ticket task (noted_tickets state.tags part slot task) in
+    under-there (slice_set state.parts client (managed_part state.tags part slot ticket task)) (task_place state.tags client) (managed_part state.tags part slot ticket task)
+    (slice_get-slice_set_same state.parts client part (managed_part state.tags part slot ticket task) there)
+    ∙ get_or-set_same part.entries (task_slot state.tags) (Some new) None within
 noted-or state client ticket task part slot (Some fault) there within refused = absurd (none-some _ (sym refused))
 
 pub noted-submitted : NotedAtSubmission
 noted-submitted state client ticket task part there within refused =
-    let slot = named_slot (length state.parts) client task in
+    let slot = named_slot state.tags (length state.parts) client task in
     let went : shared_step state (TaskStep client ticket task)
-    ≡ managed_or state part (task_place client) slot ticket task (task_fault_at part slot ticket task) =
-    ap (λ found. managed_to state (task_place client) slot ticket task found) there in
-    ap (λ after. under after.0.parts (task_place client)) went
-    ∙ noted-or state client ticket task part slot (task_fault_at part slot ticket task) there within (sym (ap (λ after. after.1.refused) went) ∙ refused)
+    ≡ managed_or state part (task_place state.tags client) slot ticket task (task_fault_at state.tags part slot ticket task) =
+    ap (λ found. managed_to state (task_place state.tags client) slot ticket task found) there in
+    ap (λ after. under after.0.parts (task_place state.tags client)) went
+    ∙ noted-or state client ticket task part slot (task_fault_at state.tags part slot ticket task) there within (sym (ap (λ after. after.1.refused) went) ∙ refused)

@@ -319,10 +319,10 @@ settled-kept MayEnd part slot rest None = AreKept-self MayEnd part.entries
 settled-kept MayEnd part slot rest (Some reply) =
     written-kept MayEnd part.entries part.entries slot None (AreKept-self MayEnd part.entries) (λ was now held is. absurd (none-some now is))
 
-taken-kept : (MayEnd : ℕ → Type 0) (client : ℕ) (part : Part) (ready : List ℕ) → AreKept MayEnd part.entries (taken client part ready).part.entries
-taken-kept MayEnd client part [] = AreKept-self MayEnd part.entries
-taken-kept MayEnd client part (slot ∷ rest) =
-    settled-kept MayEnd part slot rest (option_and_then (entry_reply (slot_tag client slot)) (held_at part.entries slot))
+taken-kept : (tags : ℕ) (MayEnd : ℕ → Type 0) (client : ℕ) (part : Part) (ready : List ℕ) → AreKept MayEnd part.entries (taken tags client part ready).part.entries
+taken-kept tags MayEnd client part [] = AreKept-self MayEnd part.entries
+taken-kept tags MayEnd client part (slot ∷ rest) =
+    settled-kept MayEnd part slot rest (option_and_then (entry_reply (slot_tag tags client slot)) (held_at part.entries slot))
 
-pub take_act-kept : (MayEnd : ℕ → Type 0) (client : ℕ) (part : Part) → AreKept MayEnd part.entries (take_act client part).part.entries
-take_act-kept MayEnd client part = taken-kept MayEnd client part part.ready
+pub take_act-kept : (tags : ℕ) (MayEnd : ℕ → Type 0) (client : ℕ) (part : Part) → AreKept MayEnd part.entries (take_act tags client part).part.entries
+take_act-kept tags MayEnd client part = taken-kept tags MayEnd client part part.ready

@@ -8,7 +8,7 @@ use Rattle.std.proofs.lemmas.List.{append-nil}
 use Rattle.block_unit.specs.BlockMaps.{BlockMaps}
 use Rattle.scsi_cmd.specs.Held.{held_at}
 use Rattle.uas_profile.specs.declared.Place.{Place}
-use Rattle.uas_profile.specs.Places.{place_of}
+use Rattle.uas_profile.specs.Tags.{place_of}
 use Rattle.shared_machine.specs.declared.Completion.{Completion}
 use Rattle.shared_machine.specs.declared.Completion.TheVariants.{CommandDone, DataDone, StatusDone, EngineDone}
 use Rattle.shared_machine.specs.Td.{Entry, is_ready}
@@ -69,6 +69,7 @@ acted-written state place part unit old new popped rest posted there held pops a
   now = with_entry (record part { unit = unit }) place.slot new;
   there = there;
   within = held-within part.entries place.slot old held;
+  tags = refl;
   parts = refl;
   entries = refl;
   queue = λ slot apart. refl;
@@ -83,7 +84,7 @@ acted-written state place part unit old new popped rest posted there held pops a
 pub acted-counted : (state : Shared) (place : Place) (part : Part) (unit : BlockMaps) (old new : Entry) (popped rest : List Place) (posted : List Completion) →
     slice_get state.parts place.client ≡ Some part → held_at part.entries place.slot ≡ Some old → state.messages ≡ popped ++ rest
     → NamesAlone place popped posted →
-    IsStepped place popped posted old new → IsMatchedAt state place (Some old) → AreMatched state
+    IsStepped state.tags place popped posted old new → IsMatchedAt state place (Some old) → AreMatched state
     → AreMatched (acted_state state place part unit new rest posted)
 unfolding acted-written
 acted-counted state place part unit old new popped rest posted there held pops alone step here all =
@@ -107,7 +108,7 @@ under-there parts place part held there is = ap (λ found. option_map_or (held_i
 pub acted-matched : (state : Shared) (place : Place) (part : Part) (unit : BlockMaps) (old new : Entry) (popped rest : List Place) (posted : List Completion) →
     slice_get state.parts place.client ≡ Some part → held_at part.entries place.slot ≡ Some old → state.messages ≡ popped ++ rest
     → NamesAlone place popped posted → retired_places posted ≡ [] → TdsGoOn old new →
-    IsStepped place popped posted old new → IsMatchedAt state place (Some old) → IsCounted state → IsCounted (acted_state state place part unit new rest posted)
+    IsStepped state.tags place popped posted old new → IsMatchedAt state place (Some old) → IsCounted state → IsCounted (acted_state state place part unit new rest posted)
 acted-matched state place part unit old new popped rest posted there held pops alone none tds step here all =
     let now : Shared = acted_state state place part unit new rest posted in
     let written = acted-written state place part unit old new popped rest posted there held pops alone in
@@ -125,7 +126,7 @@ acted-matched state place part unit old new popped rest posted there held pops a
 pub record IsDueAt (state : Shared) (tag : ℕ) (fact : Entry → Bool) : Type 0 where
   pub place : Place
   pub entry : Entry
-  pub named : place_of (length state.parts) tag ≡ Some place
+  pub named : place_of state.tags (length state.parts) tag ≡ Some place
   pub held : under state.parts place ≡ Some entry
   pub so : fact entry ≡ true
 
@@ -138,7 +139,7 @@ due_part fact place (Some part) so = due_held (held_at part.entries place.slot) 
     due_held None is = absurd (false≢true is)
     due_held (Some entry) is = (entry, refl, is)
 
-due_named : (state : Shared) (tag : ℕ) (fact : Entry → Bool) (place : Option Place) → place_of (length state.parts) tag ≡ place →
+due_named : (state : Shared) (tag : ℕ) (fact : Entry → Bool) (place : Option Place) → place_of state.tags (length state.parts) tag ≡ place →
     option_map_or (λ (p : Place). part_fact state p.client (entry_fact fact p.slot)) place false ≡ true → IsDueAt state tag fact
 due_named state tag fact None is so = absurd (false≢true so)
 due_named state tag fact (Some place) is so =
@@ -146,7 +147,7 @@ due_named state tag fact (Some place) is so =
     record { place = place; entry = at.0; named = is; held = at.1; so = at.2 }
 
 pub place_fact-due : (state : Shared) (tag : ℕ) (fact : Entry → Bool) → place_fact state tag fact ≡ true → IsDueAt state tag fact
-place_fact-due state tag fact so = due_named state tag fact (place_of (length state.parts) tag) refl so
+place_fact-due state tag fact so = due_named state tag fact (place_of state.tags (length state.parts) tag) refl so
 
 -- AN EVENT
 
@@ -207,6 +208,7 @@ seen-written state event rest part old new is there held =
       now = seen_part part (event_place event).slot new;
       there = there;
       within = held-within part.entries (event_place event).slot old held;
+      tags = refl;
       parts = refl;
       entries = refl;
       queue = λ slot apart. ready_after-other part.ready (event_place event).slot slot new apart;
@@ -225,7 +227,7 @@ seen-written state event rest part old new is there held =
     }
 
 pub seen-counted : (state : Shared) (event : Completion) (rest : List Completion) (part : Part) (old new : Entry) → state.events ≡ event ∷ rest →
-    slice_get state.parts (event_place event).client ≡ Some part → held_at part.entries (event_place event).slot ≡ Some old → IsCountedOut event old new →
+    slice_get state.parts (event_place event).client ≡ Some part → held_at part.entries (event_place event).slot ≡ Some old → IsCountedOut state.tags event old new →
     IsMatchedAt state (event_place event) (Some old) → AreMatched state → AreMatched (seen_state state (event_place event) part new rest)
 unfolding seen-written
 seen-counted state event rest part old new is there held step here all =
@@ -264,7 +266,7 @@ td_event-retired (EngineDone place) rest is = absurd (false≢true is)
 
 pub seen-matched : (state : Shared) (event : Completion) (rest : List Completion) (part : Part) (old new : Entry) → is_td_event event ≡ true →
     state.events ≡ event ∷ rest → slice_get state.parts (event_place event).client ≡ Some part → held_at part.entries (event_place event).slot ≡ Some old →
-    IsSeenAs event old new → IsMatchedAt state (event_place event) (Some old) → IsCounted state →
+    IsSeenAs state.tags event old new → IsMatchedAt state (event_place event) (Some old) → IsCounted state →
     IsCounted (seen_state state (event_place event) part new rest)
 seen-matched state event rest part old new of_td is there held step here all =
     let place : Place = event_place event in

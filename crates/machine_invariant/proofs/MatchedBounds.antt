@@ -3,7 +3,9 @@ use Rattle.std.proofs.Common.{◌≡◌, ℕ, zero, suc, ◌+◌, ◌*◌, ◌<�
 use Rattle.std.proofs.Common.{arith, ap, subst}
 use Rattle.std.specs.Prelude.{slice_get}
 use Rattle.std.proofs.lemmas.Option.{none-some}
-use Rattle.uas_profile.specs.declared.TheConstants.{TAGS}
+use Rattle.uas_profile.specs.Tags.{AreTags}
+use Rattle.scsi_cmd.specs.declared.Request.{Request}
+use Rattle.scsi_cmd.specs.declared.Request.TheVariants.{Execute, Manage}
 use Rattle.uas_profile.specs.declared.Place.{Place}
 use Rattle.shared_machine.specs.declared.Td.{Td}
 use Rattle.shared_machine.specs.declared.Completion.{Completion}
@@ -14,7 +16,7 @@ use Rattle.shared_machine.specs.Shared.{Shared}
 use Rattle.shared_machine.specs.Bus.{IsPlace}
 use Rattle.shared_machine.specs.Soundness.{one_if, awaited_data, readied_of}
 use Rattle.machine_invariant.specs.Matched.{same_place, times, under, carried_places, moved_places, sent_places, command_events, waiting_command, awaited_command}
-use Rattle.machine_invariant.specs.Matched.{awaited_status, awaited_data_of, retired_places, HaveSlots, IsMatchedAt, IsMatched, HasRoom, IsNamedOnce, pipe_places}
+use Rattle.machine_invariant.specs.Matched.{awaited_status, awaited_data_of, retired_places, IsMatchedAt, IsRequestIn, IsMatched, HasRoom, IsNamedOnce, pipe_places}
 use Rattle.machine_invariant.proofs.MatchedPlaces.{one_self, one_if-most, times-append, IsFound, under-found, held-within}
 use Rattle.machine_invariant.proofs.MatchedEntries.{awaited-taken}
 use Rattle.machine_invariant.proofs.MatchedRetirement.{answered-once}
@@ -39,59 +41,59 @@ sum_below-ones : (n : ℕ) (f : ℕ → ℕ) → ((k : ℕ) → f k ≤ 1) → s
 sum_below-ones zero f most = omega arith
 sum_below-ones (suc n) f most = omega (arith, sum_below-ones n (λ k. f (suc k)) (λ k. most (suc k)), most 0)
 
-sum_below-most : (n : ℕ) (f : ℕ → ℕ) → ((k : ℕ) → f k ≤ TAGS) → sum_below n f ≤ TAGS * n
-sum_below-most zero f most = omega arith
-sum_below-most (suc n) f most = omega (arith, sum_below-most n (λ k. f (suc k)) (λ k. most (suc k)), most 0)
+sum_below-most : (each n : ℕ) (f : ℕ → ℕ) → ((k : ℕ) → f k ≤ each) → sum_below n f ≤ n * each
+sum_below-most each zero f most = omega arith
+sum_below-most each (suc n) f most = omega (arith, sum_below-most each n (λ k. f (suc k)) (λ k. most (suc k)), most 0)
 
 -- the number of a client's slot
 abbrev at_slot : (Place → ℕ) → ℕ → ℕ → ℕ
 at_slot f client slot = f (record { client = client; slot = slot })
 
 -- the sum over a client's slots, and over the slots of so many clients
-abbrev sum_slots : (Place → ℕ) → ℕ → ℕ
-sum_slots f client = sum_below TAGS (at_slot f client)
+abbrev sum_slots : ℕ → (Place → ℕ) → ℕ → ℕ
+sum_slots tags f client = sum_below tags (at_slot f client)
 
-abbrev sum_places : ℕ → (Place → ℕ) → ℕ
-sum_places clients f = sum_below clients (sum_slots f)
+abbrev sum_places : ℕ → ℕ → (Place → ℕ) → ℕ
+sum_places tags clients f = sum_below clients (sum_slots tags f)
 
-sum_places-two : (clients : ℕ) (f g both : Place → ℕ) → ((place : Place) → f place + g place ≤ both place) →
-    sum_places clients f + sum_places clients g ≤ sum_places clients both
-sum_places-two clients f g both less =
-    sum_below-two clients (sum_slots f) (sum_slots g) (sum_slots both)
-    (λ client. sum_below-two TAGS (at_slot f client) (at_slot g client) (at_slot both client) (λ slot. less (record { client = client; slot = slot })))
+sum_places-two : (tags clients : ℕ) (f g both : Place → ℕ) → ((place : Place) → f place + g place ≤ both place) →
+    sum_places tags clients f + sum_places tags clients g ≤ sum_places tags clients both
+sum_places-two tags clients f g both less =
+    sum_below-two clients (sum_slots tags f) (sum_slots tags g) (sum_slots tags both)
+    (λ client. sum_below-two tags (at_slot f client) (at_slot g client) (at_slot both client) (λ slot. less (record { client = client; slot = slot })))
 
-sum_places-one : (clients : ℕ) (place : Place) (f : Place → ℕ) → IsPlace clients place → f place ≤ sum_places clients f
-sum_places-one clients place f is =
-    let row : f place ≤ sum_slots f place.client = sum_below-one TAGS place.slot (at_slot f place.client) is.slot in
-    let all : sum_slots f place.client ≤ sum_places clients f = sum_below-one clients place.client (sum_slots f) is.client in
+sum_places-one : (tags clients : ℕ) (place : Place) (f : Place → ℕ) → IsPlace tags clients place → f place ≤ sum_places tags clients f
+sum_places-one tags clients place f is =
+    let row : f place ≤ sum_slots tags f place.client = sum_below-one tags place.slot (at_slot f place.client) is.slot in
+    let all : sum_slots tags f place.client ≤ sum_places tags clients f = sum_below-one clients place.client (sum_slots tags f) is.client in
     omega (arith, row, all)
 
-sum_places-ones : (clients : ℕ) (f : Place → ℕ) → ((place : Place) → f place ≤ 1) → sum_places clients f ≤ TAGS * clients
-sum_places-ones clients f most =
-    sum_below-most clients (sum_slots f) (λ client. sum_below-ones TAGS (at_slot f client) (λ slot. most (record { client = client; slot = slot })))
+sum_places-ones : (tags clients : ℕ) (f : Place → ℕ) → ((place : Place) → f place ≤ 1) → sum_places tags clients f ≤ clients * tags
+sum_places-ones tags clients f most =
+    sum_below-most tags clients (sum_slots tags f) (λ client. sum_below-ones tags (at_slot f client) (λ slot. most (record { client = client; slot = slot })))
 
 -- LISTS OF PLACES
 
 -- a list of places isn't longer than they are named together
-length-places : (clients : ℕ) (places : List Place) → ((place : Place) → 1 ≤ times place places → IsPlace clients place) →
-    length places ≤ sum_places clients (λ place. times place places)
-length-places clients [] within = omega arith
-length-places clients (first ∷ rest) within =
-    let here : IsPlace clients first = within first (omega (arith, one_self first)) in
-    let one : one_if (same_place first first) ≤ sum_places clients (λ place. one_if (same_place first place)) =
-    sum_places-one clients first (λ place. one_if (same_place first place)) here in
-    let more : length rest ≤ sum_places clients (λ place. times place rest) =
-    length-places clients rest (λ place named. within place (omega (arith, named))) in
-    let two = sum_places-two clients (λ place. one_if (same_place first place)) (λ place. times place rest) (λ place. times place (first ∷ rest))
+length-places : (tags clients : ℕ) (places : List Place) → ((place : Place) → 1 ≤ times place places → IsPlace tags clients place) →
+    length places ≤ sum_places tags clients (λ place. times place places)
+length-places tags clients [] within = omega arith
+length-places tags clients (first ∷ rest) within =
+    let here : IsPlace tags clients first = within first (omega (arith, one_self first)) in
+    let one : one_if (same_place first first) ≤ sum_places tags clients (λ place. one_if (same_place first place)) =
+    sum_places-one tags clients first (λ place. one_if (same_place first place)) here in
+    let more : length rest ≤ sum_places tags clients (λ place. times place rest) =
+    length-places tags clients rest (λ place named. within place (omega (arith, named))) in
+    let two = sum_places-two tags clients (λ place. one_if (same_place first place)) (λ place. times place rest) (λ place. times place (first ∷ rest))
     (λ place. omega arith) in
     omega (arith, one_self first, one, more, two)
 
 -- a list that names each place once at most isn't longer than the places are many
-once-length : (clients : ℕ) (places : List Place) → ((place : Place) → 1 ≤ times place places → IsPlace clients place) →
-    ((place : Place) → times place places ≤ 1) → length places ≤ TAGS * clients
-once-length clients places within once =
-    let long = length-places clients places within in
-    let most = sum_places-ones clients (λ place. times place places) once in
+once-length : (tags clients : ℕ) (places : List Place) → ((place : Place) → 1 ≤ times place places → IsPlace tags clients place) →
+    ((place : Place) → times place places ≤ 1) → length places ≤ clients * tags
+once-length tags clients places within once =
+    let long = length-places tags clients places within in
+    let most = sum_places-ones tags clients (λ place. times place places) once in
     omega (arith, long, most)
 
 -- the events are those of the four kinds
@@ -111,25 +113,31 @@ found-within [] client part is = absurd (none-some part is)
 found-within (first ∷ rest) zero part is = omega arith
 found-within (first ∷ rest) (suc client) part is = omega (arith, found-within rest client part is)
 
+-- a request asks one of the client's slots
+asked-within : (tags slot : ℕ) (request : Request) → AreTags tags → IsRequestIn tags slot request → slot < tags
+asked-within tags slot (Execute op) are asks = omega (arith, asks)
+asked-within tags slot (Manage what noted) are asks = omega (arith, asks, are.least)
+
 -- where something stands is a place
-pub slots-place : (parts : List Part) (place : Place) (entry : Entry) → HaveSlots parts → under parts place ≡ Some entry → IsPlace (length parts) place
-slots-place parts place entry slots is =
-    let found : IsFound parts place entry = under-found parts place entry is in
-    let long : length found.part.entries ≡ TAGS = subst (λ part. IfSome part (λ part. length part.entries ≡ TAGS)) found.there (slots place.client) in
+pub slots-place : (state : Shared) (place : Place) (entry : Entry) → AreTags state.tags → IsMatchedAt state place (under state.parts place)
+    → under state.parts place ≡ Some entry → IsPlace state.tags (length state.parts) place
+slots-place state place entry are here is =
+    let found : IsFound state.parts place entry = under-found state.parts place entry is in
+    let at : IsMatchedAt state place (Some entry) = subst (λ held. IsMatchedAt state place held) is here in
     record {
-      client = found-within parts place.client found.part found.there;
-      slot = omega (arith, held-within found.part.entries place.slot entry found.held, long);
+      client = found-within state.parts place.client found.part found.there;
+      slot = asked-within state.tags place.slot entry.task.request are at.sound.asks;
     }
 
 pub held-place : (state : Shared) (place : Place) (entry : Entry) → IsMatched state → under state.parts place ≡ Some entry →
-    IsPlace (length state.parts) place
-held-place state place entry all is = slots-place state.parts place entry all.slots is
+    IsPlace state.tags (length state.parts) place
+held-place state place entry all is = slots-place state place entry all.tags (all.places place) is
 
 -- what is counted somewhere stands there
 pub some-place : (state : Shared) (place : Place) (count : Option Entry → ℕ) → count None ≡ 0 → IsMatched state → 1 ≤ count (under state.parts place) →
-    IsPlace (length state.parts) place
+    IsPlace state.tags (length state.parts) place
 some-place state place count none all some =
-    elim (under state.parts place) as (λ held. under state.parts place ≡ held → 1 ≤ count held → IsPlace (length state.parts) place) [
+    elim (under state.parts place) as (λ held. under state.parts place ≡ held → 1 ≤ count held → IsPlace state.tags (length state.parts) place) [
       | None ↦ λ is named. absurd (omega (arith, none, named))
       | Some entry ↦ λ is named. held-place state place entry all is
     ] refl some
@@ -175,22 +183,22 @@ matched-once state all place =
     }
 
 -- the command pipe's TRBs
-pipe-length : (state : Shared) → IsMatched state → length (pipe_places state) ≤ TAGS * length state.parts
+pipe-length : (state : Shared) → IsMatched state → length (pipe_places state) ≤ length state.parts * state.tags
 pipe-length state all =
-    once-length (length state.parts) (pipe_places state)
+    once-length state.tags (length state.parts) (pipe_places state)
     (λ place named. some-place state place (λ held. awaited_command held + waiting_command held) refl all
     (omega (arith, times_pipe state place, named, (all.places place).messages, (all.places place).carried)))
     (λ place. (matched-once state all place).command)
 
-moved-length : (state : Shared) → IsMatched state → length (moved_places state.events) ≤ TAGS * length state.parts
+moved-length : (state : Shared) → IsMatched state → length (moved_places state.events) ≤ length state.parts * state.tags
 moved-length state all =
-    once-length (length state.parts) (moved_places state.events)
+    once-length state.tags (length state.parts) (moved_places state.events)
     (λ place named. some-place state place awaited_data_of refl all (omega (arith, named, (all.places place).moved)))
     (λ place. (matched-once state all place).data_events)
 
-sent-length : (state : Shared) → IsMatched state → length (sent_places state.events) ≤ TAGS * length state.parts
+sent-length : (state : Shared) → IsMatched state → length (sent_places state.events) ≤ length state.parts * state.tags
 sent-length state all =
-    once-length (length state.parts) (sent_places state.events)
+    once-length state.tags (length state.parts) (sent_places state.events)
     (λ place named. some-place state place awaited_status refl all (omega (arith, named, (all.places place).sent)))
     (λ place. (matched-once state all place).status_events)
 

@@ -1,5 +1,5 @@
 -- The controller's commands of a retirement keep what waits matched: a pipe is stopped, a dequeue pointer moved. Cited by MatchedEngine.
-use Rattle.std.proofs.Common.{◌≡◌, ◌≤◌, Bool, true, false, ◌&&◌, List, [], ◌∷◌, ◌++◌, length, Option, Some, None}
+use Rattle.std.proofs.Common.{◌≡◌, ◌≤◌, Bool, true, false, ◌&&◌, List, [], ◌∷◌, ◌++◌, length, Option, Some, None, ℕ, ◌*◌}
 use Rattle.std.proofs.Common.{refl, arith, ap, sym, subst, ◌∙◌}
 use Rattle.std.specs.Prelude.{slice_get, slice_set}
 use Rattle.std.specs.Option.{option_map_or}
@@ -11,7 +11,7 @@ use Rattle.uas_profile.specs.declared.PipeState.{PipeState}
 use Rattle.uas_profile.specs.PipeStates.{stopped_pipe}
 use Rattle.uas_profile.specs.declared.Place.{Place}
 use Rattle.uas_profile.specs.Pipes.{same_pipe}
-use Rattle.uas_profile.specs.declared.TheConstants.{MAX_CLIENTS}
+use Rattle.uas_profile.specs.declared.TheConstants.{STREAMS}
 use Rattle.shared_machine.specs.declared.Td.{Td}
 use Rattle.shared_machine.specs.declared.Completion.{Completion}
 use Rattle.shared_machine.specs.declared.Completion.TheVariants.{EngineDone}
@@ -27,7 +27,7 @@ use Rattle.shared_machine.specs.Shared.{routed_to, engine_did, engine_step}
 use Rattle.machine_invariant.specs.Matched.{same_place, times, under, command_events, data_events, status_events, retired_places, answered_place}
 use Rattle.machine_invariant.specs.Matched.{answered_places, is_left_over_at, has_trb_at, is_whole_on, was_moved, is_passed, IsMatchedEntry, IsMatchedAt}
 use Rattle.machine_invariant.specs.Matched.{IsAtStage, IsRetiring, FlowsAt, IsMatched}
-use Rattle.machine_invariant.proofs.MatchedPlaces.{same_place-self, same_place-true, command_events-append, data_events-append, status_events-append}
+use Rattle.machine_invariant.proofs.MatchedPlaces.{same_place-self, same_place-true, command_events-append, data_events-append, status_events-append, layout, same-layout}
 use Rattle.machine_invariant.proofs.MatchedPlaces.{retired_places-append, IsFound, under-found, IsWritten, under-written, under-other, clients-written, AreMatched}
 use Rattle.machine_invariant.proofs.MatchedPlaces.{AreMatched-same, IsCounted, counted-of}
 use Rattle.machine_invariant.proofs.MatchedLeftOver.{passed-stepped, IsSameOn, changed-other, passed-empty, passed-whole, passed-still}
@@ -40,6 +40,7 @@ use Rattle.shared_machine.proofs.Standing.{slice_get-back}
 
 -- a state with another state of one pipe
 pub record IsPiped (old new : Shared) (pipe : Pipe) (now : PipeState) : Type 0 where
+  pub tags : new.tags ≡ old.tags
   pub parts : new.parts ≡ old.parts
   pub messages : new.messages ≡ old.messages
   pub events : new.events ≡ old.events
@@ -56,13 +57,13 @@ with_pipe-others state now pipe other apart = refl
 
 pub with_pipe-is : (state : Shared) (pipe : Pipe) (now : PipeState) → IsPiped state (with_pipe state pipe now) pipe now
 with_pipe-is state Command now =
-    record { parts = refl; messages = refl; events = refl; retirement = refl; own = λ none. absurd none; others = with_pipe-others state now Command }
+    record { tags = refl; parts = refl; messages = refl; events = refl; retirement = refl; own = λ none. absurd none; others = with_pipe-others state now Command }
 with_pipe-is state pipe now =
-    record { parts = refl; messages = refl; events = refl; retirement = refl; own = λ streams. refl; others = with_pipe-others state now pipe }
+    record { tags = refl; parts = refl; messages = refl; events = refl; retirement = refl; own = λ streams. refl; others = with_pipe-others state now pipe }
 
 -- the places of a state in which neither parts nor messages nor events changed
-pub places-kept : (old new : Shared) → new.parts ≡ old.parts → new.messages ≡ old.messages → new.events ≡ old.events → AreMatched old → AreMatched new
-places-kept old new parts messages events all = AreMatched-same old new parts (λ place. record {
+pub places-kept : (old new : Shared) → new.tags ≡ old.tags → new.parts ≡ old.parts → new.messages ≡ old.messages → new.events ≡ old.events → AreMatched old → AreMatched new
+places-kept old new tags parts messages events all = AreMatched-same old new tags parts (λ place. record {
   messages = ap (times place) messages;
   carried = ap (command_events place) events;
   moved = ap (data_events place) events;
@@ -89,9 +90,9 @@ has-left state r retiring =
 
 -- STOP ENDPOINT IS EXECUTED
 
-pub stop-event : (state : Shared) (place : Place) (now : Shared) → now.parts ≡ state.parts → now.messages ≡ state.messages →
-    now.events ≡ state.events ++ EngineDone place ∷ [] → AreMatched state → AreMatched now
-stop-event state place now parts messages events all = AreMatched-same state now parts (λ other. record {
+pub stop-event : (state : Shared) (place : Place) (now : Shared) → now.tags ≡ state.tags → now.parts ≡ state.parts
+    → now.messages ≡ state.messages → now.events ≡ state.events ++ EngineDone place ∷ [] → AreMatched state → AreMatched now
+stop-event state place now tags parts messages events all = AreMatched-same state now tags parts (λ other. record {
   messages = ap (times other) messages;
   carried = omega (arith, ap (command_events other) events, command_events-append other state.events (EngineDone place ∷ []));
   moved = omega (arith, ap (data_events other) events, data_events-append other state.events (EngineDone place ∷ []));
@@ -120,21 +121,22 @@ stopped-matched state r is asked all =
     let now : Shared = (acted_on base r.place.client (stop_act r.place part)).0 in
     let parts : now.parts ≡ state.parts =
     ap (λ parts. slice_set parts r.place.client part) facts.parts ∙ slice_get-back state.parts r.place.client part at.found.there in
+    let kept : layout now ≡ layout state = same-layout state now facts.tags (ap (λ ps. length ps) parts) in
     let events : now.events ≡ state.events ++ EngineDone r.place ∷ [] = ap (λ es. es ++ EngineDone r.place ∷ []) facts.events in
-    let places : AreMatched now = stop-event state r.place now parts facts.messages events (counted-of state all).matched in
+    let places : AreMatched now = stop-event state r.place now facts.tags parts facts.messages events (counted-of state all).matched in
     let own : pipe_of now r.pipe ≡ stopped_pipe = pipes-same piped now refl refl refl r.pipe ∙ facts.own retiring.streams in
     subst (λ (after : Shared × Outcome). IsCounted after.0) (sym (ap (λ found. routed_to base r.place.client (stop_act r.place) found) there)) (record {
       matched = places;
       retired = posted-retired state now r StopAsked events all.retired is asked refl;
       retiring = record {
         streams = retiring.streams;
-        there = subst (λ ps. IsPlace (length ps) r.place) (sym parts) retiring.there;
+        there = subst (λ (n : ℕ × ℕ). IsPlace n.0 n.1 r.place) (sym kept) retiring.there;
         left = ap (λ ps. left_of r.pipe (under ps r.place)) parts ∙ retiring.left;
         stage = ap (λ p. p.runs) own;
       };
       flows = λ pipe place. record {
         runs = λ few free has. ap (λ p. p.runs) (pipes-same piped now refl refl refl pipe ∙ facts.others pipe free)
-            ∙ (all.flows pipe place).runs (subst (λ ps. length ps ≤ MAX_CLIENTS) parts few) (held-is state r pipe is ∙ free)
+            ∙ (all.flows pipe place).runs (subst (λ (n : ℕ × ℕ). n.1 * n.0 ≤ STREAMS) kept few) (held-is state r pipe is ∙ free)
             (sym (ap (λ ps. trb_of pipe (under ps place)) parts) ∙ has);
         left = λ before left. ap (λ ps. trb_of pipe (under ps place)) parts
             ∙ (all.flows pipe place).left (passed-before state r pipe place is (ap (λ stage. was_moved stage) asked))
@@ -210,14 +212,14 @@ moved-matched state r is asked all =
     let now : Shared = acted_state base r.place part part.unit new state.messages posted in
     let alone : NamesAlone r.place [] posted =
     record { messages = λ other apart. refl; carried = λ other apart. refl; moved = λ other apart. refl; sent = λ other apart. refl } in
-    let bases : AreMatched base = places-kept state base refl refl refl (counted-of state all).matched in
+    let bases : AreMatched base = places-kept state base refl refl refl refl (counted-of state all).matched in
     let here : IsMatchedAt base r.place (Some old) = subst (λ held. IsMatchedAt base r.place held) at.held (bases.places r.place) in
-    let sound : IsMatchedEntry r.place.slot old = here.sound in
+    let sound : IsMatchedEntry state.tags r.place.slot old = here.sound in
     let places : AreMatched now = acted-counted base r.place part part.unit old new [] state.messages posted at.found.there at.found.held refl alone
     (passed-stepped r.pipe r.place old at.left sound) here bases in
     let written : IsWritten base now r.place (Some new) =
     acted-written base r.place part part.unit old new [] state.messages posted at.found.there at.found.held refl alone in
-    let there : length now.parts ≡ length state.parts = clients-written base now r.place (Some new) written in
+    let there : layout now ≡ layout state = clients-written base now r.place (Some new) written in
     let elsewhere = changed-elsewhere base now r old (passed_td (trbs_on r.pipe old)) written at.held at.left in
     let own = changed-own base now r new written in
     let itself : (same_pipe r.pipe r.pipe && same_place r.place r.place) ≡ true =
@@ -232,7 +234,7 @@ moved-matched state r is asked all =
       retired = posted-retired state now r MoveAsked refl all.retired is asked refl;
       retiring = record {
         streams = retiring.streams;
-        there = subst (λ n. IsPlace n r.place) (sym there) retiring.there;
+        there = subst (λ (n : ℕ × ℕ). IsPlace n.0 n.1 r.place) (sym there) retiring.there;
         left = own r.pipe r.place itself is_left_over_on ∙ passed-still r.pipe old ∙ at.left;
         stage = (ap (λ p. p.runs) (pipes r.pipe) ∙ stage, own r.pipe r.place itself is_whole_on ∙ passed-whole r.pipe old at.left);
       };
@@ -243,7 +245,7 @@ moved-matched state r is asked all =
           })
           (λ apart. record {
             runs = λ few free has. ap (λ p. p.runs) (pipes pipe)
-                ∙ (all.flows pipe place).runs (subst (λ n. n ≤ MAX_CLIENTS) there few) (held-is state r pipe is ∙ free)
+                ∙ (all.flows pipe place).runs (subst (λ (n : ℕ × ℕ). n.1 * n.0 ≤ STREAMS) there few) (held-is state r pipe is ∙ free)
                 (sym (elsewhere pipe place apart).trb ∙ has);
             left = λ before left. (elsewhere pipe place apart).trb
                 ∙ (all.flows pipe place).left (passed-before state r pipe place is (ap (λ s. was_moved s) asked))

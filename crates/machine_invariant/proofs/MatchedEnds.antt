@@ -24,7 +24,7 @@ use Rattle.solo_model.specs.TaggedTask.{TaggedTask, aborted_by, answered_by, rep
 use Rattle.scsi_cmd.specs.declared.Reply.{Reply}
 use Rattle.scsi_cmd.specs.declared.Reply.TheVariants.{Aborted, Status as StatusReply, Task as TaskReply}
 use Rattle.scsi_cmd.specs.declared.Task.{Task}
-use Rattle.uas_profile.specs.declared.TheConstants.{TASK_SLOT, CHUNK_BYTES}
+use Rattle.uas_profile.specs.declared.TheConstants.{CHUNK_BYTES}
 use Rattle.shared_machine.specs.Tests.{is_left_over, is_over, is_pending, is_seen}
 use Rattle.uas_profile.specs.declared.TdState.{TdState}
 use Rattle.uas_profile.specs.declared.TdState.TheVariants.{Pending, Seen, LeftOver, Retired}
@@ -36,6 +36,7 @@ use Rattle.shared_machine.specs.Soundness.{one_if, awaited_data}
 use Rattle.machine_invariant.specs.Matched.{waiting_command, awaited_command, awaited_status, awaited_data_of, IsStatusTd, IsMovingTd, IsMatchedEntry, IsPhaseOf}
 use Rattle.machine_invariant.proofs.MatchedTasks.{unawaited}
 use Rattle.machine_invariant.proofs.MatchedTds.{in-either, out-either}
+use Rattle.uas_profile.specs.Tags.{task_slot}
 
 -- TAKE
 
@@ -152,8 +153,8 @@ pub record IsQuiet (entry : Entry) : Type 0 where
   pub sent : awaited_status (Some entry) ≡ 0
   pub done : IsDone entry.task.request entry.task.phase
 
-pub ready-quiet : (slot : ℕ) (entry : Entry) → is_ready entry ≡ true → IsMatchedEntry slot entry → IsQuiet entry
-ready-quiet slot entry ready sound =
+pub ready-quiet : {tags : ℕ} (slot : ℕ) (entry : Entry) → is_ready entry ≡ true → IsMatchedEntry tags slot entry → IsQuiet entry
+ready-quiet {tags} slot entry ready sound =
     let first : (is_seen entry.command_td.state ≡ true) × ((is_over entry.status_td.state && is_data_over entry.data_td) ≡ true) = and_parts
     (is_seen entry.command_td.state) _ ready in
     let rest : (is_over entry.status_td.state ≡ true) × (is_data_over entry.data_td ≡ true) = and_parts (is_over entry.status_td.state)
@@ -206,20 +207,20 @@ unfaulted in_use least ticket command none =
     unfaulted_if in_use (not (length command.buffer == moved_bytes command.op)) (is_too_long command.op) (nat_lt ticket least) least command.op refl none
 
 -- the entry of a request that was just submitted
-pub record IsSubmitted (slot : ℕ) (entry : Entry) : Type 0 where
+pub record IsSubmitted (tags : ℕ) (slot : ℕ) (entry : Entry) : Type 0 where
   pub messages : waiting_command (Some entry) ≡ 1
   pub carried : awaited_command (Some entry) ≡ 0
   pub moved : awaited_data_of (Some entry) ≡ 0
   pub sent : awaited_status (Some entry) ≡ 0
   pub ready : one_if (is_ready entry) ≡ 0
-  pub sound : IsMatchedEntry slot entry
+  pub sound : IsMatchedEntry tags slot entry
 
 pub moving-unawaited : (trbs chunk : ℕ) (td : Option Td) → IsMovingTd trbs chunk td → awaited_data trbs td ≡ 0
 moving-unawaited trbs chunk None is = refl
 moving-unawaited trbs chunk (Some td) is = unawaited td trbs (λ same. omega (arith, is.1, is.2))
 
-pub submit-stepped : (slot ticket : ℕ) (command : Command) → slot < TASK_SLOT → is_too_long command.op ≡ false → IsSubmitted slot (new_entry ticket command)
-submit-stepped slot ticket command within short =
+pub submit-stepped : {tags : ℕ} (slot ticket : ℕ) (command : Command) → slot < (task_slot tags) → is_too_long command.op ≡ false → IsSubmitted tags slot (new_entry ticket command)
+submit-stepped {tags} slot ticket command within short =
     let chunks : IsMovingTd ((moved_bytes command.op + (CHUNK_BYTES - 1)) / CHUNK_BYTES) 0 (data_td_for (moved_bytes command.op)) = submitted-chunks (moved_bytes command.op) in
     record {
       messages = refl;
@@ -240,10 +241,10 @@ submit-stepped slot ticket command within short =
 
 -- TASK MANAGEMENT
 
-pub manage-stepped : (ticket : ℕ) (task : Task) (noted : List ℕ) → IsSubmitted TASK_SLOT (new_management ticket task noted)
-manage-stepped ticket task noted = record { messages = refl; carried = refl; moved = refl; sent = refl; ready = refl; sound = sound }
+pub manage-stepped : {tags : ℕ} (ticket : ℕ) (task : Task) (noted : List ℕ) → IsSubmitted tags (task_slot tags) (new_management ticket task noted)
+manage-stepped {tags} ticket task noted = record { messages = refl; carried = refl; moved = refl; sent = refl; ready = refl; sound = sound }
   where
-    sound : IsMatchedEntry TASK_SLOT (new_management ticket task noted)
+    sound : IsMatchedEntry tags (task_slot tags) (new_management ticket task noted)
     sound = record { asks = refl; answers = tt; command = refl; status = refl; chunks = tt; moves = refl; small = omega arith }
 
 -- one without a fault is for a free slot

@@ -14,8 +14,8 @@ use Rattle.uas_profile.specs.declared.PipeState.{PipeState}
 use Rattle.uas_profile.specs.PipeStates.{rung_at}
 use Rattle.uas_profile.specs.declared.Place.{Place}
 use Rattle.uas_profile.specs.Pipes.{same_pipe}
-use Rattle.uas_profile.specs.Places.{place_of, tag_of}
-use Rattle.uas_profile.specs.declared.TheConstants.{TAGS, MAX_CLIENTS, STREAMS}
+use Rattle.uas_profile.specs.Tags.{place_of, tag_of}
+use Rattle.uas_profile.specs.declared.TheConstants.{STREAMS}
 use Rattle.shared_machine.specs.declared.Completion.{Completion}
 use Rattle.shared_machine.specs.declared.Completion.TheVariants.{EngineDone}
 use Rattle.shared_machine.specs.declared.Outcome.{Outcome}
@@ -27,12 +27,12 @@ use Rattle.shared_machine.specs.Bus.{IsPlace}
 use Rattle.shared_machine.specs.Pipes.{all_rung}
 use Rattle.shared_machine.specs.Td.{Entry, is_left_over_on, has_trb_on, with_td_on, retired_td, retired_on}
 use Rattle.shared_machine.specs.Part.{Part, seen_entry, retire_act}
-use Rattle.shared_machine.specs.Shared.{Shared, is_asked, is_some_of, due, entry_fact, part_fact, place_fact, pipe_of, with_pipe, acted_on, routed}
+use Rattle.shared_machine.specs.Shared.{Shared, is_asked, is_some_of, due, entry_fact, part_fact, place_fact, pipe_of, with_pipe, acted_on, routed, greatest_tag}
 use Rattle.shared_machine.specs.Shared.{routed_to, retire_step, streams_pending, resumed, stage_seen, engine_seen, event_step}
 use Rattle.machine_invariant.specs.Matched.{same_place, times, held_in, under, command_events, data_events, status_events, retired_places}
 use Rattle.machine_invariant.specs.Matched.{answered_places, is_left_over_at, has_trb_at, was_moved, HaveSlots, IsMatchedEntry, IsMatchedAt}
 use Rattle.machine_invariant.specs.Matched.{IsAtStage, IsRetiring, IsMatched}
-use Rattle.machine_invariant.proofs.MatchedPlaces.{IsWritten, clients-written, AreMatched}
+use Rattle.machine_invariant.proofs.MatchedPlaces.{IsWritten, clients-written, AreMatched, layout, same-layout}
 use Rattle.machine_invariant.proofs.MatchedPlaces.{AreMatched-same, IsCounted, counted-of}
 use Rattle.machine_invariant.proofs.MatchedBounds.{slots-place, held-place}
 use Rattle.machine_invariant.proofs.MatchedLeftOver.{retired-counted, retired_on-is}
@@ -43,6 +43,7 @@ use Rattle.machine_invariant.proofs.MatchedFlows.{pipes-same, left_of, trb_of}
 use Rattle.machine_invariant.proofs.MatchedActs.{IsDueAt, place_fact-due, seen_state, seen-written, seen-counted}
 use Rattle.machine_invariant.proofs.MatchedCommands.{IsPiped, with_pipe-is, places-kept, HasLeft, has-left}
 use Rattle.machine_invariant.proofs.MatchedCommands.{changed-elsewhere, changed-own, passed-apart}
+use Rattle.uas_profile.proofs.TagLaws.{place-is_named, tags-within}
 
 -- A RETIREMENT BEGINS
 
@@ -61,7 +62,7 @@ begun-matched : (state : Shared) (pipe : Pipe) (place : Place) (entry : Entry) �
 begun-matched state pipe place entry none held left all =
     let now : Shared = (retire_step state pipe (Some place)).0 in
     let r : Retirement = record { pipe = pipe; place = place; stage = StopAsked } in
-    let places : AreMatched now = places-kept state now refl refl refl (counted-of state all).matched in
+    let places : AreMatched now = places-kept state now refl refl refl refl (counted-of state all).matched in
     let here : is_left_over_at state pipe place ≡ true = ap (left_of pipe) held ∙ left in
     let pipes : (p : Pipe) → pipe_of now p ≡ pipe_of state p = pipes-same state now refl refl refl in
     record {
@@ -81,7 +82,7 @@ begun-matched state pipe place entry none held left all =
     }
 
 pub retire_step-matched : (state : Shared) (pipe : Pipe) (tag : ℕ) → due state (Retire pipe tag) ≡ true → IsMatched state →
-    IsCounted (retire_step state pipe (place_of (length state.parts) tag)).0
+    IsCounted (retire_step state pipe (place_of state.tags (length state.parts) tag)).0
 retire_step-matched state pipe tag is_due all =
     let both = and_parts (is_none state.retirement) (place_fact state tag (is_left_over_on pipe)) is_due in
     let at : IsDueAt state tag (is_left_over_on pipe) = place_fact-due state tag (is_left_over_on pipe) both.1 in
@@ -91,9 +92,9 @@ retire_step-matched state pipe tag is_due all =
 -- THE EVENT OF STOP ENDPOINT
 
 -- an event of the controller's own commands leaves the event ring
-popped-places : (state : Shared) (place : Place) (rest : List Completion) (now : Shared) → state.events ≡ EngineDone place ∷ rest → now.parts ≡ state.parts →
-    now.messages ≡ state.messages → now.events ≡ rest → AreMatched state → AreMatched now
-popped-places state place rest now is parts messages events all = AreMatched-same state now parts (λ other. record {
+popped-places : (state : Shared) (place : Place) (rest : List Completion) (now : Shared) → state.events ≡ EngineDone place ∷ rest → now.tags ≡ state.tags
+    → now.parts ≡ state.parts → now.messages ≡ state.messages → now.events ≡ rest → AreMatched state → AreMatched now
+popped-places state place rest now is tags parts messages events all = AreMatched-same state now tags parts (λ other. record {
   messages = ap (times other) messages;
   carried = ap (command_events other) events ∙ sym (ap (command_events other) is);
   moved = ap (data_events other) events ∙ sym (ap (data_events other) is);
@@ -105,7 +106,7 @@ asked-matched : (state : Shared) (r : Retirement) (place : Place) (rest : List C
     IsCounted (stage_seen (record state { events = rest }) r StopAnswered).0
 asked-matched state r place rest first is at none all =
     let now : Shared = (stage_seen (record state { events = rest }) r StopAnswered).0 in
-    let places : AreMatched now = popped-places state place rest now first refl refl refl (counted-of state all).matched in
+    let places : AreMatched now = popped-places state place rest now first refl refl refl refl (counted-of state all).matched in
     let was : IsRetiring state r = retiring-of state r all is in
     let stage : IsAtStage state r.pipe r.place StopAnswered = subst (λ s. IsAtStage state r.pipe r.place s) at was.stage in
     let pipes : (p : Pipe) → pipe_of now p ≡ pipe_of state p = pipes-same state now refl refl refl in
@@ -150,22 +151,14 @@ fact-under : (test : Entry → Bool) (place : Place) (found : Option Part) →
 fact-under test place None = refl
 fact-under test place (Some part) = refl
 
-pub place_of-tag_of : (clients : ℕ) (place : Place) → IsPlace clients place → place_of clients (tag_of place) ≡ Some place
-place_of-tag_of clients place there =
-    let slot_within = there.slot in
-    let tag : tag_of place ≡ suc (place.client * TAGS + place.slot) = omega arith in
-    let client : (place.client * TAGS + place.slot) / TAGS ≡ place.client = omega arith in
-    let slot : (place.client * TAGS + place.slot) % TAGS ≡ place.slot = omega arith in
-    ap (place_of clients) tag
-    ∙ ap (λ c. if nat_lt c clients then Some (record { client = c; slot = (place.client * TAGS + place.slot) % TAGS }) else None) client
-    ∙ ap (λ s. if nat_lt place.client clients then Some (record { client = place.client; slot = s }) else None) slot
-    ∙ ap (λ b. if b then Some place else None) (lt-ltb place.client clients there.client)
+pub place_of-tag_of : (tags clients : ℕ) (place : Place) → IsPlace tags clients place → place_of tags clients (tag_of tags place) ≡ Some place
+place_of-tag_of tags clients place there = place-is_named tags clients place there.client there.slot
 
-place-fact : (state : Shared) (place : Place) (test : Entry → Bool) → IsPlace (length state.parts) place →
-    place_fact state (tag_of place) test ≡ option_map_or test (under state.parts place) false
+place-fact : (state : Shared) (place : Place) (test : Entry → Bool) → IsPlace state.tags (length state.parts) place →
+    place_fact state (tag_of state.tags place) test ≡ option_map_or test (under state.parts place) false
 place-fact state place test there =
     ap (λ found. option_map_or (λ (p : Place). part_fact state p.client (entry_fact test p.slot)) found false)
-    (place_of-tag_of (length state.parts) place there)
+    (place_of-tag_of state.tags (length state.parts) place there)
     ∙ fact-under test place (slice_get state.parts place.client)
 
 -- where a TRB of a pipe may be taken, a stream of it is rung as the pipe is held no more
@@ -173,14 +166,13 @@ trb-held : (pipe : Pipe) (held : Option Entry) → trb_of pipe held ≡ true →
 trb-held pipe None has = absurd (false≢true has)
 trb-held pipe (Some entry) has = (entry, refl)
 
-pub pending-some : (state : Shared) (pipe : Pipe) (place : Place) → HaveSlots state.parts → length state.parts ≤ MAX_CLIENTS →
+pub pending-some : (state : Shared) (pipe : Pipe) (place : Place) → AreMatched state → greatest_tag state ≤ STREAMS →
     has_trb_at state pipe place ≡ true → is_some_of (streams_pending state pipe) ≡ true
-pending-some state pipe place slots few has =
+pending-some state pipe place matched few has =
     let at = trb-held pipe (under state.parts place) has in
-    let there : IsPlace (length state.parts) place = slots-place state.parts place at.0 slots at.1 in
-    let client = there.client in
-    let slot = there.slot in
-    filter-some (λ tag. place_fact state tag (has_trb_on pipe)) 1 STREAMS (tag_of place) (omega arith) (omega (arith, client, slot, few))
+    let there : IsPlace state.tags (length state.parts) place = slots-place state place at.0 matched.tags (matched.places place) at.1 in
+    let most = (tags-within state.tags (length state.parts) place there.client there.slot).1 in
+    filter-some (λ tag. place_fact state tag (has_trb_on pipe)) 1 STREAMS (tag_of state.tags place) (omega arith) (omega (arith, most, few))
     (place-fact state place (has_trb_on pipe) there ∙ has)
 
 -- the part of the client after it
@@ -215,15 +207,15 @@ retired-matched state r rest first is moved none all =
     let now : Shared = with_pipe after r.pipe all_pipe in
     let facts : IsPiped after now r.pipe all_pipe = with_pipe-is after r.pipe all_pipe in
     let here : IsMatchedAt state r.place (Some old) = subst (λ held. IsMatchedAt state r.place held) at.held (all.places r.place) in
-    let sound : IsMatchedEntry r.place.slot old = here.sound in
+    let sound : IsMatchedEntry state.tags r.place.slot old = here.sound in
     let counted : AreMatched seen =
     seen-counted state (EngineDone r.place) rest part old new first at.found.there at.found.held (retired-counted r.pipe r.place old at.left sound) here
     (counted-of state all).matched in
-    let places : AreMatched after = places-kept seen after refl refl refl counted in
-    let nows : AreMatched now = places-kept after now facts.parts facts.messages facts.events places in
+    let places : AreMatched after = places-kept seen after refl refl refl refl counted in
+    let nows : AreMatched now = places-kept after now facts.tags facts.parts facts.messages facts.events places in
     let written : IsWritten state seen r.place (Some new) = seen-written state (EngineDone r.place) rest part old new first at.found.there at.found.held in
-    let there : length now.parts ≡ length state.parts =
-    ap (λ ps. length ps) facts.parts ∙ clients-written state seen r.place (Some new) written in
+    let there : layout now ≡ layout state =
+    same-layout after now facts.tags (ap (λ ps. length ps) facts.parts) ∙ clients-written state seen r.place (Some new) written in
     let elsewhere = changed-elsewhere state seen r old retired_td written at.held at.left in
     let own = changed-own state seen r new written in
     let no_more : now.retirement ≡ None = facts.retirement in
@@ -240,10 +232,11 @@ retired-matched state r rest first is moved none all =
             (λ on. subst (λ p. (pipe_of now p).runs ≡ true) (same_pipe-true r.pipe pipe on)
             (ap (λ p. p.runs) (facts.own retiring.streams)
             ∙ all_rung-runs (pipe_of after r.pipe) (streams_pending after r.pipe)
-            (pending-some after r.pipe place places.slots (subst (λ ps. length ps ≤ MAX_CLIENTS) facts.parts few)
+            (pending-some after r.pipe place places
+            (subst (λ (n : ℕ × ℕ). n.1 * n.0 ≤ STREAMS) (same-layout after now facts.tags (ap (λ ps. length ps) facts.parts)) few)
             (subst (λ p. has_trb_at after p place ≡ true) (sym (same_pipe-true r.pipe pipe on)) (sym (trb_now pipe place) ∙ has)))))
             (λ off. ap (λ p. p.runs) (facts.others pipe off ∙ pipes-same state after refl refl refl pipe)
-            ∙ (all.flows pipe place).runs (subst (λ n. n ≤ MAX_CLIENTS) there few) (held-is state r pipe is ∙ off)
+            ∙ (all.flows pipe place).runs (subst (λ (n : ℕ × ℕ). n.1 * n.0 ≤ STREAMS) there few) (held-is state r pipe is ∙ off)
             (sym (elsewhere pipe place (and_left (same_pipe r.pipe pipe) (same_place r.place place) off)).trb ∙ sym (trb_now pipe place) ∙ has));
         left = λ before left. by_bool (same_pipe r.pipe pipe && same_place r.place place) (has_trb_at now pipe place ≡ true)
             (λ same. absurd (false≢true (sym (own pipe place same is_left_over_on ∙ retired-gone r.pipe old) ∙ sym (left_now pipe place) ∙ left)))

@@ -39,9 +39,9 @@ pub sent-answers : (request : Request) (answer : TaskAnswer) → IsPhaseOf reque
 sent-answers (Execute op) answer is = is
 sent-answers (Manage what noted) answer is = is
 
-pub send-stepped : (place : Place) (entry : Entry) (answer : TaskAnswer) → entry.task.phase ≡ Begun (Ended answer) → IsMatchedEntry place.slot entry →
-    IsStepped place [] (StatusDone place ∷ []) entry (sent_to entry answer)
-send-stepped place entry answer ended sound =
+pub send-stepped : {tags : ℕ} (place : Place) (entry : Entry) (answer : TaskAnswer) → entry.task.phase ≡ Begun (Ended answer) → IsMatchedEntry tags place.slot entry →
+    IsStepped tags place [] (StatusDone place ∷ []) entry (sent_to entry answer)
+send-stepped {tags} place entry answer ended sound =
     let command : entry.command_td.consumed ≡ 1 = subst (λ p. IsCommandTd p entry.command_td) ended sound.command in
     let status : entry.status_td ≡ pushed = subst (λ p. IsStatusTd p entry.status_td) ended sound.status in
     let before : one_if (is_awaited entry.status_td 1) ≡ 0 = ap (λ td. one_if (is_awaited td 1)) status in
@@ -64,9 +64,9 @@ send-stepped place entry answer ended sound =
     }
 
 -- the status TD alone changes, which was pending
-pub send-tds : (slot : ℕ) (entry : Entry) (answer : TaskAnswer) → entry.task.phase ≡ Begun (Ended answer) → IsMatchedEntry slot entry
+pub send-tds : {tags : ℕ} (slot : ℕ) (entry : Entry) (answer : TaskAnswer) → entry.task.phase ≡ Begun (Ended answer) → IsMatchedEntry tags slot entry
     → TdsGoOn entry (sent_to entry answer)
-send-tds slot entry answer ended sound = record {
+send-tds {tags} slot entry answer ended sound = record {
   request = refl;
   status = td-taken 1 entry.status_td (ap (λ (td : Td). td.state) (subst (λ p. IsStatusTd p entry.status_td) ended sound.status));
   data_tds = td-same (data_trbs entry.task.request) entry.data_td;
@@ -75,18 +75,18 @@ send-tds slot entry answer ended sound = record {
 -- EVENT
 
 -- an entry of which an event was taken: as much less is awaited, and it wasn't ready
-pub record IsCountedOut (event : Completion) (old new : Entry) : Type 0 where
+pub record IsCountedOut (tags : ℕ) (event : Completion) (old new : Entry) : Type 0 where
   pub messages : waiting_command (Some old) ≡ waiting_command (Some new)
   pub carried : awaited_command (Some old) ≡ command_events (event_place event) (event ∷ []) + awaited_command (Some new)
   pub moved : awaited_data_of (Some old) ≡ data_events (event_place event) (event ∷ []) + awaited_data_of (Some new)
   pub sent : awaited_status (Some old) ≡ status_events (event_place event) (event ∷ []) + awaited_status (Some new)
   pub ready : one_if (is_ready old) ≡ 0
-  pub sound : IsMatchedEntry (event_place event).slot new
+  pub sound : IsMatchedEntry tags (event_place event).slot new
 
 -- an entry whose event the host has seen
-pub record IsSeenAs (event : Completion) (old new : Entry) : Type 0 where
+pub record IsSeenAs (tags : ℕ) (event : Completion) (old new : Entry) : Type 0 where
   pub seen : seen_by event old ≡ Some new
-  pub counts : IsCountedOut event old new
+  pub counts : IsCountedOut tags event old new
   pub tds : TdsGoOn old new
 
 -- a TD that is awaited is pending, and has no TRB left
@@ -127,9 +127,9 @@ command-seen_td (Begun (Ended answer)) td awaited is = is
 command-seen_td (Sent answer) td awaited is = is
 command-seen_td Gone td awaited is = is
 
-command-seen : (place : Place) (entry : Entry) → is_awaited entry.command_td 1 ≡ true → IsMatchedEntry place.slot entry →
-    IsSeenAs (CommandDone place) entry (record entry { command_td = with_event_seen entry.command_td })
-command-seen place entry awaited sound =
+command-seen : {tags : ℕ} (place : Place) (entry : Entry) → is_awaited entry.command_td 1 ≡ true → IsMatchedEntry tags place.slot entry →
+    IsSeenAs tags (CommandDone place) entry (record entry { command_td = with_event_seen entry.command_td })
+command-seen {tags} place entry awaited sound =
     let pends : entry.command_td.state ≡ Pending = awaited-pends entry.command_td 1 awaited in
     record {
       seen = ap (λ b. cond b (Some (record entry { command_td = with_event_seen entry.command_td })) None) awaited;
@@ -174,10 +174,10 @@ pub middle_false : (a b : Bool) → one_if (a && (false && b)) ≡ 0
 middle_false true b = refl
 middle_false false b = refl
 
-data-seen : (place : Place) (entry : Entry) (td : Td) → entry.data_td ≡ Some td → is_awaited td (data_trbs entry.task.request) ≡ true
-    → IsMatchedEntry place.slot entry →
-    IsSeenAs (DataDone place) entry (record entry { data_td = Some (with_event_seen td) })
-data-seen place entry td is awaited sound =
+data-seen : {tags : ℕ} (place : Place) (entry : Entry) (td : Td) → entry.data_td ≡ Some td → is_awaited td (data_trbs entry.task.request) ≡ true
+    → IsMatchedEntry tags place.slot entry →
+    IsSeenAs tags (DataDone place) entry (record entry { data_td = Some (with_event_seen td) })
+data-seen {tags} place entry td is awaited sound =
     let trbs : ℕ = data_trbs entry.task.request in
     let pends : td.state ≡ Pending = awaited-pends td trbs awaited in
     record {
@@ -299,9 +299,9 @@ status-left trbs Gone td is = record { chunks = is; awaited = refl; there = refl
 abbrev status_seen : Entry → Entry
 status_seen entry = record entry { status_td = with_event_seen entry.status_td; data_td = data_after_status entry.task.phase entry.data_td }
 
-status-seen : (place : Place) (entry : Entry) → is_awaited entry.status_td 1 ≡ true → IsMatchedEntry place.slot entry
-    → IsSeenAs (StatusDone place) entry (status_seen entry)
-status-seen place entry awaited sound =
+status-seen : {tags : ℕ} (place : Place) (entry : Entry) → is_awaited entry.status_td 1 ≡ true → IsMatchedEntry tags place.slot entry
+    → IsSeenAs tags (StatusDone place) entry (status_seen entry)
+status-seen {tags} place entry awaited sound =
     let pends : entry.status_td.state ≡ Pending = awaited-pends entry.status_td 1 awaited in
     let left : IsLeft (data_trbs entry.task.request) entry.task.phase entry.data_td (data_after_status entry.task.phase entry.data_td) =
     status-left (data_trbs entry.task.request) entry.task.phase entry.data_td sound.chunks in
@@ -332,19 +332,19 @@ status-seen place entry awaited sound =
     }
 
 -- the entry that awaits an event, once the host has seen it
-pub record HasSeen (event : Completion) (old : Entry) : Type 0 where
+pub record HasSeen (tags : ℕ) (event : Completion) (old : Entry) : Type 0 where
   pub new : Entry
-  pub step : IsSeenAs event old new
+  pub step : IsSeenAs tags event old new
 
-data-awaits : (place : Place) (entry : Entry) (td : Option Td) → entry.data_td ≡ td → awaits_data (data_trbs entry.task.request) td ≡ true
-    → IsMatchedEntry place.slot entry → HasSeen (DataDone place) entry
-data-awaits place entry None is awaits sound = absurd (false≢true awaits)
-data-awaits place entry (Some td) is awaits sound = record
+data-awaits : {tags : ℕ} (place : Place) (entry : Entry) (td : Option Td) → entry.data_td ≡ td → awaits_data (data_trbs entry.task.request) td ≡ true
+    → IsMatchedEntry tags place.slot entry → HasSeen tags (DataDone place) entry
+data-awaits {tags} place entry None is awaits sound = absurd (false≢true awaits)
+data-awaits {tags} place entry (Some td) is awaits sound = record
     { new = record entry { data_td = Some (with_event_seen td) }; step = data-seen place entry td is awaits sound }
 
-pub event-seen : (event : Completion) (entry : Entry) → awaits_event event entry ≡ true → IsMatchedEntry (event_place event).slot entry → HasSeen event entry
-event-seen (CommandDone place) entry awaits sound =
+pub event-seen : {tags : ℕ} (event : Completion) (entry : Entry) → awaits_event event entry ≡ true → IsMatchedEntry tags (event_place event).slot entry → HasSeen tags event entry
+event-seen {tags} (CommandDone place) entry awaits sound =
     record { new = record entry { command_td = with_event_seen entry.command_td }; step = command-seen place entry awaits sound }
-event-seen (DataDone place) entry awaits sound = data-awaits place entry entry.data_td refl awaits sound
-event-seen (StatusDone place) entry awaits sound = record { new = status_seen entry; step = status-seen place entry awaits sound }
-event-seen (EngineDone place) entry awaits sound = absurd (false≢true awaits)
+event-seen {tags} (DataDone place) entry awaits sound = data-awaits place entry entry.data_td refl awaits sound
+event-seen {tags} (StatusDone place) entry awaits sound = record { new = status_seen entry; step = status-seen place entry awaits sound }
+event-seen {tags} (EngineDone place) entry awaits sound = absurd (false≢true awaits)

@@ -1,12 +1,12 @@
 -- What a step that touches no retirement leaves of the pipes: the one under way stays as it is, and what has a TRB still flows. Cited by MatchedActs,
 -- MatchedSteps and MatchedEngine.
-use Rattle.std.proofs.Common.{◌≡◌, ◌≤◌, Bool, true, false, length, Option, Some, refl, ap, sym, subst, ◌∙◌}
+use Rattle.std.proofs.Common.{◌≡◌, ◌≤◌, Bool, true, false, length, Option, Some, refl, ap, sym, subst, ◌∙◌, ℕ, ◌*◌}
 use Rattle.std.specs.Option.{option_map_or}
 use Rattle.uas_profile.specs.declared.Pipe.{Pipe}
 use Rattle.uas_profile.specs.declared.Pipe.TheVariants.{Command, Status, DataIn, DataOut}
 use Rattle.uas_profile.specs.declared.Place.{Place}
 use Rattle.uas_profile.specs.Pipes.{same_pipe}
-use Rattle.uas_profile.specs.declared.TheConstants.{MAX_CLIENTS}
+use Rattle.uas_profile.specs.declared.TheConstants.{STREAMS}
 use Rattle.shared_machine.specs.declared.Retirement.{Retirement}
 use Rattle.shared_machine.specs.declared.RetirementStage.{RetirementStage}
 use Rattle.shared_machine.specs.declared.RetirementStage.TheVariants.{StopAsked, StopAnswered, MoveAsked, MoveAnswered}
@@ -15,7 +15,7 @@ use Rattle.shared_machine.specs.Td.{Entry, is_left_over_on, has_trb_on}
 use Rattle.shared_machine.specs.Shared.{Shared, is_held, pipe_of}
 use Rattle.machine_invariant.specs.Matched.{same_place, under, retired_places, answered_places, is_left_over_at, has_trb_at, is_whole_on, is_whole_at, is_passed}
 use Rattle.machine_invariant.specs.Matched.{IsAtStage, IsRetiring}
-use Rattle.machine_invariant.proofs.MatchedPlaces.{same_place-true, IsWritten, under-written, under-other, AreMatched, IsCounted}
+use Rattle.machine_invariant.proofs.MatchedPlaces.{same_place-true, IsWritten, under-written, under-other, AreMatched, IsCounted, layout, same-layout}
 use Rattle.machine_invariant.proofs.MatchedTds.{GoesOn, same-goes}
 use Rattle.machine_invariant.proofs.MatchedRetirement.{of-some, if-some, held-own, passed_in}
 
@@ -60,7 +60,7 @@ written-goes old new place entry written here pipe other =
 
 -- What a step leaves: as many clients, the retirement, held pipes, what is left over, and what flows.
 pub record GoOn (old new : Shared) : Type 0 where
-  pub clients : length new.parts ≡ length old.parts
+  pub clients : layout new ≡ layout old
   pub retirement : new.retirement ≡ old.retirement
   pub held : (pipe : Pipe) → is_held old pipe ≡ true → (pipe_of new pipe).runs ≡ (pipe_of old pipe).runs
   pub left : (pipe : Pipe) (place : Place) → is_left_over_at old pipe place ≡ true → is_left_over_at new pipe place ≡ true
@@ -71,7 +71,7 @@ pub record GoOn (old new : Shared) : Type 0 where
       (is_left_over_at old pipe place ≡ true → has_trb_at old pipe place ≡ true) → has_trb_at new pipe place ≡ true
 
 -- a step that leaves the pipes alone goes on, if each TD does
-pub goes-on : (old new : Shared) → length new.parts ≡ length old.parts → new.retirement ≡ old.retirement →
+pub goes-on : (old new : Shared) → layout new ≡ layout old → new.retirement ≡ old.retirement →
     ((pipe : Pipe) → pipe_of new pipe ≡ pipe_of old pipe) → ((pipe : Pipe) (place : Place) → HeldGoesOn pipe (under old.parts place) (under new.parts place)) →
     GoOn old new
 goes-on old new clients retirement pipes goes = record {
@@ -84,20 +84,20 @@ goes-on old new clients retirement pipes goes = record {
   fresh = λ pipe place is was. (goes pipe place).fresh is was;
 }
 
-stage-kept : (old new : Shared) (pipe : Pipe) (place : Place) (stage : RetirementStage) → length new.parts ≡ length old.parts →
+stage-kept : (old new : Shared) (pipe : Pipe) (place : Place) (stage : RetirementStage) → layout new ≡ layout old →
     (pipe_of new pipe).runs ≡ (pipe_of old pipe).runs → (is_whole_at old pipe place ≡ true → is_whole_at new pipe place ≡ true) →
     IsAtStage old pipe place stage → IsAtStage new pipe place stage
-stage-kept old new pipe place StopAsked clients runs whole is = λ few. runs ∙ is (subst (λ n. n ≤ MAX_CLIENTS) clients few)
+stage-kept old new pipe place StopAsked clients runs whole is = λ few. runs ∙ is (subst (λ (n : ℕ × ℕ). n.1 * n.0 ≤ STREAMS) clients few)
 stage-kept old new pipe place StopAnswered clients runs whole is = runs ∙ is
 stage-kept old new pipe place MoveAsked clients runs whole is = runs ∙ is
 stage-kept old new pipe place MoveAnswered clients runs whole is = (runs ∙ is.0, whole is.1)
 
-pub retiring-kept : (old new : Shared) (r : Retirement) → length new.parts ≡ length old.parts → (pipe_of new r.pipe).runs ≡ (pipe_of old r.pipe).runs →
+pub retiring-kept : (old new : Shared) (r : Retirement) → layout new ≡ layout old → (pipe_of new r.pipe).runs ≡ (pipe_of old r.pipe).runs →
     (is_left_over_at old r.pipe r.place ≡ true → is_left_over_at new r.pipe r.place ≡ true) →
     (is_whole_at old r.pipe r.place ≡ true → is_whole_at new r.pipe r.place ≡ true) → IsRetiring old r → IsRetiring new r
 retiring-kept old new r clients runs left whole was = record {
   streams = was.streams;
-  there = subst (λ n. IsPlace n r.place) (sym clients) was.there;
+  there = subst (λ (n : ℕ × ℕ). IsPlace n.0 n.1 r.place) (sym clients) was.there;
   left = left was.left;
   stage = stage-kept old new r.pipe r.place r.stage clients runs whole was.stage;
 }
@@ -111,7 +111,7 @@ IsCounted-kept old new go now retired all = record {
   retiring = if-some (IsRetiring new) new.retirement under_way;
   flows = λ pipe place. record {
     runs = λ few free has. go.runs pipe place (sym (held-same pipe) ∙ free) has
-        (λ had. (all.flows pipe place).runs (subst (λ n. n ≤ MAX_CLIENTS) go.clients few) (sym (held-same pipe) ∙ free) had);
+        (λ had. (all.flows pipe place).runs (subst (λ (n : ℕ × ℕ). n.1 * n.0 ≤ STREAMS) go.clients few) (sym (held-same pipe) ∙ free) had);
     left = λ before left. go.fresh pipe place left
         (λ was. (all.flows pipe place).left (sym (passed-same pipe place) ∙ before) was);
   };

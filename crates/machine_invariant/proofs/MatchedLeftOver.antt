@@ -137,9 +137,9 @@ left-out ToDevice td left = (refl, left)
 
 -- AN ENTRY OF WHICH ONE TD BECAME ANOTHER ONE
 
-data-sound : (slot : ℕ) (entry : Entry) (td : Option Td) → IsLeft (data_trbs entry.task.request) entry.task.phase entry.data_td td
-    → IsMatchedEntry slot entry → IsMatchedEntry slot (record entry { data_td = td })
-data-sound slot entry td now sound = record {
+data-sound : {tags : ℕ} (slot : ℕ) (entry : Entry) (td : Option Td) → IsLeft (data_trbs entry.task.request) entry.task.phase entry.data_td td
+    → IsMatchedEntry tags slot entry → IsMatchedEntry tags slot (record entry { data_td = td })
+data-sound {tags} slot entry td now sound = record {
   asks = sound.asks;
   answers = sound.answers;
   command = sound.command;
@@ -149,9 +149,9 @@ data-sound slot entry td now sound = record {
   small = sound.small;
 }
 
-status-sound : (slot : ℕ) (entry : Entry) (td : Td) → IsStatusTd entry.task.phase td
-    → IsMatchedEntry slot entry → IsMatchedEntry slot (record entry { status_td = td })
-status-sound slot entry td now sound = record {
+status-sound : {tags : ℕ} (slot : ℕ) (entry : Entry) (td : Td) → IsStatusTd entry.task.phase td
+    → IsMatchedEntry tags slot entry → IsMatchedEntry tags slot (record entry { status_td = td })
+status-sound {tags} slot entry td now sound = record {
   asks = sound.asks;
   answers = sound.answers;
   command = sound.command;
@@ -166,9 +166,9 @@ status-sound slot entry td now sound = record {
 abbrev with_data_passed : Entry → Entry
 with_data_passed entry = record entry { data_td = option_map (passed_td (data_trbs entry.task.request)) entry.data_td }
 
-data-passed : (place : Place) (entry : Entry) → is_td_left_over entry.data_td ≡ true → IsMatchedEntry place.slot entry →
-    IsStepped place [] (EngineDone place ∷ []) entry (with_data_passed entry)
-data-passed place entry left sound =
+data-passed : {tags : ℕ} (place : Place) (entry : Entry) → is_td_left_over entry.data_td ≡ true → IsMatchedEntry tags place.slot entry →
+    IsStepped tags place [] (EngineDone place ∷ []) entry (with_data_passed entry)
+data-passed {tags} place entry left sound =
     let trbs : ℕ = data_trbs entry.task.request in
     let now : IsLeft trbs entry.task.phase entry.data_td (option_map (passed_td trbs) entry.data_td) =
     passed-data trbs entry.task.phase entry.data_td left sound.chunks in
@@ -182,10 +182,10 @@ data-passed place entry left sound =
     }
 
 -- the controller was moved past the TD
-pub passed-stepped : (pipe : Pipe) (place : Place) (entry : Entry) → is_left_over_on pipe entry ≡ true → IsMatchedEntry place.slot entry →
-    IsStepped place [] (EngineDone place ∷ []) entry (passed_on pipe entry)
-passed-stepped Command place entry left sound = absurd (false≢true left)
-passed-stepped Status place entry left sound = record {
+pub passed-stepped : {tags : ℕ} (pipe : Pipe) (place : Place) (entry : Entry) → is_left_over_on pipe entry ≡ true → IsMatchedEntry tags place.slot entry →
+    IsStepped tags place [] (EngineDone place ∷ []) entry (passed_on pipe entry)
+passed-stepped {tags} Command place entry left sound = absurd (false≢true left)
+passed-stepped {tags} Status place entry left sound = record {
   messages = omega arith;
   carried = omega arith;
   moved = omega arith;
@@ -193,17 +193,17 @@ passed-stepped Status place entry left sound = record {
   ready = refl;
   sound = status-sound place.slot entry (passed_td 1 entry.status_td) (passed-status entry.task.phase entry.status_td left sound.status) sound;
 }
-passed-stepped DataIn place entry left sound = data-passed place entry (left-in (request_direction entry.task.request) entry.data_td left).1 sound
-passed-stepped DataOut place entry left sound = data-passed place entry (left-out (request_direction entry.task.request) entry.data_td left).1 sound
+passed-stepped {tags} DataIn place entry left sound = data-passed place entry (left-in (request_direction entry.task.request) entry.data_td left).1 sound
+passed-stepped {tags} DataOut place entry left sound = data-passed place entry (left-out (request_direction entry.task.request) entry.data_td left).1 sound
 
 -- RETIRED
 
 abbrev with_data_retired : Entry → Entry
 with_data_retired entry = record entry { data_td = option_map retired_td entry.data_td }
 
-data-retired : (place : Place) (entry : Entry) → is_td_left_over entry.data_td ≡ true → IsMatchedEntry place.slot entry →
-    IsCountedOut (EngineDone place) entry (with_data_retired entry)
-data-retired place entry left sound =
+data-retired : {tags : ℕ} (place : Place) (entry : Entry) → is_td_left_over entry.data_td ≡ true → IsMatchedEntry tags place.slot entry →
+    IsCountedOut tags (EngineDone place) entry (with_data_retired entry)
+data-retired {tags} place entry left sound =
     let trbs : ℕ = data_trbs entry.task.request in
     let now : IsLeft trbs entry.task.phase entry.data_td (option_map retired_td entry.data_td) =
     retired-data trbs entry.task.phase entry.data_td left sound.chunks in
@@ -218,10 +218,10 @@ data-retired place entry left sound =
     }
 
 -- the host retires the TD: the entry wasn't ready
-pub retired-counted : (pipe : Pipe) (place : Place) (entry : Entry) → is_left_over_on pipe entry ≡ true → IsMatchedEntry place.slot entry →
-    IsCountedOut (EngineDone place) entry (with_td_on retired_td pipe entry)
-retired-counted Command place entry left sound = absurd (false≢true left)
-retired-counted Status place entry left sound = record {
+pub retired-counted : {tags : ℕ} (pipe : Pipe) (place : Place) (entry : Entry) → is_left_over_on pipe entry ≡ true → IsMatchedEntry tags place.slot entry →
+    IsCountedOut tags (EngineDone place) entry (with_td_on retired_td pipe entry)
+retired-counted {tags} Command place entry left sound = absurd (false≢true left)
+retired-counted {tags} Status place entry left sound = record {
   messages = refl;
   carried = omega arith;
   moved = omega arith;
@@ -230,8 +230,8 @@ retired-counted Status place entry left sound = record {
       ∙ middle_false (is_seen entry.command_td.state) (is_data_over entry.data_td);
   sound = status-sound place.slot entry (retired_td entry.status_td) (retired-status entry.task.phase entry.status_td left sound.status) sound;
 }
-retired-counted DataIn place entry left sound = data-retired place entry (left-in (request_direction entry.task.request) entry.data_td left).1 sound
-retired-counted DataOut place entry left sound = data-retired place entry (left-out (request_direction entry.task.request) entry.data_td left).1 sound
+retired-counted {tags} DataIn place entry left sound = data-retired place entry (left-in (request_direction entry.task.request) entry.data_td left).1 sound
+retired-counted {tags} DataOut place entry left sound = data-retired place entry (left-out (request_direction entry.task.request) entry.data_td left).1 sound
 
 pub retired_on-is : (pipe : Pipe) (entry : Entry) → is_left_over_on pipe entry ≡ true → retired_on pipe entry ≡ Some (with_td_on retired_td pipe entry)
 retired_on-is pipe entry left = ap (λ b. if b then Some (with_td_on retired_td pipe entry) else None) left

@@ -8,7 +8,7 @@ use Rattle.arrayvec.specs.ArrayVec.{ArrayVec}
 use Rattle.block_unit.specs.BlockMaps.{BlockMaps}
 use Rattle.scsi_cmd.specs.Request.{ended_by, is_command}
 use Rattle.scsi_cmd.specs.declared.Task.{Task}
-use Rattle.uas_profile.specs.declared.TheConstants.{TASK_SLOT}
+use Rattle.uas_profile.specs.Tags.{task_slot}
 use Rattle.scsi_cmd.specs.declared.Op.{Op}
 use Rattle.scsi_cmd.specs.declared.Request.{Request}
 use Rattle.scsi_cmd.specs.declared.Request.TheVariants.{Execute, Manage}
@@ -20,7 +20,7 @@ use Rattle.solo_model.specs.TaggedTask.{sent_from, unit_after}
 use Rattle.solo_model.specs.declared.Phase.{Phase}
 use Rattle.solo_model.specs.declared.Phase.TheVariants.{Queued, Begun, Sent, Gone}
 use Rattle.uas_profile.specs.declared.Place.{Place}
-use Rattle.uas_profile.specs.Places.{place_of}
+use Rattle.uas_profile.specs.Tags.{place_of}
 use Rattle.shared_machine.specs.declared.Completion.{Completion}
 use Rattle.shared_machine.specs.declared.Outcome.{Outcome}
 use Rattle.shared_machine.specs.declared.Mark.TheVariants.{Carry}
@@ -130,9 +130,9 @@ other-sound state place part slot entry there held all =
     (all.matched.places (of_client place slot))
 
 -- a command isn't in the last slot
-pub command-slot : (slot : ℕ) (request : Request) → is_command request ≡ true → IsRequestIn slot request → slot < TASK_SLOT
-command-slot slot (Execute op) command is = is
-command-slot slot (Manage what noted) command is = absurd (false≢true command)
+pub command-slot : (tags : ℕ) (slot : ℕ) (request : Request) → is_command request ≡ true → IsRequestIn tags slot request → slot < (task_slot tags)
+command-slot tags slot (Execute op) command is = is
+command-slot tags slot (Manage what noted) command is = absurd (false≢true command)
 
 -- a task management ends no other, itself included
 pub managed-same : (noted : List ℕ) (entry : Entry) → is_command entry.task.request ≡ false → noted_entry noted entry ≡ entry
@@ -171,12 +171,12 @@ management-received state place rest part entry what noted there held asks queue
     (acted-matched base place now_part after.0 entry (carried_to entry after.1) (place ∷ []) rest posted base_there base_held is (carry-alone place) refl
     (carry-tds part.unit (finds entry.task.request (tasks_in part.entries)) entry) (carry-stepped part.unit (finds entry.task.request (tasks_in part.entries)) place entry queued here.sound) base_here bases)
   where
-    each : AreAlike (noted_entry (ended_by what noted).items) part.entries
+    each : AreAlike state.tags (noted_entry (ended_by what noted).items) part.entries
     each slot other is_other =
         let at : IsMatchedAt state (of_client place slot) (Some other) = other-sound state place part slot other there is_other (counted-of state all) in
         noted-alike (ended_by what noted).items slot other
         (λ command noted_is. (noted-as_received state place rest entry what noted all is (under-there state.parts place part (Some entry) there held) asks slot
-        other (command-slot slot other.task.request command at.sound.asks) (under-there state.parts (of_client place slot) part (Some other) there is_other)
+        other (command-slot _ slot other.task.request command at.sound.asks) (under-there state.parts (of_client place slot) part (Some other) there is_other)
         ).received (ended-noted what noted other.task.ticket noted_is))
         at.sound
 
@@ -212,10 +212,10 @@ moving_phase (Sent answer) is = absurd (false≢true is)
 moving_phase Gone is = absurd (false≢true is)
 
 pub move_step-held : (state : Shared) (tag : ℕ) (place : Place) (part : Part) (entry : Entry) (chunk : ℕ) (op : Op)
-    → place_of (length state.parts) tag ≡ Some place →
+    → place_of state.tags (length state.parts) tag ≡ Some place →
     slice_get state.parts place.client ≡ Some part → held_at part.entries place.slot ≡ Some entry → entry.task.phase ≡ Begun (Moving chunk) →
     entry.task.request ≡ Execute op →
-    routed_by_tag state move_act (place_of (length state.parts) tag) ≡ acted_on state place.client
+    routed_by_tag state move_act (place_of state.tags (length state.parts) tag) ≡ acted_on state place.client
     (moved_entry part place.slot place entry (Some (unit_after part.unit entry.task.buffer chunk op, chunk_task part.unit entry.task chunk op)))
 move_step-held state tag place part entry chunk op named there held moving asks =
     ap (λ p. routed_by_tag state move_act p) named
@@ -226,10 +226,10 @@ move_step-held state tag place part entry chunk op named there held moving asks 
 
 -- a chunk of what stands at a place
 pub chunk-counted : (state : Shared) (tag : ℕ) (place : Place) (part : Part) (entry : Entry) (chunk : ℕ) (op : Op) →
-    place_of (length state.parts) tag ≡ Some place → slice_get state.parts place.client ≡ Some part
+    place_of state.tags (length state.parts) tag ≡ Some place → slice_get state.parts place.client ≡ Some part
     → held_at part.entries place.slot ≡ Some entry → entry.task.phase ≡ Begun (Moving chunk) → entry.task.request ≡ Execute op
     → IsMatchedAt state place (Some entry) → IsCounted state
-    → IsCounted (routed_by_tag state move_act (place_of (length state.parts) tag)).0
+    → IsCounted (routed_by_tag state move_act (place_of state.tags (length state.parts) tag)).0
 chunk-counted state tag place part entry chunk op named there held moving asks here all =
     let task : TaggedTask = chunk_task part.unit entry.task chunk op in
     let unit : BlockMaps = unit_after part.unit entry.task.buffer chunk op in
@@ -242,7 +242,7 @@ chunk-counted state tag place part entry chunk op named there held moving asks h
     (move-stepped part.unit place entry chunk op asks moving here.sound) here all)
 
 pub move_step-matched : (state : Shared) (tag : ℕ) → due state (Data tag) ≡ true → IsMatched state
-    → IsCounted (routed_by_tag state move_act (place_of (length state.parts) tag)).0
+    → IsCounted (routed_by_tag state move_act (place_of state.tags (length state.parts) tag)).0
 move_step-matched state tag is_due all =
     let at : IsDueAt state tag (data_is_due state tag) = place_fact-due state tag (data_is_due state tag) is_due in
     let entry : Entry = at.entry in
@@ -266,9 +266,9 @@ ended_phase (Sent answer) is = absurd (false≢true is)
 ended_phase Gone is = absurd (false≢true is)
 
 pub send_step-held : (state : Shared) (tag : ℕ) (place : Place) (part : Part) (entry : Entry) (answer : TaskAnswer)
-    → place_of (length state.parts) tag ≡ Some place →
+    → place_of state.tags (length state.parts) tag ≡ Some place →
     slice_get state.parts place.client ≡ Some part → held_at part.entries place.slot ≡ Some entry → entry.task.phase ≡ Begun (Ended answer) →
-    routed_by_tag state send_act (place_of (length state.parts) tag) ≡ acted_on state place.client
+    routed_by_tag state send_act (place_of state.tags (length state.parts) tag) ≡ acted_on state place.client
     (sent_entry part place.slot place entry (Some (record entry.task { phase = Sent answer })))
 send_step-held state tag place part entry answer named there held ended =
     ap (λ p. routed_by_tag state send_act p) named
@@ -285,7 +285,7 @@ send-alone place = record {
 }
 
 pub send_step-matched : (state : Shared) (tag : ℕ) → due state (Status tag) ≡ true → IsMatched state
-    → IsCounted (routed_by_tag state send_act (place_of (length state.parts) tag)).0
+    → IsCounted (routed_by_tag state send_act (place_of state.tags (length state.parts) tag)).0
 send_step-matched state tag is_due all =
     let at : IsDueAt state tag (status_is_due state tag) = place_fact-due state tag (status_is_due state tag) is_due in
     let place : Place = at.place in

@@ -1,5 +1,5 @@
 -- What waits in a matched state is of an entry that waits for it.
-use Rattle.std.proofs.Common.{◌≡◌, ℕ, zero, suc, ◌+◌, ◌-◌, ◌/◌, ◌<◌, ◌≤◌, true, false, cond, List, [], ◌∷◌, ◌++◌, length, Option, Some, None, IfSome, refl, arith}
+use Rattle.std.proofs.Common.{◌≡◌, ℕ, zero, suc, ◌+◌, ◌-◌, ◌/◌, ◌<◌, ◌≤◌, true, false, cond, List, [], ◌∷◌, ◌++◌, length, Option, Some, None, IfSome, refl, arith, ◌*◌}
 use Rattle.std.proofs.Common.{ap, sym, subst, ◌∙◌}
 use Rattle.std.specs.Prelude.{nat_lt, slice_get, slice_set, is_some}
 use Rattle.std.proofs.lemmas.Bool.{ltb-true, ltb-false, and_parts}
@@ -14,7 +14,7 @@ use Rattle.scsi_cmd.specs.declared.Request.TheVariants.{Execute, Manage}
 use Rattle.solo_model.specs.declared.Phase.{Phase}
 use Rattle.solo_model.specs.declared.Phase.TheVariants.{Queued, Begun, Sent, Gone}
 use Rattle.uas_profile.specs.declared.Place.{Place}
-use Rattle.uas_profile.specs.Places.{place_of}
+use Rattle.uas_profile.specs.Tags.{place_of}
 use Rattle.shared_machine.specs.declared.Completion.{Completion}
 use Rattle.shared_machine.specs.declared.Completion.TheVariants.{CommandDone, DataDone, StatusDone, EngineDone}
 use Rattle.shared_machine.specs.declared.Step.{Step}
@@ -23,7 +23,7 @@ use Rattle.shared_machine.specs.declared.Td.{Td}
 use Rattle.shared_machine.specs.Td.{Entry, pushed, has_trb, is_awaited, data_trbs}
 use Rattle.shared_machine.specs.Part.{Part, event_place, seen_by}
 use Rattle.scsi_cmd.specs.Held.{held_at}
-use Rattle.shared_machine.specs.Shared.{Shared, idle, is_some_of, opening, carry_step, event_step, shared_step, is_moving, is_ended, data_is_due, status_is_due}
+use Rattle.shared_machine.specs.Shared.{Shared, idle, is_some_of, opening, carry_step, event_step, shared_step, is_moving, is_ended, data_is_due, status_is_due, greatest_tag}
 use Rattle.shared_machine.specs.Replay.{replay, replayed}
 use Rattle.shared_machine.specs.Soundness.{one_if}
 use Rattle.machine_invariant.specs.Matched.{pipe_places, carried_places, waiting_command, IsPendingCommand, ArePendingCommands, HaveCommandTrbs, EventFreesFirst}
@@ -46,6 +46,7 @@ use Rattle.machine_invariant.proofs.MatchedMoves.{HasWaiting, message-waiting, c
 use Rattle.machine_invariant.proofs.MatchedSteps.{event-awaited, event_step-held, told_part, told_state, told-own, IsDueAt, place_fact-due}
 use Rattle.machine_invariant.proofs.MatchedMoves.{IsMovingBy, moving_phase}
 use Rattle.machine_invariant.proofs.MatchedMoves.{IsEndedBy, ended_phase}
+use Rattle.shared_machine.proofs.NumberOfTags.{kept-tags}
 
 -- MESSAGES
 
@@ -55,7 +56,7 @@ times-member [] at place is = absurd (none-some place is)
 times-member (first ∷ rest) zero place is = let same : first ≡ place = cc in subst (λ p. 1 ≤ times p (first ∷ rest)) same (omega (arith, one_self first))
 times-member (first ∷ rest) (suc at) place is = omega (arith, times-member rest at place is)
 
-pub own-message : (state : Shared) (place : Place) → IsMatched state → 1 ≤ times place state.messages → IsOwnMessage state.parts place
+pub own-message : (state : Shared) (place : Place) → IsMatched state → 1 ≤ times place state.messages → IsOwnMessage state.tags state.parts place
 own-message state place all some =
     let waiting : HasWaiting (under state.parts place) = message-waiting state place all some in
     let at : IsHeld state place waiting.entry = matched-held state place waiting.entry all waiting.is in
@@ -84,11 +85,11 @@ times_alike-member (first ∷ rest) zero event is =
 times_alike-member (first ∷ rest) (suc at) event is = omega (arith, times_alike-member rest at event is, times_alike-rest event first rest)
 
 pub own-td_event : (state : Shared) (event : Completion) → IsMatched state → is_td_event event ≡ true → 1 ≤ times_alike event state.events →
-    IsOwnTdEvent state.parts event
+    IsOwnTdEvent state.tags state.parts event
 own-td_event state event all of_td some =
     let awaiting : HasAwaiting event (under state.parts (event_place event)) = event-awaited state event all of_td some in
     let at : IsHeld state (event_place event) awaiting.entry = matched-held state (event_place event) awaiting.entry all awaiting.is in
-    let seen : HasSeen event awaiting.entry = event-seen event awaiting.entry awaiting.awaits at.here.sound in
+    let seen : HasSeen state.tags event awaiting.entry = event-seen event awaiting.entry awaiting.awaits at.here.sound in
     record {
       entry = awaiting.entry;
       held = awaiting.is;
@@ -115,9 +116,9 @@ matched-no_stray state all = record {
 pending-command : (state : Shared) (place : Place) → IsMatched state → 1 ≤ times place (pipe_places state) → IsPendingCommand state.parts place
 pending-command state place all some =
     elim (nat_lt 0 (times place state.messages)) as (λ b. nat_lt 0 (times place state.messages) ≡ b → IsPendingCommand state.parts place) [
-      | true ↦ λ is. let own : IsOwnMessage state.parts place = own-message state place all (omega (arith, ltb-true 0 (times place state.messages) is)) in
+      | true ↦ λ is. let own : IsOwnMessage state.tags state.parts place = own-message state place all (omega (arith, ltb-true 0 (times place state.messages) is)) in
           record { entry = own.entry; held = own.held; pending = ap (λ (td : Td). td.state) own.pushed }
-      | false ↦ λ is. let own : IsOwnTdEvent state.parts (CommandDone place) =
+      | false ↦ λ is. let own : IsOwnTdEvent state.tags state.parts (CommandDone place) =
           own-td_event state (CommandDone place) all refl (omega (arith, some, times_pipe state place, ltb-false 0 (times place state.messages) is)) in
           record { entry = own.entry; held = own.held; pending = awaited-pends own.entry.command_td 1 own.awaits }
     ] refl
@@ -132,20 +133,20 @@ command-counted (Begun progress) td named is counted = omega (arith, is, counted
 command-counted (Sent answer) td named is counted = omega (arith, is, counted, taken-none td is)
 command-counted Gone td named is counted = omega (arith, is, counted, taken-none td is)
 
-held-counted : (slot : ℕ) (held : Option Entry) (named : ℕ) → IfSome held (IsMatchedEntry slot) → named ≡ waiting_command held →
+held-counted : (tags : ℕ) (slot : ℕ) (held : Option Entry) (named : ℕ) → IfSome held (IsMatchedEntry tags slot) → named ≡ waiting_command held →
     IfSome held (λ entry. entry.command_td.consumed + named ≡ 1)
-held-counted slot None named sound counted = tt
-held-counted slot (Some entry) named sound counted = command-counted entry.task.phase entry.command_td named sound.command counted
+held-counted tags slot None named sound counted = tt
+held-counted tags slot (Some entry) named sound counted = command-counted entry.task.phase entry.command_td named sound.command counted
 
 pub matched-counted : (state : Shared) → IsMatched state → HaveCommandTrbs state
 matched-counted state all place =
-    held-counted place.slot (under state.parts place) (times place state.messages) (all.places place).sound (all.places place).messages
+    held-counted _ place.slot (under state.parts place) (times place state.messages) (all.places place).sound (all.places place).messages
 
 -- THE STEPS THAT TAKE THEM
 
 pub matched-carries : (state : Shared) → IsMatched state → CarryActs state
 matched-carries state all place rest is =
-    let own : IsOwnMessage state.parts place = own-message state place all (subst (λ ms. 1 ≤ times place ms) (sym is) (omega (arith, one_self place))) in
+    let own : IsOwnMessage state.tags state.parts place = own-message state place all (subst (λ ms. 1 ≤ times place ms) (sym is) (omega (arith, one_self place))) in
     let at : IsHeld state place own.entry = matched-held state place own.entry all own.held in
     ap (λ ms. (cond (is_some_of ms) (carry_step state ms) (state, idle)).1.mark) is
     ∙ ap (λ after. after.1.mark) (carry_step-is state place rest at.found.part own.entry at.found.there at.found.held own.queued)
@@ -160,11 +161,11 @@ event-stepped state event rest part old new of_td is there held seen =
 
 pub matched-sees : (state : Shared) → IsMatched state → EventActs state
 matched-sees state all event rest is of_td =
-    let own : IsOwnTdEvent state.parts event =
+    let own : IsOwnTdEvent state.tags state.parts event =
     own-td_event state event all of_td (subst (λ es. 1 ≤ times_alike event es) (sym is) (times_alike-first event rest)) in
     let place : Place = event_place event in
     let at : IsHeld state place own.entry = matched-held state place own.entry all own.held in
-    let seen : HasSeen event own.entry = event-seen event own.entry own.awaits at.here.sound in
+    let seen : HasSeen state.tags event own.entry = event-seen event own.entry own.awaits at.here.sound in
     let part : Part = at.found.part in
     let now : Shared = told_state state event part seen.new rest in
     let stepped : (shared_step state Event).0 ≡ now =
@@ -187,10 +188,10 @@ freed_by state place rest part old new is there held seen =
 freed_places : (state : Shared) (place : Place) (rest : List Completion) → IsMatched state → state.events ≡ CommandDone place ∷ rest →
     pipe_places (shared_step state Event).0 ≡ carried_places rest ++ state.messages
 freed_places state place rest all is =
-    let own : IsOwnTdEvent state.parts (CommandDone place) =
+    let own : IsOwnTdEvent state.tags state.parts (CommandDone place) =
     own-td_event state (CommandDone place) all refl (subst (λ es. 1 ≤ command_events place es) (sym is) (omega (arith, one_self place))) in
     let at : IsHeld state place own.entry = matched-held state place own.entry all own.held in
-    let seen : HasSeen (CommandDone place) own.entry = event-seen (CommandDone place) own.entry own.awaits at.here.sound in
+    let seen : HasSeen state.tags (CommandDone place) own.entry = event-seen (CommandDone place) own.entry own.awaits at.here.sound in
     freed_by state place rest at.found.part own.entry seen.new is at.found.there at.found.held seen.step.seen
 
 pub matched-frees : (state : Shared) → IsMatched state → EventFreesFirst state
@@ -212,7 +213,7 @@ matched-no_data_event state all tag place named is_due =
     let moving : IsMovingBy at.entry.task.phase = moving_phase at.entry.task.phase (and_parts (is_moving at.entry.task.phase) _ at.so).0 in
     let chunks : IsMovingTd (data_trbs at.entry.task.request) moving.chunk at.entry.data_td =
     subst (λ p. IsDataTd (data_trbs at.entry.task.request) p at.entry.data_td) moving.is held.here.sound.chunks in
-    subst (λ p. data_events p state.events ≡ 0) (same_named (place_of (length state.parts) tag) at.place place at.named named)
+    subst (λ p. data_events p state.events ≡ 0) (same_named (place_of state.tags (length state.parts) tag) at.place place at.named named)
     (held.here.moved ∙ moving-unawaited (data_trbs at.entry.task.request) moving.chunk at.entry.data_td chunks)
 
 pub matched-no_status_event : (state : Shared) → IsMatched state → NoStatusEventWaits state
@@ -221,7 +222,7 @@ matched-no_status_event state all tag place named is_due =
     let held : IsHeld state at.place at.entry = matched-held state at.place at.entry all at.held in
     let ended : IsEndedBy at.entry.task.phase = ended_phase at.entry.task.phase (and_parts (is_ended at.entry.task.phase) _ at.so).0 in
     let status : at.entry.status_td ≡ pushed = subst (λ p. IsStatusTd p at.entry.status_td) ended.is held.here.sound.status in
-    subst (λ p. status_events p state.events ≡ 0) (same_named (place_of (length state.parts) tag) at.place place at.named named)
+    subst (λ p. status_events p state.events ≡ 0) (same_named (place_of state.tags (length state.parts) tag) at.place place at.named named)
     (held.here.sent ∙ ap (λ td. one_if (is_awaited td 1)) status)
 
 -- DATA TDS
@@ -247,15 +248,15 @@ trbs-some : (request : Request) → nat_lt 0 (request_bytes request) ≡ nat_lt 
 trbs-some (Execute op) = both_some (moved_bytes op) ((moved_bytes op + (CHUNK_BYTES - 1)) / CHUNK_BYTES) (λ some. omega arith) (λ some. omega arith)
 trbs-some (Manage what noted) = refl
 
-data-trbs : (slot : ℕ) (held : Option Entry) → IfSome held (IsMatchedEntry slot) → IfSome held HasDataTrbs
-data-trbs slot None sound = tt
-data-trbs slot (Some entry) sound = record { most = trbs-most entry.task.request sound.small; there = sound.moves ∙ trbs-some entry.task.request }
+data-trbs : (tags : ℕ) (slot : ℕ) (held : Option Entry) → IfSome held (IsMatchedEntry tags slot) → IfSome held HasDataTrbs
+data-trbs tags slot None sound = tt
+data-trbs tags slot (Some entry) sound = record { most = trbs-most entry.task.request sound.small; there = sound.moves ∙ trbs-some entry.task.request }
 
 pub accepted-trbs : AcceptedFits
 accepted-trbs in_use least ticket command none = trbs-most (Execute command.op) (moved-short command.op (unfaulted in_use least ticket command none).short)
 
 pub matched-data_trbs : (state : Shared) → IsMatched state → HaveDataTrbs state
-matched-data_trbs state all place = data-trbs place.slot (under state.parts place) (all.places place).sound
+matched-data_trbs state all place = data-trbs _ place.slot (under state.parts place) (all.places place).sound
 
 -- REPLAYS
 
@@ -263,5 +264,13 @@ replayed-parts : (state : Shared) (steps : List Step) → length (replayed state
 replayed-parts state [] = refl
 replayed-parts state (step ∷ steps) = replayed-parts (shared_step state step).0 steps ∙ length-parts state step
 
-pub replay-parts : (units : List BlockMaps) (steps : List Step) → length (replay units steps).0.parts ≡ length units
-replay-parts units steps = replayed-parts (opening units) steps ∙ length-new_parts 0 units
+replayed-tags : (state : Shared) (steps : List Step) → (replayed state steps).0.tags ≡ state.tags
+replayed-tags state [] = refl
+replayed-tags state (step ∷ steps) = replayed-tags (shared_step state step).0 steps ∙ kept-tags state step
+
+pub replay-parts : (tags : ℕ) (units : List BlockMaps) (steps : List Step) → length (replay tags units steps).0.parts ≡ length units
+replay-parts tags units steps = replayed-parts (opening tags units) steps ∙ length-new_parts 0 units
+
+pub replay-greatest : (tags : ℕ) (units : List BlockMaps) (steps : List Step) → greatest_tag (replay tags units steps).0 ≡ length units * tags
+replay-greatest tags units steps =
+    rw (replay-parts tags units steps, replayed-tags (opening tags units) steps) refl

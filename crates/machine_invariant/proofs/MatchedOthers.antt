@@ -6,7 +6,7 @@ use Rattle.std.specs.Prelude.{slice_get, slice_set, ◌==◌, if◌then◌else�
 use Rattle.std.specs.Option.{option_map_or}
 use Rattle.std.proofs.lemmas.Bool.{eq-eqb, false≢true, and_parts}
 use Rattle.std.proofs.lemmas.List.{length-map}
-use Rattle.uas_profile.specs.declared.TheConstants.{TAGS}
+use Rattle.uas_profile.specs.declared.TheConstants.{MOST_TAGS}
 use Rattle.uas_profile.specs.declared.Pipe.{Pipe}
 use Rattle.scsi_cmd.specs.Request.{is_command}
 use Rattle.scsi_cmd.specs.Held.{held_at}
@@ -30,7 +30,7 @@ use Rattle.machine_invariant.specs.Ordered.{is_queued}
 use Rattle.shared_machine.specs.Soundness.{one_if, awaited_data, readied_of}
 use Rattle.machine_invariant.specs.Matched.{held_in, under, waiting_command, awaited_command, awaited_status, awaited_data_of, readied_in, times_ready, HaveSlots}
 use Rattle.machine_invariant.specs.Matched.{IsPhaseOf, IsGivenUp, IsShortTd, IsWholeTd, IsWithinTd, IsDataTd, IsCommandTd, IsStatusTd, IsMatchedAt, IsMatchedEntry}
-use Rattle.machine_invariant.proofs.MatchedPlaces.{part-set, IsCounted}
+use Rattle.machine_invariant.proofs.MatchedPlaces.{part-set, IsCounted, same-layout}
 use Rattle.machine_invariant.proofs.MatchedTds.{TdGoesOn, TdsGoOn, td-same, td-left, tds-same, tds-on, same-goes}
 use Rattle.machine_invariant.proofs.MatchedFlows.{pipes-same, left_of, trb_of, whole_of, HeldGoesOn, goes-on, IsCounted-kept}
 use Rattle.machine_invariant.proofs.MatchedEntries.{left-within, check-awaited, check-there, pending-is}
@@ -41,31 +41,31 @@ use Rattle.machine_invariant.proofs.OrderedEntries.{held-changed}
 -- ONE ENTRY
 
 -- an entry that became another one: it waits for as much, and is ready where it was
-pub record IsAlike (slot : ℕ) (old new : Entry) : Type 0 where
+pub record IsAlike (tags : ℕ) (slot : ℕ) (old new : Entry) : Type 0 where
   pub messages : waiting_command (Some new) ≡ waiting_command (Some old)
   pub carried : awaited_command (Some new) ≡ awaited_command (Some old)
   pub moved : awaited_data_of (Some new) ≡ awaited_data_of (Some old)
   pub sent : awaited_status (Some new) ≡ awaited_status (Some old)
   pub ready : is_ready new ≡ is_ready old
-  pub sound : IsMatchedEntry slot new
+  pub sound : IsMatchedEntry tags slot new
   pub tds : TdsGoOn old new
 
-pub alike-self : (slot : ℕ) (entry : Entry) → IsMatchedEntry slot entry → IsAlike slot entry entry
-alike-self slot entry sound =
+pub alike-self : {tags : ℕ} (slot : ℕ) (entry : Entry) → IsMatchedEntry tags slot entry → IsAlike tags slot entry entry
+alike-self {tags} slot entry sound =
     record { messages = refl; carried = refl; moved = refl; sent = refl; ready = refl; sound = sound; tds = tds-same entry }
 
 -- what stands at a place, so
-pub record AreHeldAlike (slot : ℕ) (old new : Option Entry) : Type 0 where
+pub record AreHeldAlike (tags : ℕ) (slot : ℕ) (old new : Option Entry) : Type 0 where
   pub messages : waiting_command new ≡ waiting_command old
   pub carried : awaited_command new ≡ awaited_command old
   pub moved : awaited_data_of new ≡ awaited_data_of old
   pub sent : awaited_status new ≡ awaited_status old
   pub ready : readied_of new ≡ readied_of old
-  pub sound : IfSome old (IsMatchedEntry slot) → IfSome new (IsMatchedEntry slot)
+  pub sound : IfSome old (IsMatchedEntry tags slot) → IfSome new (IsMatchedEntry tags slot)
   pub goes : (pipe : Pipe) → HeldGoesOn pipe old new
 
-held_alike-same : (slot : ℕ) (held : Option Entry) → AreHeldAlike slot held held
-held_alike-same slot held = record {
+held_alike-same : {tags : ℕ} (slot : ℕ) (held : Option Entry) → AreHeldAlike tags slot held held
+held_alike-same {tags} slot held = record {
   messages = refl;
   carried = refl;
   moved = refl;
@@ -75,11 +75,11 @@ held_alike-same slot held = record {
   goes = λ pipe. same-goes (left_of pipe held) (trb_of pipe held) (whole_of pipe held);
 }
 
-held_alike-changed : (slot : ℕ) (change : Entry → Entry) (held : Option Entry) → ((entry : Entry) → held ≡ Some entry → IsAlike slot entry (change entry)) →
-    AreHeldAlike slot held (option_map change held)
-held_alike-changed slot change None each = held_alike-same slot None
-held_alike-changed slot change (Some entry) each =
-    let alike : IsAlike slot entry (change entry) = each entry refl in
+held_alike-changed : {tags : ℕ} (slot : ℕ) (change : Entry → Entry) (held : Option Entry) → ((entry : Entry) → held ≡ Some entry → IsAlike tags slot entry (change entry)) →
+    AreHeldAlike tags slot held (option_map change held)
+held_alike-changed {tags} slot change None each = held_alike-same slot None
+held_alike-changed {tags} slot change (Some entry) each =
+    let alike : IsAlike tags slot entry (change entry) = each entry refl in
     record {
       messages = alike.messages;
       carried = alike.carried;
@@ -92,8 +92,8 @@ held_alike-changed slot change (Some entry) each =
 
 -- EACH ENTRY OF A CLIENT
 
-abbrev pub AreAlike : (Entry → Entry) → List (Option Entry) → Type 0
-AreAlike change entries = (slot : ℕ) (entry : Entry) → held_at entries slot ≡ Some entry → IsAlike slot entry (change entry)
+abbrev pub AreAlike : ℕ → (Entry → Entry) → List (Option Entry) → Type 0
+AreAlike tags change entries = (slot : ℕ) (entry : Entry) → held_at entries slot ≡ Some entry → IsAlike tags slot entry (change entry)
 
 abbrev pub changed_part : (Entry → Entry) → Part → Part
 changed_part change part = record part { entries = map (option_map change) part.entries }
@@ -101,13 +101,13 @@ changed_part change part = record part { entries = map (option_map change) part.
 abbrev pub changed_state : Shared → ℕ → (Entry → Entry) → Part → Shared
 changed_state state client change part = record state { parts = slice_set state.parts client (changed_part change part) }
 
-under-alike : (state : Shared) (client : ℕ) (change : Entry → Entry) (part : Part) → slice_get state.parts client ≡ Some part → AreAlike change part.entries →
-    (place : Place) → AreHeldAlike place.slot (under state.parts place) (under (changed_state state client change part).parts place)
+under-alike : (state : Shared) (client : ℕ) (change : Entry → Entry) (part : Part) → slice_get state.parts client ≡ Some part → AreAlike state.tags change part.entries →
+    (place : Place) → AreHeldAlike state.tags place.slot (under state.parts place) (under (changed_state state client change part).parts place)
 under-alike state client change part there each place =
-    part-set (λ found. AreHeldAlike place.slot (under state.parts place) (option_map_or (held_in place) found None)) state.parts client place.client part
+    part-set (λ found. AreHeldAlike state.tags place.slot (under state.parts place) (option_map_or (held_in place) found None)) state.parts client place.client part
     (changed_part change part) there
-    (λ same was. subst (λ held. AreHeldAlike place.slot (under state.parts place) held) (sym (held-changed change part.entries place.slot))
-    (subst (λ held. AreHeldAlike place.slot held (option_map change (held_at part.entries place.slot)))
+    (λ same was. subst (λ held. AreHeldAlike state.tags place.slot (under state.parts place) held) (sym (held-changed change part.entries place.slot))
+    (subst (λ held. AreHeldAlike state.tags place.slot held (option_map change (held_at part.entries place.slot)))
     (sym (under-there state.parts place part (held_at part.entries place.slot) (sym (ap (λ c. slice_get state.parts c) same) ∙ there) refl))
     (held_alike-changed place.slot change (held_at part.entries place.slot) (λ entry is. each place.slot entry is))))
     (held_alike-same place.slot (under state.parts place))
@@ -123,20 +123,21 @@ ready-alike state client change part there place =
 slots-alike : (state : Shared) (client : ℕ) (change : Entry → Entry) (part : Part) → slice_get state.parts client ≡ Some part → HaveSlots state.parts →
     HaveSlots (changed_state state client change part).parts
 slots-alike state client change part there slots other =
-    part-set (λ found. IfSome found (λ (p : Part). length p.entries ≡ TAGS)) state.parts client other part (changed_part change part) there
+    part-set (λ found. IfSome found (λ (p : Part). length p.entries ≡ MOST_TAGS)) state.parts client other part (changed_part change part) there
     (λ same was. length-map part.entries (option_map change)
-    ∙ subst (λ found. IfSome found (λ (p : Part). length p.entries ≡ TAGS)) there (slots client))
+    ∙ subst (λ found. IfSome found (λ (p : Part). length p.entries ≡ MOST_TAGS)) there (slots client))
     (slots other)
 
 pub alike-counted : (state : Shared) (client : ℕ) (change : Entry → Entry) (part : Part) → slice_get state.parts client ≡ Some part
-    → AreAlike change part.entries → IsCounted state → IsCounted (changed_state state client change part)
+    → AreAlike state.tags change part.entries → IsCounted state → IsCounted (changed_state state client change part)
 alike-counted state client change part there each all =
     let now : Shared = changed_state state client change part in
-    let alike : (place : Place) → AreHeldAlike place.slot (under state.parts place) (under now.parts place) = under-alike state client change part there each in
+    let alike : (place : Place) → AreHeldAlike state.tags place.slot (under state.parts place) (under now.parts place) = under-alike state client change part there each in
     IsCounted-kept state now
-    (goes-on state now (length-set state.parts client (changed_part change part)) refl (pipes-same state now refl refl refl)
+    (goes-on state now (same-layout state now refl (length-set state.parts client (changed_part change part))) refl (pipes-same state now refl refl refl)
     (λ pipe place. (alike place).goes pipe))
     (record {
+      tags = all.matched.tags;
       slots = slots-alike state client change part there all.matched.slots;
       places = λ place. let was : IsMatchedAt state place (under state.parts place) = all.matched.places place in
           record {
@@ -182,9 +183,9 @@ begun-gone trbs Gone command_td status_td data_td received can command status ch
 abbrev gone_entry : Entry → Entry
 gone_entry entry = record entry { task = record entry.task { phase = Gone } }
 
-gone-alike : (slot : ℕ) (entry : Entry) → is_command entry.task.request ≡ true → is_queued entry.task.phase ≡ false → can_go entry.task.phase ≡ true →
-    IsMatchedEntry slot entry → IsAlike slot entry (gone_entry entry)
-gone-alike slot entry command received can sound =
+gone-alike : {tags : ℕ} (slot : ℕ) (entry : Entry) → is_command entry.task.request ≡ true → is_queued entry.task.phase ≡ false → can_go entry.task.phase ≡ true →
+    IsMatchedEntry tags slot entry → IsAlike tags slot entry (gone_entry entry)
+gone-alike {tags} slot entry command received can sound =
     let asks : (op : Op) × (entry.task.request ≡ Execute op) = asked_op entry.task.request command in
     let tds : AreGone (data_trbs entry.task.request) entry.command_td entry.status_td entry.data_td =
     begun-gone (data_trbs entry.task.request) entry.task.phase entry.command_td entry.status_td entry.data_td received can sound.command sound.status
@@ -207,12 +208,12 @@ gone-alike slot entry command received can sound =
       tds = record { request = refl; status = td-same 1 (Some entry.status_td); data_tds = td-same (data_trbs entry.task.request) entry.data_td };
     }
 
-pub noted-alike : (noted : List ℕ) (slot : ℕ) (entry : Entry) →
-    (is_command entry.task.request ≡ true → is_noted noted entry.task.ticket ≡ true → is_queued entry.task.phase ≡ false) → IsMatchedEntry slot entry →
-    IsAlike slot entry (noted_entry noted entry)
-noted-alike noted slot entry received sound =
+pub noted-alike : {tags : ℕ} (noted : List ℕ) (slot : ℕ) (entry : Entry) →
+    (is_command entry.task.request ≡ true → is_noted noted entry.task.ticket ≡ true → is_queued entry.task.phase ≡ false) → IsMatchedEntry tags slot entry →
+    IsAlike tags slot entry (noted_entry noted entry)
+noted-alike {tags} noted slot entry received sound =
     elim (can_be_ended entry.task && is_noted noted entry.task.ticket) as (λ b. (can_be_ended entry.task && is_noted noted entry.task.ticket) ≡ b →
-    IsAlike slot entry (record entry { task = if b then record entry.task { phase = Gone } else entry.task })) [
+    IsAlike tags slot entry (record entry { task = if b then record entry.task { phase = Gone } else entry.task })) [
       | true ↦ λ is.
           let first = and_parts (can_be_ended entry.task) (is_noted noted entry.task.ticket) is in
           let command = and_parts (is_command entry.task.request) (can_go entry.task.phase) first.0 in
@@ -248,9 +249,9 @@ left-goes trbs (Some td) short = td-left trbs td short
 abbrev left_entry : Entry → Entry
 left_entry entry = record entry { status_td = left_over_td entry.status_td; data_td = left_over_data entry.data_td }
 
-left-alike : (slot : ℕ) (entry : Entry) → entry.task.phase ≡ Gone → is_pending entry.status_td.state ≡ true → awaited_data_of (Some entry) ≡ 0 →
-    IsMatchedEntry slot entry → IsAlike slot entry (left_entry entry)
-left-alike slot entry gone pending none sound =
+left-alike : {tags : ℕ} (slot : ℕ) (entry : Entry) → entry.task.phase ≡ Gone → is_pending entry.status_td.state ≡ true → awaited_data_of (Some entry) ≡ 0 →
+    IsMatchedEntry tags slot entry → IsAlike tags slot entry (left_entry entry)
+left-alike {tags} slot entry gone pending none sound =
     let trbs : ℕ = data_trbs entry.task.request in
     let pends : entry.status_td.state ≡ Pending = pending-is entry.status_td.state pending in
     let left : left_over_td entry.status_td ≡ record entry.status_td { state = LeftOver } = left-is entry.status_td pends in
@@ -286,11 +287,11 @@ pub record IsGivenUpEntry (entry : Entry) : Type 0 where
   pub gone : entry.task.phase ≡ Gone
   pub unawaited : awaited_data_of (Some entry) ≡ 0
 
-pub doomed-alike : (noted : List ℕ) (slot : ℕ) (entry : Entry) →
+pub doomed-alike : {tags : ℕ} (noted : List ℕ) (slot : ℕ) (entry : Entry) →
     (is_command entry.task.request ≡ true → is_noted noted entry.task.ticket ≡ true → is_pending entry.status_td.state ≡ true → IsGivenUpEntry entry) →
-    IsMatchedEntry slot entry → IsAlike slot entry (doomed noted entry)
-doomed-alike noted slot entry over sound =
-    elim (is_doomed noted entry) as (λ b. is_doomed noted entry ≡ b → IsAlike slot entry (if b then left_entry entry else entry)) [
+    IsMatchedEntry tags slot entry → IsAlike tags slot entry (doomed noted entry)
+doomed-alike {tags} noted slot entry over sound =
+    elim (is_doomed noted entry) as (λ b. is_doomed noted entry ≡ b → IsAlike tags slot entry (if b then left_entry entry else entry)) [
       | true ↦ λ is.
           let first = and_parts (is_command entry.task.request) (is_pending entry.status_td.state && is_noted noted entry.task.ticket) is in
           let rest = and_parts (is_pending entry.status_td.state) (is_noted noted entry.task.ticket) first.1 in

@@ -1,12 +1,13 @@
 -- Places, how often they are named, and what a write to one place leaves of the others.
-use Rattle.std.proofs.Common.{◌≡◌, ℕ, zero, suc, ◌+◌, ◌<◌, ◌≤◌, Bool, true, false, List, [], ◌∷◌, ◌++◌, length, length-set, Option, Some, None, IfSome}
+use Rattle.std.proofs.Common.{◌≡◌, ℕ, zero, suc, ◌+◌, ◌<◌, ◌≤◌, Bool, true, false, List, [], ◌∷◌, ◌++◌, length, length-set, Option, Some, None, IfSome, ◌*◌}
 use Rattle.std.proofs.Common.{refl, arith, ap, sym, subst, ◌∙◌}
 use Rattle.std.specs.Prelude.{◌==◌, slice_get, slice_set}
 use Rattle.std.specs.Option.{option_map_or}
 use Rattle.std.proofs.lemmas.Bool.{eqb-true, eqb-false, ne_eqb, false≢true, and_parts}
 use Rattle.std.proofs.lemmas.List.{get_or-set_same, get_or-set_other}
 use Rattle.std.proofs.lemmas.Option.{none-some}
-use Rattle.uas_profile.specs.declared.TheConstants.{TAGS}
+use Rattle.uas_profile.specs.declared.TheConstants.{MOST_TAGS}
+use Rattle.uas_profile.specs.Tags.{AreTags}
 use Rattle.scsi_cmd.specs.Held.{held_at}
 use Rattle.uas_profile.specs.declared.Place.{Place}
 use Rattle.shared_machine.specs.declared.Completion.{Completion}
@@ -18,7 +19,7 @@ use Rattle.shared_machine.specs.Soundness.{one_if, times_in}
 use Rattle.machine_invariant.specs.Matched.{same_place, times, held_in, under, command_events, data_events, status_events, readied_in, times_ready, HaveSlots}
 use Rattle.uas_profile.specs.declared.Pipe.{Pipe}
 use Rattle.machine_invariant.specs.Ordered.{IsOrdered}
-use Rattle.machine_invariant.specs.Matched.{retired_places, answered_places, IsMatchedAt, IsRetiring, FlowsAt, IsMatched}
+use Rattle.machine_invariant.specs.Matched.{retired_places, answered_places, IsMatchedAt, IsMatchedEntry, IsRetiring, FlowsAt, IsMatched}
 use Rattle.shared_machine.proofs.Standing.{slice_get-slice_set_same, slice_get-slice_set_other}
 
 -- PLACES
@@ -159,6 +160,14 @@ fact-set_other fact none parts client other part now there kept =
     (λ same was. kept same ∙ sym (ap (λ found. option_map_or fact found none) (sym (ap (λ c. slice_get parts c) same) ∙ there)))
     refl
 
+-- HOW MANY TAGS AND CLIENTS THERE ARE
+
+abbrev pub layout : Shared → ℕ × ℕ
+layout state = (state.tags, length state.parts)
+
+pub same-layout : (old new : Shared) → new.tags ≡ old.tags → length new.parts ≡ length old.parts → layout new ≡ layout old
+same-layout old new tags clients = rw (tags, clients) refl
+
 -- WHAT A STEP AT ONE PLACE LEAVES
 
 -- as much waits for a place as before
@@ -174,6 +183,7 @@ pub record IsWritten (old new : Shared) (place : Place) (entry : Option Entry) :
   pub now : Part
   pub there : slice_get old.parts place.client ≡ Some part
   pub within : place.slot < length part.entries
+  pub tags : new.tags ≡ old.tags
   pub parts : new.parts ≡ slice_set old.parts place.client now
   pub entries : now.entries ≡ slice_set part.entries place.slot entry
   pub queue : (slot : ℕ) → (slot ≡ place.slot → ⊥) → times_in slot now.ready ≡ times_in slot part.ready
@@ -216,24 +226,26 @@ matched-other old new place other entry written apart was =
       moved = waits.moved ∙ was.moved;
       sent = waits.sent ∙ was.sent;
       ready = readied ∙ was.ready;
-      sound = was.sound;
+      sound = subst (λ tags. IfSome (under old.parts other) (IsMatchedEntry tags other.slot)) (sym written.tags) was.sound;
     })
 
 -- the slots of the client that was written are as many as before
 slots-written : (old new : Shared) (place : Place) (entry : Option Entry) → IsWritten old new place entry → HaveSlots old.parts → HaveSlots new.parts
 slots-written old new place entry written slots client =
-    rw written.parts (part-set (λ found. IfSome found (λ part. length part.entries ≡ TAGS)) old.parts place.client client written.part written.now written.there
-    (λ same was. let long : length written.part.entries ≡ TAGS =
-    subst (λ found. IfSome found (λ part. length part.entries ≡ TAGS)) written.there (slots place.client) in
+    rw written.parts (part-set (λ found. IfSome found (λ part. length part.entries ≡ MOST_TAGS)) old.parts place.client client written.part written.now written.there
+    (λ same was. let long : length written.part.entries ≡ MOST_TAGS =
+    subst (λ found. IfSome found (λ part. length part.entries ≡ MOST_TAGS)) written.there (slots place.client) in
     ap (λ entries. length entries) written.entries ∙ length-set written.part.entries place.slot entry ∙ long)
     (slots client))
 
 -- the clients are as many as before
-pub clients-written : (old new : Shared) (place : Place) (entry : Option Entry) → IsWritten old new place entry → length new.parts ≡ length old.parts
-clients-written old new place entry written = ap (λ parts. length parts) written.parts ∙ length-set old.parts place.client written.now
+pub clients-written : (old new : Shared) (place : Place) (entry : Option Entry) → IsWritten old new place entry → layout new ≡ layout old
+clients-written old new place entry written =
+    same-layout old new written.tags (ap (λ parts. length parts) written.parts ∙ length-set old.parts place.client written.now)
 
 -- Every place is matched, whatever of the retirement.
 pub record AreMatched (state : Shared) : Type 0 where
+  pub tags : AreTags state.tags
   pub slots : HaveSlots state.parts
   pub places : (place : Place) → IsMatchedAt state place (under state.parts place)
 
@@ -241,6 +253,7 @@ pub record AreMatched (state : Shared) : Type 0 where
 pub AreMatched-written : (old new : Shared) (place : Place) (entry : Option Entry) → IsWritten old new place entry → IsMatchedAt new place entry →
     AreMatched old → AreMatched new
 AreMatched-written old new place entry written here all = record {
+  tags = subst (λ tags. AreTags tags) (sym written.tags) all.tags;
   slots = slots-written old new place entry written all.slots;
   places = λ other.
       elim (same_place place other) as (λ b. same_place place other ≡ b → IsMatchedAt new other (under new.parts other)) [
@@ -251,8 +264,9 @@ AreMatched-written old new place entry written here all = record {
 }
 
 -- and after a step that writes no place
-pub AreMatched-same : (old new : Shared) → new.parts ≡ old.parts → ((place : Place) → WaitsAsBefore old new place) → AreMatched old → AreMatched new
-AreMatched-same old new parts waits all = record {
+pub AreMatched-same : (old new : Shared) → new.tags ≡ old.tags → new.parts ≡ old.parts → ((place : Place) → WaitsAsBefore old new place) → AreMatched old → AreMatched new
+AreMatched-same old new tags parts waits all = record {
+  tags = subst (λ count. AreTags count) (sym tags) all.tags;
   slots = subst (λ ps. HaveSlots ps) (sym parts) all.slots;
   places = λ place. subst (λ held. IsMatchedAt new place held) (sym (ap (λ ps. under ps place) parts)) (record {
     messages = (waits place).messages ∙ (all.places place).messages;
@@ -260,7 +274,7 @@ AreMatched-same old new parts waits all = record {
     moved = (waits place).moved ∙ (all.places place).moved;
     sent = (waits place).sent ∙ (all.places place).sent;
     ready = ap (λ ps. times_ready ps place) parts ∙ (all.places place).ready;
-    sound = (all.places place).sound;
+    sound = subst (λ count. IfSome (under old.parts place) (IsMatchedEntry count place.slot)) (sym tags) (all.places place).sound;
   });
 }
 
@@ -274,8 +288,8 @@ pub record IsCounted (state : Shared) : Type 0 where
 
 pub counted-of : (state : Shared) → IsMatched state → IsCounted state
 counted-of state all =
-    record { matched = record { slots = all.slots; places = all.places }; retired = all.retired; retiring = all.retiring; flows = all.flows }
+    record { matched = record { tags = all.tags; slots = all.slots; places = all.places }; retired = all.retired; retiring = all.retiring; flows = all.flows }
 
 pub matched-of : (state : Shared) → IsCounted state → IsOrdered state → IsMatched state
 matched-of state all ordered =
-    record { slots = all.matched.slots; places = all.matched.places; retired = all.retired; retiring = all.retiring; flows = all.flows; ordered = ordered }
+    record { tags = all.matched.tags; slots = all.matched.slots; places = all.matched.places; retired = all.retired; retiring = all.retiring; flows = all.flows; ordered = ordered }

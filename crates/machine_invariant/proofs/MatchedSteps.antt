@@ -9,7 +9,7 @@ use Rattle.arrayvec.specs.ArrayVec.{ArrayVec}
 use Rattle.uas_profile.specs.declared.Pipe.{Pipe}
 use Rattle.scsi_cmd.specs.Request.{ended_by, is_command}
 use Rattle.scsi_cmd.specs.declared.Task.{Task}
-use Rattle.uas_profile.specs.declared.TheConstants.{TASK_SLOT}
+use Rattle.uas_profile.specs.Tags.{task_slot}
 use Rattle.scsi_cmd.specs.declared.Reply.{Reply}
 use Rattle.scsi_cmd.specs.declared.Request.{Request}
 use Rattle.scsi_cmd.specs.declared.Request.TheVariants.{Execute, Manage}
@@ -18,7 +18,7 @@ use Rattle.solo_model.specs.TaggedTask.{is_noted}
 use Rattle.solo_model.specs.TaggedTask.{reply_of}
 use Rattle.shared_machine.specs.Tests.{is_pending}
 use Rattle.uas_profile.specs.declared.Place.{Place}
-use Rattle.uas_profile.specs.Places.{command_slot}
+use Rattle.uas_profile.specs.Tags.{command_slot}
 use Rattle.shared_machine.specs.declared.Completion.{Completion}
 use Rattle.shared_machine.specs.declared.Outcome.{Outcome}
 use Rattle.shared_machine.specs.declared.Step.{Step}
@@ -168,7 +168,7 @@ told-own (EngineDone place) request entries slot new asks held = held
 
 response-seen : (state : Shared) (place : Place) (rest : List Completion) (part : Part) (old new : Entry) (what : Task) (noted : ArrayVec ℕ) →
     state.events ≡ StatusDone place ∷ rest → slice_get state.parts place.client ≡ Some part → held_at part.entries place.slot ≡ Some old →
-    old.task.request ≡ Manage what noted → IsSeenAs (StatusDone place) old new → IsMatchedAt state place (Some old) → IsMatched state →
+    old.task.request ≡ Manage what noted → IsSeenAs state.tags (StatusDone place) old new → IsMatchedAt state place (Some old) → IsMatched state →
     IsCounted (told_state state (StatusDone place) part new rest)
 response-seen state place rest part old new what noted is there held asks seen here all =
     let event : Completion = StatusDone place in
@@ -177,7 +177,7 @@ response-seen state place rest part old new what noted is there held asks seen h
     let now_part : Part = seen_part part place.slot new in
     let bases : IsCounted base = seen-matched state event rest part old new refl is there held seen here (counted-of state all) in
     let base_there : slice_get base.parts place.client ≡ Some now_part = slice_get-slice_set_same state.parts place.client part now_part there in
-    let slot : place.slot ≡ TASK_SLOT = subst (λ r. IsRequestIn place.slot r) asks here.sound.asks in
+    let slot : place.slot ≡ (task_slot state.tags) = subst (λ r. IsRequestIn state.tags place.slot r) asks here.sound.asks in
     let step : told_state state event part new rest ≡ changed_state base place.client change now_part =
     ap (λ entries. record state {
       parts = slice_set state.parts place.client (record part { entries = entries; ready = ready_after part.ready place.slot new });
@@ -185,15 +185,16 @@ response-seen state place rest part old new what noted is there held asks seen h
     }) (ap (λ r. after_answer r (slice_set part.entries place.slot (Some new))) (seen.tds.request ∙ asks))
     ∙ ap (λ parts. record state { parts = parts; events = rest ++ [] }) (sym (set-set state.parts place.client now_part (changed_part change now_part))) in
     subst IsCounted (sym step)
-    (alike-counted base place.client change now_part base_there (each base bases now_part base_there slot refl) bases)
+    (alike-counted base place.client change now_part base_there (each base bases now_part base_there refl slot refl) bases)
   where
-    each : (base : Shared) → IsCounted base → (now_part : Part) → slice_get base.parts place.client ≡ Some now_part → place.slot ≡ TASK_SLOT →
-        now_part.entries ≡ slice_set part.entries place.slot (Some new) → AreAlike (doomed (ended_by what noted).items) now_part.entries
-    each base bases now_part base_there last entries slot other is_other =
+    each : (base : Shared) → IsCounted base → (now_part : Part) → slice_get base.parts place.client ≡ Some now_part → base.tags ≡ state.tags →
+        place.slot ≡ (task_slot state.tags) → now_part.entries ≡ slice_set part.entries place.slot (Some new) → AreAlike base.tags (doomed (ended_by what noted).items) now_part.entries
+    each base bases now_part base_there tags last entries slot other is_other =
         let at : IsMatchedAt base (of_client place slot) (Some other) = other-sound base place now_part slot other base_there is_other bases in
         doomed-alike (ended_by what noted).items slot other
         (λ command noted_is pends.
-        let within : slot < TASK_SLOT = command-slot slot other.task.request command at.sound.asks in
+        let within : slot < (task_slot state.tags) =
+        subst (λ count. slot < task_slot count) tags (command-slot _ slot other.task.request command at.sound.asks) in
         let was : held_at part.entries slot ≡ Some other =
         sym (get_or-set_other part.entries place.slot slot (Some new) None (λ same. omega (arith, same, last, within)))
         ∙ sym (ap (λ es. held_at es slot) entries) ∙ is_other in
@@ -209,7 +210,7 @@ response-seen state place rest part old new what noted is there held asks seen h
 
 status-seen_matched : (state : Shared) (place : Place) (rest : List Completion) (part : Part) (old new : Entry) (request : Request) →
     old.task.request ≡ request → state.events ≡ StatusDone place ∷ rest → slice_get state.parts place.client ≡ Some part →
-    held_at part.entries place.slot ≡ Some old → IsSeenAs (StatusDone place) old new → IsMatchedAt state place (Some old) → IsMatched state →
+    held_at part.entries place.slot ≡ Some old → IsSeenAs state.tags (StatusDone place) old new → IsMatchedAt state place (Some old) → IsMatched state →
     IsCounted (told_state state (StatusDone place) part new rest)
 status-seen_matched state place rest part old new (Execute op) asks is there held seen here all =
     subst IsCounted (sym (told-alone state (StatusDone place) rest part new (λ entries. ap (λ r. after_answer r entries) (seen.tds.request ∙ asks))))
@@ -220,7 +221,7 @@ status-seen_matched state place rest part old new (Manage what noted) asks is th
 -- an event of a TD, by its kind
 told-matched : (state : Shared) (event : Completion) (rest : List Completion) (part : Part) (old new : Entry) → is_td_event event ≡ true →
     state.events ≡ event ∷ rest → slice_get state.parts (event_place event).client ≡ Some part → held_at part.entries (event_place event).slot ≡ Some old →
-    IsSeenAs event old new → IsMatchedAt state (event_place event) (Some old) → IsMatched state → IsCounted (told_state state event part new rest)
+    IsSeenAs state.tags event old new → IsMatchedAt state (event_place event) (Some old) → IsMatched state → IsCounted (told_state state event part new rest)
 told-matched state (CommandDone place) rest part old new of_td is there held seen here all =
     seen-matched state (CommandDone place) rest part old new refl is there held seen here (counted-of state all)
 told-matched state (DataDone place) rest part old new of_td is there held seen here all =
@@ -235,7 +236,7 @@ td_event_step-matched state event rest of_td is all =
     let some : 1 ≤ times_alike event state.events = subst (λ es. 1 ≤ times_alike event es) (sym is) (times_alike-first event rest) in
     let awaiting : HasAwaiting event (under state.parts (event_place event)) = event-awaited state event all of_td some in
     let held : IsHeld state (event_place event) awaiting.entry = matched-held state (event_place event) awaiting.entry all awaiting.is in
-    let seen : HasSeen event awaiting.entry = event-seen event awaiting.entry awaiting.awaits held.here.sound in
+    let seen : HasSeen state.tags event awaiting.entry = event-seen event awaiting.entry awaiting.awaits held.here.sound in
     subst IsCounted (sym (event_step-held state event rest held.found.part awaiting.entry seen.new of_td held.found.there held.found.held seen.step.seen))
     (told-matched state event rest held.found.part awaiting.entry seen.new of_td is held.found.there held.found.held seen.step held.here all)
 
@@ -273,12 +274,12 @@ settled_state state place part rest = record state
 
 pub take_step-held : (state : Shared) (client slot : ℕ) (rest : List ℕ) (part : Part) (entry : Entry) (reply : Reply)
     → slice_get state.parts client ≡ Some part →
-    part.ready ≡ slot ∷ rest → held_at part.entries slot ≡ Some entry → reply_of (slot_tag client slot) entry.task ≡ Some reply →
-    (routed state client (take_act client)).0 ≡ settled_state state (record { client = client; slot = slot }) part rest
+    part.ready ≡ slot ∷ rest → held_at part.entries slot ≡ Some entry → reply_of (slot_tag state.tags client slot) entry.task ≡ Some reply →
+    (routed state client (take_act state.tags client)).0 ≡ settled_state state (record { client = client; slot = slot }) part rest
 take_step-held state client slot rest part entry reply there queue held replies =
-    ap (λ found. (routed_to state client (take_act client) found).0) there
-    ∙ ap (λ ready. (acted_on state client (taken client part ready)).0) queue
-    ∙ ap (λ found. (acted_on state client (settled part slot rest (option_and_then (entry_reply (slot_tag client slot)) found))).0) held
+    ap (λ found. (routed_to state client (take_act state.tags client) found).0) there
+    ∙ ap (λ ready. (acted_on state client (taken state.tags client part ready)).0) queue
+    ∙ ap (λ found. (acted_on state client (settled part slot rest (option_and_then (entry_reply (slot_tag state.tags client slot)) found))).0) held
     ∙ ap (λ found. (acted_on state client (settled part slot rest found)).0) replies
 
 settled-written : (state : Shared) (place : Place) (part : Part) (rest : List ℕ) (entry : Entry) → slice_get state.parts place.client ≡ Some part →
@@ -288,6 +289,7 @@ settled-written state place part rest entry there queue held = record {
   now = settled_part part place.slot rest;
   there = there;
   within = held-within part.entries place.slot entry held;
+  tags = refl;
   parts = refl;
   entries = refl;
   queue = λ slot apart. omega (arith, ap (times_in slot) queue, one_apart place.slot slot apart);
@@ -330,7 +332,7 @@ settled-matched state place part rest entry there queue held once ready quiet he
 
 take_queue : (state : Shared) (client : ℕ) (part : Part) (queue : List ℕ) → slice_get state.parts client ≡ Some part → part.ready ≡ queue
     → is_some_of queue ≡ true → IsMatched state →
-    IsCounted (routed state client (take_act client)).0
+    IsCounted (routed state client (take_act state.tags client)).0
 take_queue state client part [] there is some all = absurd (false≢true some)
 take_queue state client part (slot ∷ rest) there is some all =
     let place : Place = record { client = client; slot = slot } in
@@ -340,14 +342,14 @@ take_queue state client part (slot ∷ rest) there is some all =
     let held : IsHeld state place first.entry = matched-held state place first.entry all first.is in
     let at : held_at part.entries slot ≡ Some first.entry = sym (ap (λ found. option_map_or (held_in place) found None) there) ∙ first.is in
     let quiet : IsQuiet first.entry = ready-quiet slot first.entry first.ready held.here.sound in
-    let reply : HasReply (slot_tag client slot) first.entry.task = done-reply (slot_tag client slot) first.entry.task quiet.done in
+    let reply : HasReply (slot_tag state.tags client slot) first.entry.task = done-reply (slot_tag state.tags client slot) first.entry.task quiet.done in
     subst IsCounted (sym (take_step-held state client slot rest part first.entry reply.reply there is at reply.is))
     (settled-matched state place part rest first.entry there is at first.once first.ready quiet held.here (counted-of state all))
 
-take_step-matched : (state : Shared) (client : ℕ) → due state (Take client) ≡ true → IsMatched state → IsCounted (routed state client (take_act client)).0
+take_step-matched : (state : Shared) (client : ℕ) → due state (Take client) ≡ true → IsMatched state → IsCounted (routed state client (take_act state.tags client)).0
 take_step-matched state client is_due all =
     elim (slice_get state.parts client) as
-    (λ found. slice_get state.parts client ≡ found → option_map_or has_ready found false ≡ true → IsCounted (routed state client (take_act client)).0) [
+    (λ found. slice_get state.parts client ≡ found → option_map_or has_ready found false ≡ true → IsCounted (routed state client (take_act state.tags client)).0) [
       | None ↦ λ there some. absurd (false≢true some)
       | Some part ↦ λ there some. take_queue state client part part.ready there refl some all
     ] refl is_due
@@ -356,7 +358,7 @@ take_step-matched state client is_due all =
 
 due_step-counted : (state : Shared) (step : Step) → due state step ≡ true → IsMatched state → IsCounted (due_step state step).0
 due_step-counted state (Submit client tag ticket command) is all =
-    submitted_under-matched state client tag ticket command (command_slot (length state.parts) client tag) refl all
+    submitted_under-matched state client tag ticket command (command_slot state.tags (length state.parts) client tag) refl all
 due_step-counted state (TaskStep client ticket task) is all = task_step-matched state client ticket task all
 due_step-counted state CommandPipe is all = carry_step-matched state state.messages refl all
 due_step-counted state (Data tag) is all = move_step-matched state tag is all

@@ -11,12 +11,12 @@ use Rattle.uas_profile.specs.declared.Direction.TheVariants.{Nothing, ToHost, To
 use Rattle.scsi_cmd.specs.declared.Request.TheVariants.{Execute}
 use Rattle.scsi_cmd.specs.declared.SubmitFault.{SubmitFault}
 use Rattle.scsi_cmd.specs.declared.Task.{Task}
-use Rattle.uas_profile.specs.declared.TheConstants.{TAGS, TASK_SLOT}
+use Rattle.uas_profile.specs.declared.TheConstants.{MOST_TAGS}
 use Rattle.scsi_cmd.specs.Held.{held_at}
 use Rattle.scsi_cmd.specs.Op.{direction_of, moved_bytes}
 use Rattle.uas_profile.specs.declared.PipeState.{PipeState}
 use Rattle.uas_profile.specs.declared.Place.{Place}
-use Rattle.uas_profile.specs.Places.{place_of, command_slot, tag_of}
+use Rattle.uas_profile.specs.Tags.{place_of, command_slot, tag_of, task_slot}
 use Rattle.shared_machine.specs.declared.Td.{Td}
 use Rattle.shared_machine.specs.Td.{Entry, data_trbs, pushed, is_td_left_over, is_left_over_on, has_data_trb, has_trb_on, data_in_td, data_out_td}
 use Rattle.shared_machine.specs.Part.{Part, data_td_for, fault_at, is_there, managed_part, named_slot, new_entry, new_management, noted_tickets, submitted_part}
@@ -24,7 +24,7 @@ use Rattle.shared_machine.specs.Part.{task_fault_at}
 use Rattle.shared_machine.specs.Shared.{Shared, accepted, answered, is_held, managed_or, managed_to, pipe_of, submitted_to, submitted_under, task_step}
 use Rattle.shared_machine.specs.Shared.{with_streams_rung}
 use Rattle.shared_machine.specs.Soundness.{one_if, times_in}
-use Rattle.machine_invariant.specs.Matched.{same_place, under, command_events, data_events, status_events, IsMatchedAt, IsMatched, retired_places}
+use Rattle.machine_invariant.specs.Matched.{same_place, under, command_events, data_events, status_events, IsMatchedAt, IsMatched, retired_places, IsMatchedEntry}
 use Rattle.machine_invariant.specs.Matched.{is_left_over_at, has_trb_at, is_whole_at}
 use Rattle.shared_machine.specs.Pipes.{rung_unless}
 use Rattle.machine_invariant.proofs.MatchedPlaces.{one_self, times-append, same_place-true, IsWritten, under-written, under-other, times_ready-written, clients-written}
@@ -34,6 +34,7 @@ use Rattle.machine_invariant.proofs.MatchedFlows.{left_of, trb_of, whole_of, GoO
 use Rattle.machine_invariant.proofs.MatchedActs.{times_ready-there, under-there}
 use Rattle.shared_machine.proofs.OwnSlots.{placed_slot-within}
 use Rattle.shared_machine.proofs.Standing.{not_some}
+use Rattle.shared_machine.proofs.NumberOfTags.{with_streams_rung-tags}
 
 -- A REQUEST IS ADDED
 
@@ -66,6 +67,7 @@ added-written state way tag place part now entry there added =
       now = now;
       there = there;
       within = added.within;
+      tags = with_streams_rung-tags state way tag;
       parts = refl;
       entries = added.entries;
       queue = λ slot apart. ap (λ queue. times_in slot queue) added.ready;
@@ -195,7 +197,7 @@ added-go state way tag place part now_part td entry there added new free =
 -- a request that is added under a free slot
 added-matched : (state : Shared) (way : Direction) (tag : ℕ) (place : Place) (part now_part : Part) (td : Option Td) (entry : Entry) →
     slice_get state.parts place.client ≡ Some part → IsAdded part now_part place.slot entry → IsNewOn way td entry →
-    is_some (held_at part.entries place.slot) ≡ false → IsSubmitted place.slot entry → IsMatched state →
+    is_some (held_at part.entries place.slot) ≡ false → IsSubmitted state.tags place.slot entry → IsMatched state →
     IsCounted (added_state state way tag place now_part)
 unfolding added-written
 added-matched state way tag place part now_part td entry there added new free step all =
@@ -203,6 +205,7 @@ added-matched state way tag place part now_part td entry there added new free st
     let written = added-written state way tag place part now_part entry there added in
     let here : IsMatchedAt state place None = none-matched state place part there free all in
     let events : now.events ≡ state.events = rung-events state way tag in
+    let tags : now.tags ≡ state.tags = with_streams_rung-tags state way tag in
     IsCounted-kept state now
     (added-go state way tag place part now_part td entry there added new (none-under state place part there free))
     (AreMatched-written state now place (Some entry) written (record {
@@ -212,7 +215,7 @@ added-matched state way tag place part now_part td entry there added new free st
       sent = ap (status_events place) events ∙ here.sent ∙ sym step.sent;
       ready = times_ready-written state now place (Some entry) written ∙ ap (λ queue. times_in place.slot queue) added.ready
           ∙ sym (times_ready-there state.parts place part there) ∙ here.ready ∙ sym step.ready;
-      sound = step.sound;
+      sound = subst (λ count. IsMatchedEntry count place.slot entry) (sym tags) step.sound;
     }) (counted-of state all).matched)
     (ap (λ events. retired_places events) events)
     (counted-of state all)
@@ -247,7 +250,7 @@ new-left DataIn ticket command = over-left_in (direction_of command.op) (data_td
 new-left DataOut ticket command = over-left_out (direction_of command.op) (data_td_for (moved_bytes command.op)) (data_for-left (moved_bytes command.op))
 
 accepted-matched : (state : Shared) (part : Part) (place : Place) (tag ticket : ℕ) (command : Command) → slice_get state.parts place.client ≡ Some part
-    → place.slot < length part.entries → place.slot < TASK_SLOT →
+    → place.slot < length part.entries → place.slot < (task_slot state.tags) →
     IsUnfaulted (is_some (held_at part.entries place.slot)) command.op → IsMatched state → IsCounted (accepted state part place tag ticket command).0
 accepted-matched state part place tag ticket command there within slot fine all =
     added-matched state (direction_of command.op) tag place part (submitted_part part place.slot ticket command) (data_td_for (moved_bytes command.op))
@@ -255,12 +258,12 @@ accepted-matched state part place tag ticket command there within slot fine all 
     (record { rung = λ pipe has. new-trb pipe ticket command has; none_left = λ pipe. new-left pipe ticket command }) fine.free
     (submit-stepped place.slot ticket command slot fine.short) all
 
-pub slots-there : (state : Shared) (client : ℕ) (part : Part) → IsMatched state → slice_get state.parts client ≡ Some part → length part.entries ≡ TAGS
-slots-there state client part all there = subst (λ found. IfSome found (λ part. length part.entries ≡ TAGS)) there (all.slots client)
+pub slots-there : (state : Shared) (client : ℕ) (part : Part) → IsMatched state → slice_get state.parts client ≡ Some part → length part.entries ≡ MOST_TAGS
+slots-there state client part all there = subst (λ found. IfSome found (λ part. length part.entries ≡ MOST_TAGS)) there (all.slots client)
 
 answered-matched : (state : Shared) (part : Part) (place : Place) (tag ticket : ℕ) (command : Command) (fault : Option SubmitFault)
     → slice_get state.parts place.client ≡ Some part →
-    place.slot < length part.entries → place.slot < TASK_SLOT → fault_at part place.slot ticket command ≡ fault → IsMatched state
+    place.slot < length part.entries → place.slot < (task_slot state.tags) → fault_at part place.slot ticket command ≡ fault → IsMatched state
     → IsCounted (answered state part place tag ticket command fault).0
 answered-matched state part place tag ticket command None there within slot is all =
     accepted-matched state part place tag ticket command there within slot
@@ -269,19 +272,19 @@ answered-matched state part place tag ticket command (Some fault) there within s
 
 submitted_to-matched : (state : Shared) (place : Place) (tag ticket : ℕ) (command : Command) (found : Option Part)
     → slice_get state.parts place.client ≡ found →
-    nat_lt place.slot TASK_SLOT ≡ true → IsMatched state → IsCounted (submitted_to state place tag ticket command found).0
+    nat_lt place.slot (task_slot state.tags) ≡ true → IsMatched state → IsCounted (submitted_to state place tag ticket command found).0
 submitted_to-matched state place tag ticket command None is within all = counted-of state all
 submitted_to-matched state place tag ticket command (Some part) is within all =
     answered-matched state part place tag ticket command (fault_at part place.slot ticket command) is
-    (omega (arith, ltb-true place.slot TASK_SLOT within, slots-there state place.client part all is)) (ltb-true place.slot TASK_SLOT within) refl all
+    (omega (arith, ltb-true place.slot (task_slot state.tags) within, slots-there state place.client part all is, all.tags.most)) (ltb-true place.slot (task_slot state.tags) within) refl all
 
 pub submitted_under-matched : (state : Shared) (client tag ticket : ℕ) (command : Command) (slot : Option ℕ)
-    → command_slot (length state.parts) client tag ≡ slot → IsMatched state →
+    → command_slot state.tags (length state.parts) client tag ≡ slot → IsMatched state →
     IsCounted (submitted_under state client tag ticket command slot).0
 submitted_under-matched state client tag ticket command None is all = counted-of state all
 submitted_under-matched state client tag ticket command (Some slot) is all =
     submitted_to-matched state (record { client = client; slot = slot }) tag ticket command (slice_get state.parts client) refl
-    (placed_slot-within client (place_of (length state.parts) tag) slot is) all
+    (placed_slot-within state.tags client (place_of state.tags (length state.parts) tag) slot is) all
 
 -- A TASK MANAGEMENT: it moves no data, and rings its status stream
 
@@ -299,24 +302,24 @@ management-left DataIn ticket task noted = refl
 management-left DataOut ticket task noted = refl
 
 managed_or-matched : (state : Shared) (part : Part) (client : ℕ) (slot : Option ℕ) (ticket : ℕ) (task : Task) (fault : Option SubmitFault) →
-    slice_get state.parts client ≡ Some part → task_fault_at part slot ticket task ≡ fault → IsMatched state →
-    IsCounted (managed_or state part (record { client = client; slot = TASK_SLOT }) slot ticket task fault).0
+    slice_get state.parts client ≡ Some part → task_fault_at state.tags part slot ticket task ≡ fault → IsMatched state →
+    IsCounted (managed_or state part (record { client = client; slot = (task_slot state.tags) }) slot ticket task fault).0
 managed_or-matched state part client slot ticket task None there is all =
-    let place : Place = record { client = client; slot = TASK_SLOT } in
-    let noted : List ℕ = noted_tickets part slot task in
-    added-matched state Nothing (tag_of place) place part (managed_part part slot ticket task) None (new_management ticket task noted) there
-    (record { within = omega (arith, slots-there state client part all there); entries = refl; ready = refl })
+    let place : Place = record { client = client; slot = (task_slot state.tags) } in
+    let noted : List ℕ = noted_tickets state.tags part slot task in
+    added-matched state Nothing (tag_of state.tags place) place part (managed_part state.tags part slot ticket task) None (new_management ticket task noted) there
+    (record { within = omega (arith, slots-there state client part all there, all.tags.most); entries = refl; ready = refl })
     (record { rung = λ pipe has. management-trb pipe ticket task noted has; none_left = λ pipe. management-left pipe ticket task noted })
-    (task-unfaulted (is_some (held_at part.entries TASK_SLOT)) part.least_ticket ticket (is_there part slot task) is)
+    (task-unfaulted (is_some (held_at part.entries (task_slot state.tags))) part.least_ticket ticket (is_there part slot task) is)
     (manage-stepped ticket task noted) all
 managed_or-matched state part client slot ticket task (Some fault) there is all = counted-of state all
 
 managed_to-matched : (state : Shared) (client : ℕ) (slot : Option ℕ) (ticket : ℕ) (task : Task) (found : Option Part) → slice_get state.parts client ≡ found →
-    IsMatched state → IsCounted (managed_to state (record { client = client; slot = TASK_SLOT }) slot ticket task found).0
+    IsMatched state → IsCounted (managed_to state (record { client = client; slot = (task_slot state.tags) }) slot ticket task found).0
 managed_to-matched state client slot ticket task None is all = counted-of state all
 managed_to-matched state client slot ticket task (Some part) is all =
-    managed_or-matched state part client slot ticket task (task_fault_at part slot ticket task) is refl all
+    managed_or-matched state part client slot ticket task (task_fault_at state.tags part slot ticket task) is refl all
 
 pub task_step-matched : (state : Shared) (client ticket : ℕ) (task : Task) → IsMatched state → IsCounted (task_step state client ticket task).0
 task_step-matched state client ticket task all =
-    managed_to-matched state client (named_slot (length state.parts) client task) ticket task (slice_get state.parts client) refl all
+    managed_to-matched state client (named_slot state.tags (length state.parts) client task) ticket task (slice_get state.parts client) refl all

@@ -35,13 +35,13 @@ use Rattle.machine_invariant.proofs.MatchedPlaces.{one_self}
 use Rattle.machine_invariant.proofs.MatchedTds.{TdGoesOn, TdsGoOn, td-same, td-taken}
 
 -- an entry that became another one: the messages popped and the events posted for its place
-pub record IsStepped (place : Place) (popped : List Place) (posted : List Completion) (old new : Entry) : Type 0 where
+pub record IsStepped (tags : ℕ) (place : Place) (popped : List Place) (posted : List Completion) (old new : Entry) : Type 0 where
   pub messages : waiting_command (Some old) ≡ times place popped + waiting_command (Some new)
   pub carried : awaited_command (Some old) + command_events place posted ≡ awaited_command (Some new)
   pub moved : awaited_data_of (Some old) + data_events place posted ≡ awaited_data_of (Some new)
   pub sent : awaited_status (Some old) + status_events place posted ≡ awaited_status (Some new)
   pub ready : is_ready new ≡ is_ready old
-  pub sound : IsMatchedEntry place.slot new
+  pub sound : IsMatchedEntry tags place.slot new
 
 -- the operation of a command
 pub asked_op : (request : Request) → is_command request ≡ true → (op : Op) × (request ≡ Execute op)
@@ -102,15 +102,15 @@ response-fits Reset found = tt
 response-fits (Query tag) true = refl
 response-fits (Query tag) false = tt
 
-pub received : (unit : BlockMaps) (found : Bool) (slot : ℕ) (entry : Entry) (request : Request) → entry.task.request ≡ request → entry.command_td ≡ pushed
-    → entry.status_td ≡ pushed → IsMovingTd (data_trbs entry.task.request) 0 entry.data_td → IsMatchedEntry slot entry
-    → IsMatchedEntry slot (carried_to entry (carried_request unit found entry.task request).1)
-received unit found slot entry (Execute op) is command status chunks sound =
+pub received : {tags : ℕ} (unit : BlockMaps) (found : Bool) (slot : ℕ) (entry : Entry) (request : Request) → entry.task.request ≡ request → entry.command_td ≡ pushed
+    → entry.status_td ≡ pushed → IsMovingTd (data_trbs entry.task.request) 0 entry.data_td → IsMatchedEntry tags slot entry
+    → IsMatchedEntry tags slot (carried_to entry (carried_request unit found entry.task request).1)
+received {tags} unit found slot entry (Execute op) is command status chunks sound =
     let one : (with_trb_taken entry.command_td).consumed ≡ 1 = ap (λ (td : Td). td.consumed + 1) command in
     let answers : (phase : Phase) → IsCommandPhase phase → IsPhaseOf entry.task.request phase =
     λ phase fine. command-answers entry.task.request op phase is fine in
     let trbs : data_trbs entry.task.request ≡ (moved_bytes op + (CHUNK_BYTES - 1)) / CHUNK_BYTES = ap data_trbs is in
-    begun_progress (λ progress. IsMatchedEntry slot (carried_to entry (record entry.task { phase = Begun (of_command progress) }))) unit (reports_attention op) op
+    begun_progress (λ progress. IsMatchedEntry tags slot (carried_to entry (record entry.task { phase = Begun (of_command progress) }))) unit (reports_attention op) op
     (λ sense. record {
       asks = sound.asks;
       answers = answers (Begun (Ended (WithStatus (Check sense)))) tt;
@@ -139,7 +139,7 @@ received unit found slot entry (Execute op) is command status chunks sound =
       moves = sound.moves;
       small = sound.small;
     })
-received unit found slot entry (Manage what noted) is command status chunks sound = record {
+received {tags} unit found slot entry (Manage what noted) is command status chunks sound = record {
   asks = sound.asks;
   answers = subst (λ r. IsPhaseOf r (Begun (Ended (WithResponse (response_to what found))))) (sym is) (response-fits what found);
   command = ap (λ (td : Td). td.consumed + 1) command;
@@ -150,10 +150,10 @@ received unit found slot entry (Manage what noted) is command status chunks soun
 }
 
 -- the device receives the request
-pub carry-stepped : (unit : BlockMaps) (found : Bool) (place : Place) (entry : Entry) → entry.task.phase ≡ Queued → IsMatchedEntry place.slot entry →
-    IsStepped place (place ∷ []) (CommandDone place ∷ []) entry
+pub carry-stepped : {tags : ℕ} (unit : BlockMaps) (found : Bool) (place : Place) (entry : Entry) → entry.task.phase ≡ Queued → IsMatchedEntry tags place.slot entry →
+    IsStepped tags place (place ∷ []) (CommandDone place ∷ []) entry
     (carried_to entry (carried_request unit found entry.task entry.task.request).1)
-carry-stepped unit found place entry queued sound =
+carry-stepped {tags} unit found place entry queued sound =
     let command : entry.command_td ≡ pushed = subst (λ p. IsCommandTd p entry.command_td) queued sound.command in
     let status : entry.status_td ≡ pushed = subst (λ p. IsStatusTd p entry.status_td) queued sound.status in
     let chunks : IsMovingTd (data_trbs entry.task.request) 0 entry.data_td = subst
@@ -277,11 +277,11 @@ abbrev pub moved_events : Entry → TaggedTask → Place → List Completion
 moved_events entry task place = data_event_if (is_last_trb (took_trb task.phase) (data_trbs entry.task.request) entry.data_td) place
 
 -- a step that changes the phase and takes what it takes of the data TD
-pub chunk-stepped : (place : Place) (entry : Entry) (chunk : ℕ) (buffer : List ℕ) (phase : Phase) → IsMovingTd (data_trbs entry.task.request) chunk entry.data_td →
-    IsMatchedEntry place.slot (moved_to entry (record entry.task { buffer = buffer; phase = phase })) →
-    IsStepped place [] (moved_events entry (record entry.task { buffer = buffer; phase = phase }) place) entry
+pub chunk-stepped : {tags : ℕ} (place : Place) (entry : Entry) (chunk : ℕ) (buffer : List ℕ) (phase : Phase) → IsMovingTd (data_trbs entry.task.request) chunk entry.data_td →
+    IsMatchedEntry tags place.slot (moved_to entry (record entry.task { buffer = buffer; phase = phase })) →
+    IsStepped tags place [] (moved_events entry (record entry.task { buffer = buffer; phase = phase }) place) entry
     (moved_to entry (record entry.task { buffer = buffer; phase = phase }))
-chunk-stepped place entry chunk buffer phase chunks sound =
+chunk-stepped {tags} place entry chunk buffer phase chunks sound =
     let took : Bool = took_trb phase in
     let trbs : ℕ = data_trbs entry.task.request in
     let last : Bool = is_last_trb took trbs entry.data_td in
@@ -299,10 +299,10 @@ abbrev pub chunk_task : BlockMaps → TaggedTask → ℕ → Op → TaggedTask
 chunk_task unit task chunk op = record task { buffer = buffer_after unit task.buffer chunk op; phase = Begun (progress_left unit chunk op) }
 
 -- the device moves a chunk
-pub move-stepped : (unit : BlockMaps) (place : Place) (entry : Entry) (chunk : ℕ) (op : Op) → entry.task.request ≡ Execute op
-    → entry.task.phase ≡ Begun (Moving chunk) → IsMatchedEntry place.slot entry →
-    IsStepped place [] (moved_events entry (chunk_task unit entry.task chunk op) place) entry (moved_to entry (chunk_task unit entry.task chunk op))
-move-stepped unit place entry chunk op is moving sound =
+pub move-stepped : {tags : ℕ} (unit : BlockMaps) (place : Place) (entry : Entry) (chunk : ℕ) (op : Op) → entry.task.request ≡ Execute op
+    → entry.task.phase ≡ Begun (Moving chunk) → IsMatchedEntry tags place.slot entry →
+    IsStepped tags place [] (moved_events entry (chunk_task unit entry.task chunk op) place) entry (moved_to entry (chunk_task unit entry.task chunk op))
+move-stepped {tags} unit place entry chunk op is moving sound =
     let command : entry.command_td.consumed ≡ 1 = subst (λ p. IsCommandTd p entry.command_td) moving sound.command in
     let status : entry.status_td ≡ pushed = subst (λ p. IsStatusTd p entry.status_td) moving sound.status in
     let chunks : IsMovingTd (data_trbs entry.task.request) chunk entry.data_td = subst
@@ -311,7 +311,7 @@ move-stepped unit place entry chunk op is moving sound =
     let buffer : List ℕ = buffer_after unit entry.task.buffer chunk op in
     let begun : (progress : TaskProgress) → IsCommandPhase (Begun progress)
     → IsDataTd (data_trbs entry.task.request) (Begun progress) (data_td_after (took_trb (Begun progress)) entry.data_td)
-    → IsStepped place [] (moved_events entry (record entry.task { buffer = buffer; phase = Begun progress }) place) entry
+    → IsStepped tags place [] (moved_events entry (record entry.task { buffer = buffer; phase = Begun progress }) place) entry
     (moved_to entry (record entry.task { buffer = buffer; phase = Begun progress })) =
     λ progress fine now. chunk-stepped place entry chunk buffer (Begun progress) chunks (record {
       asks = sound.asks;
@@ -322,7 +322,7 @@ move-stepped unit place entry chunk op is moving sound =
       moves = td-there (took_trb (Begun progress)) entry.data_td ∙ sound.moves;
       small = sound.small;
     }) in
-    after_chunk (λ progress. IsStepped place [] (moved_events entry (record entry.task { buffer = buffer; phase = Begun (of_command progress) }) place) entry
+    after_chunk (λ progress. IsStepped tags place [] (moved_events entry (record entry.task { buffer = buffer; phase = Begun (of_command progress) }) place) entry
     (moved_to entry (record entry.task { buffer = buffer; phase = Begun (of_command progress) }))) unit chunk op unit.count
     (λ more. begun (Moving (chunk + 1)) tt (chunk-next (data_trbs entry.task.request) chunk entry.data_td chunks (omega (arith, trbs, more))))
     (λ last. begun (Ended (WithStatus Good)) tt (chunk-whole (data_trbs entry.task.request) chunk entry.data_td chunks (omega (arith, trbs, last))))
@@ -334,9 +334,9 @@ chunk-td trbs chunk took None is = td-same trbs None
 chunk-td trbs chunk true (Some td) is = td-taken trbs td is.0
 chunk-td trbs chunk false (Some td) is = td-same trbs (Some td)
 
-pub move-tds : (unit : BlockMaps) (slot : ℕ) (entry : Entry) (chunk : ℕ) (op : Op) → entry.task.phase ≡ Begun (Moving chunk) → IsMatchedEntry slot entry →
+pub move-tds : {tags : ℕ} (unit : BlockMaps) (slot : ℕ) (entry : Entry) (chunk : ℕ) (op : Op) → entry.task.phase ≡ Begun (Moving chunk) → IsMatchedEntry tags slot entry →
     TdsGoOn entry (moved_to entry (chunk_task unit entry.task chunk op))
-move-tds unit slot entry chunk op moving sound =
+move-tds {tags} unit slot entry chunk op moving sound =
     let chunks : IsMovingTd (data_trbs entry.task.request) chunk entry.data_td = subst
     (λ p. IsDataTd (data_trbs entry.task.request) p entry.data_td) moving sound.chunks in
     record {

@@ -14,11 +14,11 @@ use Rattle.scsi_cmd.specs.declared.Command.{Command}
 use Rattle.scsi_cmd.specs.declared.Reply.{Reply}
 use Rattle.scsi_cmd.specs.declared.SubmitFault.{SubmitFault}
 use Rattle.scsi_cmd.specs.declared.Task.{Task}
-use Rattle.uas_profile.specs.declared.TheConstants.{TAGS, TASK_SLOT}
+use Rattle.uas_profile.specs.declared.TheConstants.{MOST_TAGS}
 use Rattle.uas_profile.specs.declared.Pipe.{Pipe}
 use Rattle.uas_profile.specs.declared.Pipe.TheVariants.{Command as CommandPipeName, Status as StatusPipe, DataIn, DataOut}
 use Rattle.shared_machine.specs.Tests.{is_over, is_pending, is_seen}
-use Rattle.uas_profile.specs.Places.{command_slot, place_of}
+use Rattle.uas_profile.specs.Tags.{command_slot, place_of, task_slot}
 use Rattle.uas_profile.specs.declared.Place.{Place}
 use Rattle.uas_profile.specs.declared.TdState.{TdState}
 use Rattle.uas_profile.specs.PipeStates.{stopped_pipe}
@@ -57,6 +57,7 @@ use Rattle.machine_invariant.proofs.OrderedSubmissions.{IsInTurn, managed-ordere
 use Rattle.shared_machine.proofs.OwnSlots.{command_slot-own}
 use Rattle.shared_machine.proofs.Standing.{slice_get-slice_set_same}
 use Rattle.shared_machine.proofs.Standing.{not_some, get-within}
+use Rattle.shared_machine.proofs.NumberOfTags.{with_streams_rung-tags}
 
 -- ENTRIES TAKEN ON
 
@@ -70,7 +71,7 @@ acted-ordered state client part act found kept old =
     under-wrote IsSame state.parts client part act.part place found
     (λ of_client. onward-same (held_at part.entries place.slot) (held_at act.part.entries place.slot) (kept.onward place.slot)) IsSame-self in
     record {
-      parts = part-written IsOrderedPart state.parts client part act.part found old.parts kept.ordered;
+      parts = part-written (IsOrderedPart state.tags) state.parts client part act.part found old.parts kept.ordered;
       messages = rising-same state.parts parts state.messages (λ place named. same place) old.messages;
       events = behind-same state.parts parts (state.events ++ option_to_list act.event) (λ place named. same place)
           (notice-behind state act.event kept.notice old.events);
@@ -246,7 +247,7 @@ left-state state client slot rest part found unnamed old =
     let kept : (other : ℕ) → (other ≡ slot → ⊥) → held_at now.entries other ≡ held_at part.entries other = λ other apart.
     get_or-set_other part.entries slot other None None apart in
     record {
-      parts = part-written IsOrderedPart state.parts client part now found old.parts (left-ordered client part slot rest (old.parts client part found));
+      parts = part-written (IsOrderedPart state.tags) state.parts client part now found old.parts (left-ordered client part slot rest (old.parts client part found));
       messages = rising-same state.parts parts state.messages
           (λ place named. same-elsewhere state.parts client slot part now place found kept
           (named-apart (λ p. times p state.messages) client slot place unnamed.messages named)) old.messages;
@@ -262,17 +263,17 @@ settled-ordered state client slot rest part None found unnamed old =
 settled-ordered state client slot rest part (Some reply) found unnamed old = left-state state client slot rest part found unnamed old
 
 taken-ordered : (state : Shared) (client : ℕ) (part : Part) (ready : List ℕ) → part.ready ≡ ready → slice_get state.parts client ≡ Some part → IsMatched state
-    → IsOrdered (acted_on state client (taken client part ready)).0
+    → IsOrdered (acted_on state client (taken state.tags client part ready)).0
 taken-ordered state client part [] queue found all =
     acted-ordered state client part (nothing part) found (nothing-kept state client part (all.ordered.parts client part found)) all.ordered
 taken-ordered state client part (slot ∷ rest) queue found all =
     let place : Place = record { client = client; slot = slot } in
-    settled-ordered state client slot rest part (option_and_then (entry_reply (slot_tag client slot)) (held_at part.entries slot)) found
+    settled-ordered state client slot rest part (option_and_then (entry_reply (slot_tag state.tags client slot)) (held_at part.entries slot)) found
     (unnamed-first state place part rest (under state.parts place) found queue (all.places place)) all.ordered
 
-take_step-ordered : (state : Shared) (client : ℕ) → IsMatched state → IsOrdered (routed state client (take_act client)).0
+take_step-ordered : (state : Shared) (client : ℕ) → IsMatched state → IsOrdered (routed state client (take_act state.tags client)).0
 take_step-ordered state client all =
-    elim (slice_get state.parts client) as (λ found. slice_get state.parts client ≡ found → IsOrdered (routed_to state client (take_act client) found).0) [
+    elim (slice_get state.parts client) as (λ found. slice_get state.parts client ≡ found → IsOrdered (routed_to state client (take_act state.tags client) found).0) [
       | None ↦ λ is. all.ordered
       | Some part ↦ λ is. taken-ordered state client part part.ready refl is all
     ] refl
@@ -286,7 +287,8 @@ record IsAddedAt (state new : Shared) (place : Place) (part now : Part) (entry :
   within : place.slot < length part.entries
   next : part.least_ticket ≤ entry.task.ticket
   entries : now.entries ≡ slice_set part.entries place.slot (Some entry)
-  ordered : IsOrderedPart place.client now
+  ordered : IsOrderedPart state.tags place.client now
+  tags : new.tags ≡ state.tags
   parts : new.parts ≡ slice_set state.parts place.client now
   messages : new.messages ≡ state.messages ++ place ∷ []
   events : new.events ≡ state.events
@@ -320,8 +322,9 @@ added-state state new place part now entry is all =
     same-elsewhere state.parts place.client place.slot part now other is.found kept
     (named-apart (λ p. times p state.messages) place.client place.slot other unnamed.messages named) in
     record {
-      parts = subst (λ list. (client : ℕ) (one : Part) → slice_get list client ≡ Some one → IsOrderedPart client one) (sym is.parts)
-          (part-written IsOrderedPart state.parts place.client part now is.found all.ordered.parts is.ordered);
+      parts = subst (λ list. (client : ℕ) (one : Part) → slice_get list client ≡ Some one → IsOrderedPart new.tags client one) (sym is.parts)
+          (subst (λ tags. (client : ℕ) (one : Part) → slice_get parts client ≡ Some one → IsOrderedPart tags client one) (sym is.tags)
+          (part-written (IsOrderedPart state.tags) state.parts place.client part now is.found all.ordered.parts is.ordered));
       messages = subst (λ list. AreRising list new.messages) (sym is.parts) (subst (λ messages. AreRising parts messages) (sym is.messages)
           (rising-more parts place state.messages (added-later state new place part now entry is all same)
           (rising-same state.parts parts state.messages same all.ordered.messages)));
@@ -344,6 +347,7 @@ answered-ordered state part place tag ticket command None found within is all =
       next = turn.next;
       entries = refl;
       ordered = submitted-ordered place.client part place.slot ticket command within turn.next (all.ordered.parts place.client part found);
+      tags = with_streams_rung-tags state (direction_of command.op) tag;
       parts = refl;
       messages = refl;
       events = rung-events state (direction_of command.op) tag;
@@ -351,39 +355,40 @@ answered-ordered state part place tag ticket command None found within is all =
 answered-ordered state part place tag ticket command (Some fault) found within is all = all.ordered
 
 submitted_to-ordered : (state : Shared) (place : Place) (tag ticket : ℕ) (command : Command) (one : Option Part) → slice_get state.parts place.client ≡ one
-    → place.slot < TASK_SLOT → IsMatched state → IsOrdered (submitted_to state place tag ticket command one).0
+    → place.slot < (task_slot state.tags) → IsMatched state → IsOrdered (submitted_to state place tag ticket command one).0
 submitted_to-ordered state place tag ticket command None found within all = all.ordered
 submitted_to-ordered state place tag ticket command (Some part) found within all =
     answered-ordered state part place tag ticket command (fault_at part place.slot ticket command) found
-    (omega (arith, within, slots-there state place.client part all found)) refl all
+    (omega (arith, within, slots-there state place.client part all found, all.tags.most)) refl all
 
-submitted_under-ordered : (state : Shared) (client tag ticket : ℕ) (command : Command) (slot : Option ℕ) → command_slot (length state.parts) client tag ≡ slot
+submitted_under-ordered : (state : Shared) (client tag ticket : ℕ) (command : Command) (slot : Option ℕ) → command_slot state.tags (length state.parts) client tag ≡ slot
     → IsMatched state → IsOrdered (submitted_under state client tag ticket command slot).0
 submitted_under-ordered state client tag ticket command None is all = all.ordered
 submitted_under-ordered state client tag ticket command (Some slot) is all =
     submitted_to-ordered state (record { client = client; slot = slot }) tag ticket command (slice_get state.parts client) refl
-    (command_slot-own (length state.parts) client tag slot is).within all
+    (command_slot-own state.tags (length state.parts) client tag slot is).within all
 
 -- TASK MANAGEMENT
 
 managed_or-ordered : (state : Shared) (part : Part) (client ticket : ℕ) (task : Task) (fault : Option SubmitFault) → slice_get state.parts client ≡ Some part
-    → task_fault_at part (named_slot (length state.parts) client task) ticket task ≡ fault → IsMatched state
+    → task_fault_at state.tags part (named_slot state.tags (length state.parts) client task) ticket task ≡ fault → IsMatched state
     → IsOrdered
-    (managed_or state part (record { client = client; slot = TASK_SLOT }) (named_slot (length state.parts) client task) ticket task fault).0
+    (managed_or state part (record { client = client; slot = (task_slot state.tags) }) (named_slot state.tags (length state.parts) client task) ticket task fault).0
 managed_or-ordered state part client ticket task None found is all =
-    let place : Place = record { client = client; slot = TASK_SLOT } in
-    let named : Option ℕ = named_slot (length state.parts) client task in
-    let turn : IsInTurn (is_some (held_at part.entries TASK_SLOT)) part.least_ticket ticket = task-turn _ part.least_ticket ticket _ is in
-    let within : TASK_SLOT < length part.entries = omega (arith, slots-there state client part all found) in
-    added-state state (managed state part place named ticket task).0 place part (managed_part part named ticket task)
-    (new_management ticket task (noted_tickets part named task)) (record {
+    let place : Place = record { client = client; slot = (task_slot state.tags) } in
+    let named : Option ℕ = named_slot state.tags (length state.parts) client task in
+    let turn : IsInTurn (is_some (held_at part.entries (task_slot state.tags))) part.least_ticket ticket = task-turn _ part.least_ticket ticket _ is in
+    let within : (task_slot state.tags) < length part.entries = omega (arith, slots-there state client part all found, all.tags.most) in
+    added-state state (managed state part place named ticket task).0 place part (managed_part state.tags part named ticket task)
+    (new_management ticket task (noted_tickets state.tags part named task)) (record {
       found = found;
-      free = not_some (held_at part.entries TASK_SLOT) turn.free;
+      free = not_some (held_at part.entries (task_slot state.tags)) turn.free;
       within = within;
       next = turn.next;
       entries = refl;
-      ordered = managed-ordered (length state.parts) client part ticket task (get-within state.parts client part found) within turn.next
+      ordered = managed-ordered state.tags (length state.parts) client part ticket task (get-within state.parts client part found) within turn.next
           (all.ordered.parts client part found);
+      tags = refl;
       parts = refl;
       messages = refl;
       events = refl;
@@ -391,25 +396,25 @@ managed_or-ordered state part client ticket task None found is all =
 managed_or-ordered state part client ticket task (Some fault) found is all = all.ordered
 
 managed_to-ordered : (state : Shared) (client ticket : ℕ) (task : Task) (one : Option Part) → slice_get state.parts client ≡ one → IsMatched state
-    → IsOrdered (managed_to state (record { client = client; slot = TASK_SLOT }) (named_slot (length state.parts) client task) ticket task one).0
+    → IsOrdered (managed_to state (record { client = client; slot = (task_slot state.tags) }) (named_slot state.tags (length state.parts) client task) ticket task one).0
 managed_to-ordered state client ticket task None found all = all.ordered
 managed_to-ordered state client ticket task (Some part) found all =
-    managed_or-ordered state part client ticket task (task_fault_at part (named_slot (length state.parts) client task) ticket task) found refl all
+    managed_or-ordered state part client ticket task (task_fault_at state.tags part (named_slot state.tags (length state.parts) client task) ticket task) found refl all
 
 -- EVERY STEP
 
 due_step-ordered : (state : Shared) (step : Step) → IsMatched state → IsOrdered (due_step state step).0
 due_step-ordered state (Submit client tag ticket command) all =
-    submitted_under-ordered state client tag ticket command (command_slot (length state.parts) client tag) refl all
+    submitted_under-ordered state client tag ticket command (command_slot state.tags (length state.parts) client tag) refl all
 due_step-ordered state (TaskStep client ticket task) all = managed_to-ordered state client ticket task (slice_get state.parts client) refl all
 due_step-ordered state CommandPipe all = carry_step-ordered state state.messages refl all
 due_step-ordered state (Data tag) all =
-    by_tag-ordered state move_act (place_of (length state.parts) tag) all.ordered (λ place part found. move_act-kept state place part all found)
+    by_tag-ordered state move_act (place_of state.tags (length state.parts) tag) all.ordered (λ place part found. move_act-kept state place part all found)
 due_step-ordered state (Status tag) all =
-    by_tag-ordered state send_act (place_of (length state.parts) tag) all.ordered (λ place part found. send_act-kept state place part all found)
+    by_tag-ordered state send_act (place_of state.tags (length state.parts) tag) all.ordered (λ place part found. send_act-kept state place part all found)
 due_step-ordered state Engine all = engine_step-ordered state state.retirement all.ordered
 due_step-ordered state Event all = event_step-ordered state state.events refl all.ordered
-due_step-ordered state (Retire pipe tag) all = retire_step-ordered state pipe (place_of (length state.parts) tag) all.ordered
+due_step-ordered state (Retire pipe tag) all = retire_step-ordered state pipe (place_of state.tags (length state.parts) tag) all.ordered
 due_step-ordered state (Take client) all = take_step-ordered state client all
 
 -- a step keeps the order; one that isn't due changes nothing
@@ -427,10 +432,10 @@ none-held zero slot = refl
 none-held (suc n) zero = refl
 none-held (suc n) (suc slot) = none-held n slot
 
-new-ordered : (client number : ℕ) (unit : BlockMaps) → IsOrderedPart client (new_part number unit)
-new-ordered client number unit =
+new-ordered : {tags : ℕ} (client number : ℕ) (unit : BlockMaps) → IsOrderedPart tags client (new_part number unit)
+new-ordered {tags} client number unit =
     let free : (slot : ℕ) (entry : Entry) → held_at (new_part number unit).entries slot ≡ Some entry → ⊥ = λ slot entry held.
-    none-some entry (sym (none-held TAGS slot) ∙ held) in
+    none-some entry (sym (none-held MOST_TAGS slot) ∙ held) in
     record {
       tickets = record {
         below = λ slot entry held. absurd (free slot entry held);
@@ -440,19 +445,19 @@ new-ordered client number unit =
       noted = λ slot entry held. absurd (free slot entry held);
     }
 
-parts-ordered : (number shift : ℕ) (units : List BlockMaps) (client : ℕ) (part : Part) → slice_get (new_parts number units) client ≡ Some part
-    → IsOrderedPart (shift + client) part
-parts-ordered number shift [] client part is = absurd (none-some part is)
-parts-ordered number shift (unit ∷ units) zero part is =
-    subst (λ (p : Part). IsOrderedPart (shift + zero) p) (same_Some (new_part number unit) part is) (new-ordered (shift + zero) number unit)
-parts-ordered number shift (unit ∷ units) (suc client) part is =
+parts-ordered : {tags : ℕ} (number shift : ℕ) (units : List BlockMaps) (client : ℕ) (part : Part) → slice_get (new_parts number units) client ≡ Some part
+    → IsOrderedPart tags (shift + client) part
+parts-ordered {tags} number shift [] client part is = absurd (none-some part is)
+parts-ordered {tags} number shift (unit ∷ units) zero part is =
+    subst (λ (p : Part). IsOrderedPart tags (shift + zero) p) (same_Some (new_part number unit) part is) (new-ordered (shift + zero) number unit)
+parts-ordered {tags} number shift (unit ∷ units) (suc client) part is =
     let same : shift + 1 + client ≡ shift + suc client = omega arith in
-    subst (λ c. IsOrderedPart c part) same (parts-ordered (suc number) (shift + 1) units client part is)
+    subst (λ c. IsOrderedPart tags c part) same (parts-ordered (suc number) (shift + 1) units client part is)
 
 -- at the start nothing stands anywhere, so that all is in order
-pub opening-ordered : (units : List BlockMaps) → IsOrdered (opening units)
-opening-ordered units = record {
-  parts = λ client part is. let same : 0 + client ≡ client = omega arith in subst (λ c. IsOrderedPart c part) same (parts-ordered 0 0 units client part is);
+pub opening-ordered : (tags : ℕ) (units : List BlockMaps) → IsOrdered (opening tags units)
+opening-ordered tags units = record {
+  parts = λ client part is. let same : 0 + client ≡ client = omega arith in subst (λ c. IsOrderedPart tags c part) same (parts-ordered 0 0 units client part is);
   messages = tt;
   events = tt;
 }

@@ -10,7 +10,7 @@ use Rattle.scsi_cmd.specs.Held.{held_at}
 use Rattle.scsi_cmd.specs.Request.{ended_by}
 use Rattle.scsi_cmd.specs.declared.Request.{Request}
 use Rattle.scsi_cmd.specs.declared.Request.TheVariants.{Execute, Manage}
-use Rattle.uas_profile.specs.declared.TheConstants.{TASK_SLOT}
+use Rattle.uas_profile.specs.Tags.{task_slot}
 use Rattle.solo_model.specs.declared.TaskProgress.TheVariants.{Moving, Ended}
 use Rattle.solo_model.specs.TaggedTask.{TaggedTask, can_go, moved, moved_from, moved_request, sent, sent_from}
 use Rattle.solo_model.specs.declared.Phase.{Phase}
@@ -48,13 +48,13 @@ notice-behind state (Some event) notice is = behind-more state.parts event state
 -- an act that takes the client's entries on
 pub record IsKeptBy (state : Shared) (client : ℕ) (part : Part) (act : Act) : Type 0 where
   pub onward : AreNext IsOnward part.entries act.part.entries
-  pub ordered : IsOrderedPart client act.part
+  pub ordered : IsOrderedPart state.tags client act.part
   pub notice : AreNotices state act.event
 
 -- one in which nothing is received
 pub still-kept : (state : Shared) (client : ℕ) (part : Part) (act : Act) → act.part.least_ticket ≡ part.least_ticket
     → AreNext IsStill part.entries act.part.entries
-    → AreNotices state act.event → IsOrderedPart client part → IsKeptBy state client part act
+    → AreNotices state act.event → IsOrderedPart state.tags client part → IsKeptBy state client part act
 still-kept state client part act least each notice old = record {
   onward = λ slot. IsNext-weaker IsStill IsOnward (λ was now still. still.onward) (held_at part.entries slot) (held_at act.part.entries slot) (each slot);
   ordered = still-ordered client part act.part least each old;
@@ -67,7 +67,7 @@ self-still entry = kept-still entry entry refl
 all-still : (entries : List (Option Entry)) → AreNext IsStill entries entries
 all-still entries slot = IsNext-self IsStill self-still (held_at entries slot)
 
-pub nothing-kept : (state : Shared) (client : ℕ) (part : Part) → IsOrderedPart client part → IsKeptBy state client part (nothing part)
+pub nothing-kept : (state : Shared) (client : ℕ) (part : Part) → IsOrderedPart state.tags client part → IsKeptBy state client part (nothing part)
 nothing-kept state client part old = still-kept state client part (nothing part) refl (all-still part.entries) tt old
 
 -- WHAT IS TAKEN ON
@@ -135,13 +135,13 @@ unnoted_by : (state : Shared) (place : Place) (entry : Entry) (sender : Place) (
     → ends_ticket request entry.task.ticket ≡ true → ⊥
 unnoted_by state place entry sender management (Execute op) asked all held goes named sends is asks client notes = false≢true notes
 unnoted_by state place entry sender management (Manage what noted) (Execute op) all held goes named sends is asks client notes =
-    let within : place.slot < TASK_SLOT = subst (λ request. IsRequestIn place.slot request) asks (here state place entry all held).sound.asks in
+    let within : place.slot < (task_slot state.tags) = subst (λ request. IsRequestIn state.tags place.slot request) asks (here state place entry all held).sound.asks in
     let there : under state.parts (of_client sender place.slot) ≡ Some entry =
     subst (λ c. under state.parts (record { client = c; slot = place.slot }) ≡ Some entry) (sym client) held in
     false≢true (sym (noted-ended state sender management what noted all named sends is place.slot entry within there notes) ∙ goes)
 unnoted_by state place entry sender management (Manage what noted) (Manage other more) all held goes named sends is asks client notes =
-    let slot : place.slot ≡ TASK_SLOT = subst (λ request. IsRequestIn place.slot request) asks (here state place entry all held).sound.asks in
-    let sender_slot : sender.slot ≡ TASK_SLOT = (management-at state sender management what noted all sends is).slot in
+    let slot : place.slot ≡ (task_slot state.tags) = subst (λ request. IsRequestIn state.tags place.slot request) asks (here state place entry all held).sound.asks in
+    let sender_slot : sender.slot ≡ (task_slot state.tags) = (management-at state sender management what noted all sends is).slot in
     let sent = status-there state sender all named in
     let same_slot : sender.slot ≡ place.slot = sender_slot ∙ sym slot in
     let same_place : sender ≡ place = λ i. record { client = client i; slot = same_slot i } in
@@ -236,7 +236,7 @@ event-still (StatusDone place) request entries after each = answer-still request
 event-still (EngineDone place) request entries after each = each
 
 seen-kept : (state : Shared) (client : ℕ) (event : Completion) (part : Part) (slot : ℕ) (was now : Entry) → held_at part.entries slot ≡ Some was
-    → now.task ≡ was.task → IsOrderedPart client part → IsKeptBy state client part (seen_entry event part slot (Some now))
+    → now.task ≡ was.task → IsOrderedPart state.tags client part → IsKeptBy state client part (seen_entry event part slot (Some now))
 seen-kept state client event part slot was now held same old =
     still-kept state client part (seen_entry event part slot (Some now)) refl
     (event-still event now.task.request part.entries (slice_set part.entries slot (Some now))
@@ -245,28 +245,28 @@ seen-kept state client event part slot was now held same old =
 -- an entry that the host changes, its task kept
 changed-kept : (state : Shared) (client : ℕ) (event : Completion) (part : Part) (slot : ℕ) (change : Entry → Option Entry) (held after : Option Entry)
     → ((was now : Entry) → change was ≡ Some now → now.task ≡ was.task) → held_at part.entries slot ≡ held → option_and_then change held ≡ after
-    → IsOrderedPart client part → IsKeptBy state client part (seen_entry event part slot after)
+    → IsOrderedPart state.tags client part → IsKeptBy state client part (seen_entry event part slot after)
 changed-kept state client event part slot change held None keeps at is old = nothing-kept state client part old
 changed-kept state client event part slot change None (Some now) keeps at is old = absurd (none-some now is)
 changed-kept state client event part slot change (Some was) (Some now) keeps at is old =
     seen-kept state client event part slot was now at (keeps was now is) old
 
-pub event_act-kept : (state : Shared) (client : ℕ) (event : Completion) (part : Part) → IsOrderedPart client part
+pub event_act-kept : (state : Shared) (client : ℕ) (event : Completion) (part : Part) → IsOrderedPart state.tags client part
     → IsKeptBy state client part (event_act event part)
 event_act-kept state client event part old =
     changed-kept state client event part (event_place event).slot (seen_by event) (held_at part.entries (event_place event).slot) _
     (seen_by-task event) refl refl old
 
-pub retire_act-kept : (state : Shared) (client : ℕ) (pipe : Pipe) (place : Place) (part : Part) → IsOrderedPart client part
+pub retire_act-kept : (state : Shared) (client : ℕ) (pipe : Pipe) (place : Place) (part : Part) → IsOrderedPart state.tags client part
     → IsKeptBy state client part (retire_act pipe place part)
 retire_act-kept state client pipe place part old =
     changed-kept state client (EngineDone place) part place.slot (retired_on pipe) (held_at part.entries place.slot) _ (retired_on-task pipe) refl refl old
 
-pub stop_act-kept : (state : Shared) (client : ℕ) (place : Place) (part : Part) → IsOrderedPart client part → IsKeptBy state client part (stop_act place part)
+pub stop_act-kept : (state : Shared) (client : ℕ) (place : Place) (part : Part) → IsOrderedPart state.tags client part → IsKeptBy state client part (stop_act place part)
 stop_act-kept state client place part old = still-kept state client part (stop_act place part) refl (all-still part.entries) (λ other named. tt) old
 
 passed-kept : (state : Shared) (client : ℕ) (pipe : Pipe) (place : Place) (part : Part) (held : Option Entry) → held_at part.entries place.slot ≡ held
-    → IsOrderedPart client part → IsKeptBy state client part (passed_slot pipe part place held)
+    → IsOrderedPart state.tags client part → IsKeptBy state client part (passed_slot pipe part place held)
 passed-kept state client pipe place part None is old = nothing-kept state client part old
 passed-kept state client pipe place part (Some entry) is old =
     still-kept state client part (passed_slot pipe part place (Some entry)) refl
@@ -274,6 +274,6 @@ passed-kept state client pipe place part (Some entry) is old =
     (kept-still entry (passed_on pipe entry) (with_td_on-task (passed_td (trbs_on pipe entry)) pipe entry)))
     (λ other named. tt) old
 
-pub pass_act-kept : (state : Shared) (client : ℕ) (pipe : Pipe) (place : Place) (part : Part) → IsOrderedPart client part
+pub pass_act-kept : (state : Shared) (client : ℕ) (pipe : Pipe) (place : Place) (part : Part) → IsOrderedPart state.tags client part
     → IsKeptBy state client part (pass_act pipe place part)
 pass_act-kept state client pipe place part old = passed-kept state client pipe place part (held_at part.entries place.slot) refl old

@@ -12,7 +12,7 @@ use Rattle.scsi_cmd.specs.Held.{held_at}
 use Rattle.scsi_cmd.specs.declared.Request.{Request}
 use Rattle.scsi_cmd.specs.declared.Request.TheVariants.{Execute, Manage}
 use Rattle.scsi_cmd.specs.declared.Task.{Task}
-use Rattle.uas_profile.specs.declared.TheConstants.{TASK_SLOT}
+use Rattle.uas_profile.specs.Tags.{task_slot}
 use Rattle.solo_model.specs.TaggedTask.{TaggedTask, can_be_ended, can_go, carried, carried_from, carried_request, finds, is_noted}
 use Rattle.solo_model.specs.declared.Phase.{Phase}
 use Rattle.solo_model.specs.declared.Phase.TheVariants.{Queued, Begun, Sent, Gone}
@@ -102,13 +102,13 @@ noted-done noted entry command noted_is =
     ] refl
 
 -- a request of a command slot is a command
-slot-command : (slot : ℕ) (request : Request) → IsRequestIn slot request → slot < TASK_SLOT → is_command request ≡ true
-slot-command slot (Execute op) is within = refl
-slot-command slot (Manage what noted) is within = absurd (omega (arith, is, within))
+slot-command : (tags : ℕ) (slot : ℕ) (request : Request) → IsRequestIn tags slot request → slot < (task_slot tags) → is_command request ≡ true
+slot-command tags slot (Execute op) is within = refl
+slot-command tags slot (Manage what noted) is within = absurd (omega (arith, is, within))
 
-command-slot : (slot : ℕ) (request : Request) → IsRequestIn slot request → is_command request ≡ true → slot < TASK_SLOT
-command-slot slot (Execute op) is command = is
-command-slot slot (Manage what noted) is command = absurd (false≢true command)
+command-slot : (tags : ℕ) (slot : ℕ) (request : Request) → IsRequestIn tags slot request → is_command request ≡ true → slot < (task_slot tags)
+command-slot tags slot (Execute op) is command = is
+command-slot tags slot (Manage what noted) is command = absurd (false≢true command)
 
 -- THE STEP
 
@@ -139,7 +139,7 @@ other-queued state place rest part first (Manage what noted) slot was now is ask
     let found = other-under state place rest part first slot was is held in
     let sound = (here state (of_client place slot) was is.all found).sound in
     let right = noted-as_received state place rest first what noted is.all is.messages (under-there state.parts place part is.there ∙ is.held) asks slot was
-    (command-slot slot was.task.request sound.asks ended.0) found in
+    (command-slot _ slot was.task.request sound.asks ended.0) found in
     false≢true (sym (right.received (ended-noted what noted was.task.ticket ended.1)) ∙ queued)
 
 -- what stands in a slot other than the one that is written
@@ -164,7 +164,7 @@ newly-first state place rest part entry unit now slot was is first newly =
 
 -- what the management noted is done with
 done-with : (state : Shared) (place : Place) (rest : List Place) (part : Part) (entry : Entry) (request : Request) (what : Task) (noted : ArrayVec ℕ)
-    (other : ℕ) (one : Entry) → IsFirst state place rest part entry → request ≡ Manage what noted → other < TASK_SLOT
+    (other : ℕ) (one : Entry) → IsFirst state place rest part entry → request ≡ Manage what noted → other < (task_slot state.tags)
     → held_at (entries_after request part.entries) other ≡ Some one → is_noted (ended_by what noted).items one.task.ticket ≡ true
     → can_go one.task.phase ≡ false
 done-with state place rest part entry request what noted other one first asks within held noted_is =
@@ -180,10 +180,10 @@ done-with state place rest part entry request what noted other one first asks wi
         let sound = (here state (of_client place other) was first.all (other-under state place rest part entry other was first at)).sound in
         let ticket : was.task.ticket ≡ one.task.ticket = sym (noted-onward ended was).ticket ∙ ap (λ (e : Entry). e.task.ticket) same in
         ap (λ (e : Entry). can_go e.task.phase) (sym same)
-        ∙ noted-done ended was (slot-command other was.task.request sound.asks within) (ap (λ t. is_noted (ended_by what noted).items t) ticket ∙ noted_is)
+        ∙ noted-done ended was (slot-command _ other was.task.request sound.asks within) (ap (λ t. is_noted (ended_by what noted).items t) ticket ∙ noted_is)
 
 received-first : (state : Shared) (place : Place) (rest : List Place) (part : Part) (entry : Entry) (unit : BlockMaps) (now : Entry)
-    → IsFirst state place rest part entry → IsReceivedFirst part (received_part part place.slot entry unit now)
+    → IsFirst state place rest part entry → IsReceivedFirst state.tags part (received_part part place.slot entry unit now)
 received-first state place rest part entry unit now is = record {
   first = λ slot other was after second newly held queued apart.
       let at : slot ≡ place.slot = newly-first state place rest part entry unit now slot was after is newly in
@@ -196,10 +196,10 @@ received-first state place rest part entry unit now is = record {
       let at : slot ≡ place.slot = newly-first state place rest part entry unit now slot was after is newly in
       let same : was ≡ entry = same_Some was entry (sym newly.before ∙ ap (λ s. held_at part.entries s) at ∙ is.held) in
       let request : entry.task.request ≡ Manage what noted = ap (λ (e : Entry). e.task.request) (sym same) ∙ asks in
-      let task_slot : place.slot ≡ TASK_SLOT = subst (λ r. IsRequestIn place.slot r) request
+      let last : place.slot ≡ (task_slot state.tags) = subst (λ r. IsRequestIn state.tags place.slot r) request
       (here state place entry is.all (under-there state.parts place part is.there ∙ is.held)).sound.asks in
       done-with state place rest part entry entry.task.request what noted other one is request within
-      (other-there (entries_after entry.task.request part.entries) place.slot other now one (λ there. omega (arith, there, task_slot, within)) held) noted_is;
+      (other-there (entries_after entry.task.request part.entries) place.slot other now one (λ there. omega (arith, there, last, within)) held) noted_is;
 }
 
 carried-kept : (state : Shared) (place : Place) (rest : List Place) (part : Part) (entry : Entry) (after : Option (BlockMaps × TaggedTask))

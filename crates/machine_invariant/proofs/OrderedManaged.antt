@@ -11,7 +11,7 @@ use Rattle.scsi_cmd.specs.Held.{held_at}
 use Rattle.scsi_cmd.specs.Request.{ended_by}
 use Rattle.scsi_cmd.specs.declared.Request.TheVariants.{Manage}
 use Rattle.scsi_cmd.specs.declared.Task.{Task}
-use Rattle.uas_profile.specs.declared.TheConstants.{TASK_SLOT}
+use Rattle.uas_profile.specs.Tags.{task_slot}
 use Rattle.solo_model.specs.TaggedTask.{can_go, is_noted}
 use Rattle.solo_model.specs.declared.Phase.{Phase}
 use Rattle.solo_model.specs.declared.Phase.TheVariants.{Queued, Begun, Sent, Gone}
@@ -141,8 +141,8 @@ pub record IsManagementAt (state : Shared) (place : Place) (management : Entry) 
   pub part : Part
   pub there : slice_get state.parts place.client ≡ Some part
   pub held : held_at part.entries place.slot ≡ Some management
-  pub slot : place.slot ≡ TASK_SLOT
-  pub has : HasNoted place.client part management what noted
+  pub slot : place.slot ≡ (task_slot state.tags)
+  pub has : HasNoted state.tags place.client part management what noted
 
 pub management-at : (state : Shared) (place : Place) (management : Entry) (what : Task) (noted : ArrayVec ℕ) → IsMatched state
     → under state.parts place ≡ Some management → management.task.request ≡ Manage what noted → IsManagementAt state place management what noted
@@ -152,8 +152,8 @@ management-at state place management what noted all is asks =
       part = found.part;
       there = found.there;
       held = found.held;
-      slot = subst (λ request. IsRequestIn place.slot request) asks (here state place management all is).sound.asks;
-      has = subst (λ request. NotedBy place.client found.part management request) asks
+      slot = subst (λ request. IsRequestIn state.tags place.slot request) asks (here state place management all is).sound.asks;
+      has = subst (λ request. NotedBy state.tags place.client found.part management request) asks
           ((all.ordered.parts place.client found.part found.there).noted place.slot management found.held);
     }
 
@@ -168,15 +168,15 @@ of-part state place management what noted slot entry at is = sym (under-there st
 -- AS IT IS RECEIVED
 
 -- A command of the client, as a task management is received: what it noted was received, and of what it names just that is what it noted.
-pub record IsNotedAsReceived (client slot : ℕ) (what : Task) (noted : ArrayVec ℕ) (entry : Entry) : Type 0 where
+pub record IsNotedAsReceived (tags client slot : ℕ) (what : Task) (noted : ArrayVec ℕ) (entry : Entry) : Type 0 where
   pub received : is_noted noted.items entry.task.ticket ≡ true → is_queued entry.task.phase ≡ false
-  pub named : is_queued entry.task.phase ≡ false → names client slot what ≡ true → is_noted noted.items entry.task.ticket ≡ true
-  pub unnamed : names client slot what ≡ false → is_noted noted.items entry.task.ticket ≡ false
+  pub named : is_queued entry.task.phase ≡ false → names tags client slot what ≡ true → is_noted noted.items entry.task.ticket ≡ true
+  pub unnamed : names tags client slot what ≡ false → is_noted noted.items entry.task.ticket ≡ false
 
 pub noted-as_received : (state : Shared) (place : Place) (rest : List Place) (management : Entry) (what : Task) (noted : ArrayVec ℕ) → IsMatched state
     → state.messages ≡ place ∷ rest → under state.parts place ≡ Some management → management.task.request ≡ Manage what noted
-    → (slot : ℕ) (entry : Entry) → slot < TASK_SLOT → under state.parts (of_client place slot) ≡ Some entry
-    → IsNotedAsReceived place.client slot what noted entry
+    → (slot : ℕ) (entry : Entry) → slot < (task_slot state.tags) → under state.parts (of_client place slot) ≡ Some entry
+    → IsNotedAsReceived state.tags place.client slot what noted entry
 noted-as_received state place rest management what noted all is held asks slot entry within there =
     let at = management-at state place management what noted all held asks in
     let in_part : held_at at.part.entries slot ≡ Some entry = of-part state place management what noted slot entry at there in
@@ -190,13 +190,13 @@ noted-as_received state place rest management what noted all is held asks slot e
           let later : management.task.ticket < entry.task.ticket =
           message-first state place rest management (of_client place slot) entry all is held there entry_queued refl apart in
           let earlier : entry.task.ticket < management.task.ticket =
-          ltb-true _ _ (and_parts (names place.client slot what) (nat_lt entry.task.ticket management.task.ticket) (sym exact ∙ noted_is)).1 in
+          ltb-true _ _ (and_parts (names state.tags place.client slot what) (nat_lt entry.task.ticket management.task.ticket) (sym exact ∙ noted_is)).1 in
           omega (arith, later, earlier));
       named = λ entry_received named.
           let earlier : entry.task.ticket < management.task.ticket = (all.ordered.parts place.client at.part at.there).received slot place.slot entry management
           in_part at.held entry_received queued in
-          exact ∙ and_from (names place.client slot what) (nat_lt entry.task.ticket management.task.ticket) named (lt-ltb _ _ earlier);
-      unnamed = λ unnamed. exact ∙ and_left (names place.client slot what) (nat_lt entry.task.ticket management.task.ticket) unnamed;
+          exact ∙ and_from (names state.tags place.client slot what) (nat_lt entry.task.ticket management.task.ticket) named (lt-ltb _ _ earlier);
+      unnamed = λ unnamed. exact ∙ and_left (names state.tags place.client slot what) (nat_lt entry.task.ticket management.task.ticket) unnamed;
     }
 
 -- WHILE ITS RESPONSE WAITS
@@ -204,7 +204,7 @@ noted-as_received state place rest management what noted all is held asks slot e
 -- what it ends is done with
 pub noted-ended : (state : Shared) (place : Place) (management : Entry) (what : Task) (noted : ArrayVec ℕ) → IsMatched state
     → 1 ≤ status_events place state.events → under state.parts place ≡ Some management → management.task.request ≡ Manage what noted
-    → (slot : ℕ) (entry : Entry) → slot < TASK_SLOT → under state.parts (of_client place slot) ≡ Some entry
+    → (slot : ℕ) (entry : Entry) → slot < (task_slot state.tags) → under state.parts (of_client place slot) ≡ Some entry
     → is_noted (ended_by what noted).items entry.task.ticket ≡ true → can_go entry.task.phase ≡ false
 noted-ended state place management what noted all named held asks slot entry within there noted_is =
     let at = management-at state place management what noted all held asks in
@@ -232,7 +232,7 @@ pub record IsNotedAsSeen (rest : List Completion) (place : Place) (entry : Entry
 
 pub noted-as_seen : (state : Shared) (place : Place) (rest : List Completion) (management : Entry) (what : Task) (noted : ArrayVec ℕ) → IsMatched state
     → state.events ≡ StatusDone place ∷ rest → under state.parts place ≡ Some management → management.task.request ≡ Manage what noted
-    → (slot : ℕ) (entry : Entry) → slot < TASK_SLOT → under state.parts (of_client place slot) ≡ Some entry
+    → (slot : ℕ) (entry : Entry) → slot < (task_slot state.tags) → under state.parts (of_client place slot) ≡ Some entry
     → is_noted (ended_by what noted).items entry.task.ticket ≡ true → is_pending entry.status_td.state ≡ true
     → IsNotedAsSeen rest (of_client place slot) entry
 noted-as_seen state place rest management what noted all is held asks slot entry within there noted_is pends =

@@ -14,7 +14,7 @@ use Rattle.scsi_cmd.specs.declared.Request.{Request}
 use Rattle.scsi_cmd.specs.declared.Request.TheVariants.{Execute, Manage}
 use Rattle.scsi_cmd.specs.declared.Task.{Task}
 use Rattle.scsi_cmd.specs.declared.Task.TheVariants.{Abort, Reset, Query}
-use Rattle.uas_profile.specs.declared.TheConstants.{TASK_SLOT}
+use Rattle.uas_profile.specs.Tags.{task_slot}
 use Rattle.solo_model.specs.TaggedTask.{can_go, is_noted}
 use Rattle.shared_machine.specs.Td.{Entry}
 use Rattle.shared_machine.specs.Part.{Part}
@@ -39,16 +39,16 @@ pub record IsNewlyReceived (part now : Part) (slot : ℕ) (was is : Entry) : Typ
   pub is_received : is_queued is.task.phase ≡ false
 
 -- It comes before all others that are queued; and what it ends, where it is a task management, is done with.
-pub record IsReceivedFirst (part now : Part) : Type 0 where
+pub record IsReceivedFirst (tags : ℕ) (part now : Part) : Type 0 where
   pub first : (slot other : ℕ) (was is second : Entry) → IsNewlyReceived part now slot was is → held_at part.entries other ≡ Some second
       → is_queued second.task.phase ≡ true → (other ≡ slot → ⊥) → was.task.ticket < second.task.ticket
   pub done : (slot : ℕ) (was is : Entry) (what : Task) (noted : ArrayVec ℕ) → IsNewlyReceived part now slot was is → was.task.request ≡ Manage what noted
-      → (other : ℕ) (entry : Entry) → other < TASK_SLOT → held_at now.entries other ≡ Some entry
+      → (other : ℕ) (entry : Entry) → other < (task_slot tags) → held_at now.entries other ≡ Some entry
       → is_noted (ended_by what noted).items entry.task.ticket ≡ true
       → can_go entry.task.phase ≡ false
 
 -- where no step of the device receives a request, nothing is received by it
-pub still-first : (part now : Part) → AreNext IsStill part.entries now.entries → IsReceivedFirst part now
+pub still-first : {tags : ℕ} (part now : Part) → AreNext IsStill part.entries now.entries → IsReceivedFirst tags part now
 still-first part now each =
     let none : (slot : ℕ) (was is : Entry) → IsNewlyReceived part now slot was is → ⊥ = λ slot was is newly.
     let from = next-after IsStill (held_at part.entries slot) (held_at now.entries slot) is (each slot) newly.after in
@@ -86,7 +86,7 @@ was_queued was now onward queued =
       | false ↦ λ is. absurd (false≢true (sym (onward.received is) ∙ queued))
     ] refl
 
-onward-received : (part now : Part) → AreNext IsOnward part.entries now.entries → IsReceivedFirst part now → IsReceivedInOrder part → IsReceivedInOrder now
+onward-received : {tags : ℕ} (part now : Part) → AreNext IsOnward part.entries now.entries → IsReceivedFirst tags part now → IsReceivedInOrder part → IsReceivedInOrder now
 onward-received part now each newly old one other first second held_first held_second received queued =
     let from = from_slot part now one first each held_first in
     let from_second = from_slot part now other second each held_second in
@@ -102,16 +102,16 @@ onward-received part now each newly old one other first second held_first held_s
     ] refl in
     omega (arith, less, from.so.ticket, from_second.so.ticket)
 
-onward-noted_by : (client : ℕ) (part now : Part) (slot : ℕ) (was is : Entry) (what : Task) (noted : ArrayVec ℕ) → AreNext IsOnward part.entries now.entries
-    → IsReceivedFirst part now → held_at part.entries slot ≡ Some was → held_at now.entries slot ≡ Some is → IsOnward was is
-    → was.task.request ≡ Manage what noted → HasNoted client part was what noted → HasNoted client now is what noted
-onward-noted_by client part now slot was is what noted each newly held_was held_is onward asks old = record {
+onward-noted_by : {tags : ℕ} (client : ℕ) (part now : Part) (slot : ℕ) (was is : Entry) (what : Task) (noted : ArrayVec ℕ) → AreNext IsOnward part.entries now.entries
+    → IsReceivedFirst tags part now → held_at part.entries slot ≡ Some was → held_at now.entries slot ≡ Some is → IsOnward was is
+    → was.task.request ≡ Manage what noted → HasNoted tags client part was what noted → HasNoted tags client now is what noted
+onward-noted_by {tags} client part now slot was is what noted each newly held_was held_is onward asks old = record {
   earlier = λ k d within. omega (arith, old.earlier k d within, onward.ticket);
   exact = λ other entry within held.
       let from = from_slot part now other entry each held in
       ap (λ ticket. is_noted noted.items ticket) from.so.ticket ∙ old.exact other from.was within from.held_was
-      ∙ ap (λ ticket. names client other what && nat_lt ticket was.task.ticket) (sym from.so.ticket)
-      ∙ ap (λ ticket. names client other what && nat_lt entry.task.ticket ticket) (sym onward.ticket);
+      ∙ ap (λ ticket. names tags client other what && nat_lt ticket was.task.ticket) (sym from.so.ticket)
+      ∙ ap (λ ticket. names tags client other what && nat_lt entry.task.ticket ticket) (sym onward.ticket);
   ended = λ received other entry within held noted_is.
       let from = from_slot part now other entry each held in
       elim (is_queued was.task.phase) as (λ b. is_queued was.task.phase ≡ b → can_go entry.task.phase ≡ false) [
@@ -122,31 +122,31 @@ onward-noted_by client part now slot was is what noted each newly held_was held_
       ] refl;
 }
 
-onward-request : (client : ℕ) (part now : Part) (slot : ℕ) (was is : Entry) (request : Request) → AreNext IsOnward part.entries now.entries
-    → IsReceivedFirst part now → held_at part.entries slot ≡ Some was → held_at now.entries slot ≡ Some is → IsOnward was is
-    → was.task.request ≡ request → NotedBy client part was request → NotedBy client now is request
-onward-request client part now slot was is (Execute op) each newly held_was held_is onward asks old = tt
-onward-request client part now slot was is (Manage what noted) each newly held_was held_is onward asks old =
+onward-request : {tags : ℕ} (client : ℕ) (part now : Part) (slot : ℕ) (was is : Entry) (request : Request) → AreNext IsOnward part.entries now.entries
+    → IsReceivedFirst tags part now → held_at part.entries slot ≡ Some was → held_at now.entries slot ≡ Some is → IsOnward was is
+    → was.task.request ≡ request → NotedBy tags client part was request → NotedBy tags client now is request
+onward-request {tags} client part now slot was is (Execute op) each newly held_was held_is onward asks old = tt
+onward-request {tags} client part now slot was is (Manage what noted) each newly held_was held_is onward asks old =
     onward-noted_by client part now slot was is what noted each newly held_was held_is onward asks old
 
 -- entries that were taken on keep the order, where what was received by the step came first
-pub onward-ordered : (client : ℕ) (part now : Part) → now.least_ticket ≡ part.least_ticket → AreNext IsOnward part.entries now.entries
-    → IsReceivedFirst part now
-    → IsOrderedPart client part → IsOrderedPart client now
-onward-ordered client part now least each newly old = record {
+pub onward-ordered : {tags : ℕ} (client : ℕ) (part now : Part) → now.least_ticket ≡ part.least_ticket → AreNext IsOnward part.entries now.entries
+    → IsReceivedFirst tags part now
+    → IsOrderedPart tags client part → IsOrderedPart tags client now
+onward-ordered {tags} client part now least each newly old = record {
   tickets = onward-tickets part now least each old.tickets;
   received = onward-received part now each newly old.received;
   noted = λ slot entry held.
       let from = from_slot part now slot entry each held in
-      subst (λ request. NotedBy client now entry request) (sym from.so.request)
+      subst (λ request. NotedBy tags client now entry request) (sym from.so.request)
       (onward-request client part now slot from.was entry from.was.task.request each newly from.held_was held from.so refl
       (old.noted slot from.was from.held_was));
 }
 
 -- the same, where no request is received
-pub still-ordered : (client : ℕ) (part now : Part) → now.least_ticket ≡ part.least_ticket → AreNext IsStill part.entries now.entries → IsOrderedPart client part
-    → IsOrderedPart client now
-still-ordered client part now least each old =
+pub still-ordered : {tags : ℕ} (client : ℕ) (part now : Part) → now.least_ticket ≡ part.least_ticket → AreNext IsStill part.entries now.entries → IsOrderedPart tags client part
+    → IsOrderedPart tags client now
+still-ordered {tags} client part now least each old =
     onward-ordered client part now least
     (λ slot. IsNext-weaker IsStill IsOnward (λ was is still. still.onward) (held_at part.entries slot) (held_at now.entries slot) (each slot))
     (still-first part now each) old
@@ -161,19 +161,19 @@ left_there (held ∷ rest) zero (suc other) entry is = is
 left_there (held ∷ rest) (suc slot) zero entry is = is
 left_there (held ∷ rest) (suc slot) (suc other) entry is = left_there rest slot other entry is
 
-left-request : (client : ℕ) (part now : Part) (entry : Entry) (request : Request)
+left-request : (tags : ℕ) (client : ℕ) (part now : Part) (entry : Entry) (request : Request)
     → ((other : ℕ) (one : Entry) → held_at now.entries other ≡ Some one → held_at part.entries other ≡ Some one)
-    → NotedBy client part entry request → NotedBy client now entry request
-left-request client part now entry (Execute op) back old = tt
-left-request client part now entry (Manage what noted) back old = record {
+    → NotedBy tags client part entry request → NotedBy tags client now entry request
+left-request tags client part now entry (Execute op) back old = tt
+left-request tags client part now entry (Manage what noted) back old = record {
   earlier = old.earlier;
   exact = λ other one within held. old.exact other one within (back other one held);
   ended = λ received other one within held. old.ended received other one within (back other one held);
 }
 
-pub left-ordered : (client : ℕ) (part : Part) (slot : ℕ) (ready : List ℕ) → IsOrderedPart client part
-    → IsOrderedPart client (record part { entries = slice_set part.entries slot None; ready = ready })
-left-ordered client part slot ready old =
+pub left-ordered : {tags : ℕ} (client : ℕ) (part : Part) (slot : ℕ) (ready : List ℕ) → IsOrderedPart tags client part
+    → IsOrderedPart tags client (record part { entries = slice_set part.entries slot None; ready = ready })
+left-ordered {tags} client part slot ready old =
     let back = left_there part.entries slot in
     record {
       tickets = record {
@@ -184,7 +184,7 @@ left-ordered client part slot ready old =
       received = λ one other first second held_first held_second.
           old.received one other first second (back one first held_first) (back other second held_second);
       noted = λ other entry held.
-          left-request client part (record part { entries = slice_set part.entries slot None; ready = ready }) entry entry.task.request back
+          left-request _ client part (record part { entries = slice_set part.entries slot None; ready = ready }) entry entry.task.request back
           (old.noted other entry (back other entry held));
     }
 
@@ -249,9 +249,9 @@ is_noted-later noted least ticket earlier later = list_any_none (λ other. other
     (λ k d within. ne_eqb (slice_index_or noted k d) ticket (λ same. omega (arith, same, earlier k d within, later)))
 
 -- a management that stood there noted nothing of what is added
-added-noted_by : (client : ℕ) (part : Part) (slot at : ℕ) (new management : Entry) (what : Task) (noted : ArrayVec ℕ) → IsAdded part slot new → HasTickets part
-    → held_at part.entries at ≡ Some management → HasNoted client part management what noted → HasNoted client (added_part part slot new) management what noted
-added-noted_by client part slot at new management what noted is tickets held old =
+added-noted_by : {tags : ℕ} (client : ℕ) (part : Part) (slot at : ℕ) (new management : Entry) (what : Task) (noted : ArrayVec ℕ) → IsAdded part slot new → HasTickets part
+    → held_at part.entries at ≡ Some management → HasNoted tags client part management what noted → HasNoted tags client (added_part part slot new) management what noted
+added-noted_by {tags} client part slot at new management what noted is tickets held old =
     let before : management.task.ticket < part.least_ticket = tickets.below at management held in
     let unnoted : is_noted noted.items new.task.ticket ≡ false =
     is_noted-later noted.items management.task.ticket new.task.ticket old.earlier (omega (arith, before, is.next)) in
@@ -261,7 +261,7 @@ added-noted_by client part slot at new management what noted is tickets held old
       exact = λ other entry small there. ⊎_elim
           (λ here. let same : entry.task.ticket ≡ new.task.ticket = ap (λ (e : Entry). e.task.ticket) here.1 in
           ap (λ ticket. is_noted noted.items ticket) same ∙ unnoted
-          ∙ sym (and_right (names client other what) (nat_lt entry.task.ticket management.task.ticket)
+          ∙ sym (and_right (names tags client other what) (nat_lt entry.task.ticket management.task.ticket)
           (ap (λ ticket. nat_lt ticket management.task.ticket) same ∙ later)))
           (λ old_one. old.exact other entry small old_one.1)
           (added_there part.entries slot new other entry is.within there);
@@ -272,20 +272,20 @@ added-noted_by client part slot at new management what noted is tickets held old
           (added_there part.entries slot new other entry is.within there);
     }
 
-added-request : (client : ℕ) (part : Part) (slot at : ℕ) (new entry : Entry) (request : Request) → IsAdded part slot new → HasTickets part
-    → held_at part.entries at ≡ Some entry → NotedBy client part entry request → NotedBy client (added_part part slot new) entry request
-added-request client part slot at new entry (Execute op) is tickets held old = tt
-added-request client part slot at new entry (Manage what noted) is tickets held old =
+added-request : (tags : ℕ) (client : ℕ) (part : Part) (slot at : ℕ) (new entry : Entry) (request : Request) → IsAdded part slot new → HasTickets part
+    → held_at part.entries at ≡ Some entry → NotedBy tags client part entry request → NotedBy tags client (added_part part slot new) entry request
+added-request tags client part slot at new entry (Execute op) is tickets held old = tt
+added-request tags client part slot at new entry (Manage what noted) is tickets held old =
     added-noted_by client part slot at new entry what noted is tickets held old
 
 -- an entry that is added keeps the order, where what it notes itself is in order
-pub added-ordered : (client : ℕ) (part : Part) (slot : ℕ) (new : Entry) → IsAdded part slot new
-    → NotedBy client (added_part part slot new) new new.task.request → IsOrderedPart client part → IsOrderedPart client (added_part part slot new)
-added-ordered client part slot new is own old = record {
+pub added-ordered : {tags : ℕ} (client : ℕ) (part : Part) (slot : ℕ) (new : Entry) → IsAdded part slot new
+    → NotedBy tags client (added_part part slot new) new new.task.request → IsOrderedPart tags client part → IsOrderedPart tags client (added_part part slot new)
+added-ordered {tags} client part slot new is own old = record {
   tickets = added-tickets part slot new is old.tickets;
   received = added-received part slot new is old.tickets old.received;
   noted = λ other entry held. ⊎_elim
-      (λ here. subst (λ (e : Entry). NotedBy client (added_part part slot new) e e.task.request) (sym here.1) own)
-      (λ there. added-request client part slot other new entry entry.task.request is old.tickets there.1 (old.noted other entry there.1))
+      (λ here. subst (λ (e : Entry). NotedBy tags client (added_part part slot new) e e.task.request) (sym here.1) own)
+      (λ there. added-request _ client part slot other new entry entry.task.request is old.tickets there.1 (old.noted other entry there.1))
       (added_there part.entries slot new other entry is.within held);
 }

@@ -12,9 +12,9 @@ use Rattle.scsi_cmd.specs.declared.Command.{Command}
 use Rattle.scsi_cmd.specs.declared.SubmitFault.TheVariants.{BadLength, InUse, NoSuchTask, OutOfTurn, TooLong}
 use Rattle.scsi_cmd.specs.declared.Task.{Task}
 use Rattle.scsi_cmd.specs.declared.Task.TheVariants.{Abort, Reset, Query}
-use Rattle.uas_profile.specs.declared.TheConstants.{TASK_SLOT}
+use Rattle.uas_profile.specs.Tags.{task_slot}
 use Rattle.solo_model.specs.TaggedTask.{is_noted}
-use Rattle.uas_profile.specs.Places.{command_slot, tag_of}
+use Rattle.uas_profile.specs.Tags.{command_slot, tag_of}
 use Rattle.shared_machine.specs.Td.{Entry}
 use Rattle.shared_machine.specs.Part.{Part, managed_part, named_entry, named_slot, new_entry, new_management, noted_tickets, submitted_part, tickets_of}
 use Rattle.machine_invariant.specs.Ordered.{HasNoted, HasTickets, IsOrderedPart, names}
@@ -104,40 +104,40 @@ named-below part (Some named) tickets = tickets-below part.least_ticket (held_at
     alone zero entry is = tickets.below named entry is
     alone (suc slot) entry is = absurd (none-some entry is)
 
-noted-below : (part : Part) (slot : Option ℕ) (task : Task) → HasTickets part → All (λ ticket. ticket < part.least_ticket) (noted_tickets part slot task)
-noted-below part slot (Abort tag) tickets = named-below part slot tickets
-noted-below part slot Reset tickets =
-    tickets-below part.least_ticket (take TASK_SLOT part.entries) (λ at entry is. tickets.below at entry (held-take TASK_SLOT part.entries at entry is))
-noted-below part slot (Query tag) tickets = named-below part slot tickets
+noted-below : (tags : ℕ) (part : Part) (slot : Option ℕ) (task : Task) → HasTickets part → All (λ ticket. ticket < part.least_ticket) (noted_tickets tags part slot task)
+noted-below tags part slot (Abort tag) tickets = named-below part slot tickets
+noted-below tags part slot Reset tickets =
+    tickets-below part.least_ticket (take (task_slot tags) part.entries) (λ at entry is. tickets.below at entry (held-take (task_slot tags) part.entries at entry is))
+noted-below tags part slot (Query tag) tickets = named-below part slot tickets
 
 -- the slot of a tag is that of its place
-slot-tag : (clients client tag slot : ℕ) → command_slot clients client tag ≡ Some slot → (tag == tag_of (record { client = client; slot = slot })) ≡ true
-slot-tag clients client tag slot is =
-    let own = command_slot-own clients client tag slot is in
-    eq-eqb tag (tag_of (record { client = client; slot = slot })) (omega (arith, own.index))
+slot-tag : (tags clients client tag slot : ℕ) → command_slot tags clients client tag ≡ Some slot → (tag == tag_of tags (record { client = client; slot = slot })) ≡ true
+slot-tag tags clients client tag slot is =
+    let own = command_slot-own tags clients client tag slot is in
+    eq-eqb tag (tag_of tags (record { client = client; slot = slot })) (omega (arith, own.index))
 
-tag-slot : (clients client slot : ℕ) → client < clients → slot < TASK_SLOT
-    → command_slot clients client (tag_of (record { client = client; slot = slot })) ≡ Some slot
-tag-slot clients client slot there within =
-    own-command_slot clients client (tag_of (record { client = client; slot = slot })) slot (record { there = there; within = within; index = omega arith })
+tag-slot : (tags clients client slot : ℕ) → client < clients → slot < (task_slot tags)
+    → command_slot tags clients client (tag_of tags (record { client = client; slot = slot })) ≡ Some slot
+tag-slot tags clients client slot there within =
+    own-command_slot tags clients client (tag_of tags (record { client = client; slot = slot })) slot (record { there = there; within = within; index = omega arith })
 
 -- what it names is noted, and nothing else
-tag-exact : (clients client tag : ℕ) (part : Part) (named : Option ℕ) (slot : ℕ) (entry : Entry) → client < clients → command_slot clients client tag ≡ named
-    → HasTickets part → slot < TASK_SLOT → held_at part.entries slot ≡ Some entry
-    → is_noted (tickets_of (named_entry part named ∷ [])) entry.task.ticket ≡ (tag == tag_of (record { client = client; slot = slot }))
-tag-exact clients client tag part None slot entry there is tickets within held =
-    sym (ne_eqb tag (tag_of (record { client = client; slot = slot })) (λ same.
-    none-some slot (sym is ∙ ap (λ t. command_slot clients client t) same ∙ tag-slot clients client slot there within)))
-tag-exact clients client tag part (Some named) slot entry there is tickets within held =
+tag-exact : (tags clients client tag : ℕ) (part : Part) (named : Option ℕ) (slot : ℕ) (entry : Entry) → client < clients → command_slot tags clients client tag ≡ named
+    → HasTickets part → slot < (task_slot tags) → held_at part.entries slot ≡ Some entry
+    → is_noted (tickets_of (named_entry part named ∷ [])) entry.task.ticket ≡ (tag == tag_of tags (record { client = client; slot = slot }))
+tag-exact tags clients client tag part None slot entry there is tickets within held =
+    sym (ne_eqb tag (tag_of tags (record { client = client; slot = slot })) (λ same.
+    none-some slot (sym is ∙ ap (λ t. command_slot tags clients client t) same ∙ tag-slot tags clients client slot there within)))
+tag-exact tags clients client tag part (Some named) slot entry there is tickets within held =
     elim (named == slot) as (λ b. (named == slot) ≡ b
-    → is_noted (tickets_of (held_at part.entries named ∷ [])) entry.task.ticket ≡ (tag == tag_of (record { client = client; slot = slot }))) [
+    → is_noted (tickets_of (held_at part.entries named ∷ [])) entry.task.ticket ≡ (tag == tag_of tags (record { client = client; slot = slot }))) [
       | true ↦ λ at. let same : named ≡ slot = eqb-true named slot at in
           ticket-noted (held_at part.entries named ∷ []) zero entry (ap (λ s. held_at part.entries s) same ∙ held)
-          ∙ sym (slot-tag clients client tag slot (is ∙ ap Some same))
+          ∙ sym (slot-tag tags clients client tag slot (is ∙ ap Some same))
       | false ↦ λ at. let apart : named ≡ slot → ⊥ = eqb-false named slot at in
           other (held_at part.entries named) refl apart
-          ∙ sym (ne_eqb tag (tag_of (record { client = client; slot = slot })) (λ same.
-          apart (same_Some named slot (sym is ∙ ap (λ t. command_slot clients client t) same ∙ tag-slot clients client slot there within))))
+          ∙ sym (ne_eqb tag (tag_of tags (record { client = client; slot = slot })) (λ same.
+          apart (same_Some named slot (sym is ∙ ap (λ t. command_slot tags clients client t) same ∙ tag-slot tags clients client slot there within))))
     ] refl
   where
     other : (found : Option Entry) → held_at part.entries named ≡ found → (named ≡ slot → ⊥) → is_noted (tickets_of (found ∷ [])) entry.task.ticket ≡ false
@@ -146,14 +146,14 @@ tag-exact clients client tag part (Some named) slot entry there is tickets withi
         or_from (first.task.ticket == entry.task.ticket) false
         (ne_eqb first.task.ticket entry.task.ticket (λ same. apart (tickets.apart named slot first entry at held same))) refl
 
-noted-exact : (clients client : ℕ) (part : Part) (task : Task) (slot : ℕ) (entry : Entry) → client < clients → HasTickets part → slot < TASK_SLOT
-    → held_at part.entries slot ≡ Some entry → is_noted (noted_tickets part (named_slot clients client task) task) entry.task.ticket ≡ names client slot task
-noted-exact clients client part (Abort tag) slot entry there tickets within held =
-    tag-exact clients client tag part (command_slot clients client tag) slot entry there refl tickets within held
-noted-exact clients client part Reset slot entry there tickets within held =
-    ticket-noted (take TASK_SLOT part.entries) slot entry (take-held TASK_SLOT part.entries slot entry within held)
-noted-exact clients client part (Query tag) slot entry there tickets within held =
-    tag-exact clients client tag part (command_slot clients client tag) slot entry there refl tickets within held
+noted-exact : (tags clients client : ℕ) (part : Part) (task : Task) (slot : ℕ) (entry : Entry) → client < clients → HasTickets part → slot < (task_slot tags)
+    → held_at part.entries slot ≡ Some entry → is_noted (noted_tickets tags part (named_slot tags clients client task) task) entry.task.ticket ≡ names tags client slot task
+noted-exact tags clients client part (Abort tag) slot entry there tickets within held =
+    tag-exact tags clients client tag part (command_slot tags clients client tag) slot entry there refl tickets within held
+noted-exact tags clients client part Reset slot entry there tickets within held =
+    ticket-noted (take (task_slot tags) part.entries) slot entry (take-held (task_slot tags) part.entries slot entry within held)
+noted-exact tags clients client part (Query tag) slot entry there tickets within held =
+    tag-exact tags clients client tag part (command_slot tags clients client tag) slot entry there refl tickets within held
 
 -- A TASK MANAGEMENT
 
@@ -162,34 +162,34 @@ and_true true b is = is
 and_true false b is = refl
 
 -- as it is submitted
-noted-added : (clients client : ℕ) (part : Part) (ticket : ℕ) (task : Task) → client < clients → HasTickets part → part.least_ticket ≤ ticket
-    → HasNoted client (added_part part TASK_SLOT (new_management ticket task (noted_tickets part (named_slot clients client task) task)))
-    (new_management ticket task (noted_tickets part (named_slot clients client task) task)) task
-    (record { items = noted_tickets part (named_slot clients client task) task })
-noted-added clients client part ticket task there tickets next =
-    let noted = noted_tickets part (named_slot clients client task) task in
+noted-added : (tags clients client : ℕ) (part : Part) (ticket : ℕ) (task : Task) → client < clients → HasTickets part → part.least_ticket ≤ ticket
+    → HasNoted tags client (added_part part (task_slot tags) (new_management ticket task (noted_tickets tags part (named_slot tags clients client task) task)))
+    (new_management ticket task (noted_tickets tags part (named_slot tags clients client task) task)) task
+    (record { items = noted_tickets tags part (named_slot tags clients client task) task })
+noted-added tags clients client part ticket task there tickets next =
+    let noted = noted_tickets tags part (named_slot tags clients client task) task in
     let new = new_management ticket task noted in
     record {
-      earlier = λ k d within. omega (arith, noted-below part (named_slot clients client task) task tickets k d within, next);
+      earlier = λ k d within. omega (arith, noted-below tags part (named_slot tags clients client task) task tickets k d within, next);
       exact = λ slot entry within held.
           let was : held_at part.entries slot ≡ Some entry =
-          sym (get_or-set_other part.entries TASK_SLOT slot (Some new) None (λ same. omega (arith, same, within))) ∙ held in
+          sym (get_or-set_other part.entries (task_slot tags) slot (Some new) None (λ same. omega (arith, same, within))) ∙ held in
           let before : nat_lt entry.task.ticket ticket ≡ true = lt-ltb _ _ (omega (arith, tickets.below slot entry was, next)) in
-          noted-exact clients client part task slot entry there tickets within was
-          ∙ sym (and_true (names client slot task) (nat_lt entry.task.ticket ticket) before);
+          noted-exact tags clients client part task slot entry there tickets within was
+          ∙ sym (and_true (names tags client slot task) (nat_lt entry.task.ticket ticket) before);
       ended = λ received. absurd (false≢true (sym received));
     }
 
-pub managed-ordered : (clients client : ℕ) (part : Part) (ticket : ℕ) (task : Task) → client < clients → TASK_SLOT < length part.entries
+pub managed-ordered : (tags clients client : ℕ) (part : Part) (ticket : ℕ) (task : Task) → client < clients → (task_slot tags) < length part.entries
     → part.least_ticket ≤ ticket
-    → IsOrderedPart client part → IsOrderedPart client (managed_part part (named_slot clients client task) ticket task)
-managed-ordered clients client part ticket task there within next old =
-    added-ordered client part TASK_SLOT (new_management ticket task (noted_tickets part (named_slot clients client task) task))
-    (record { within = within; next = next; queued = refl }) (noted-added clients client part ticket task there old.tickets next) old
+    → IsOrderedPart tags client part → IsOrderedPart tags client (managed_part tags part (named_slot tags clients client task) ticket task)
+managed-ordered tags clients client part ticket task there within next old =
+    added-ordered client part (task_slot tags) (new_management ticket task (noted_tickets tags part (named_slot tags clients client task) task))
+    (record { within = within; next = next; queued = refl }) (noted-added tags clients client part ticket task there old.tickets next) old
 
 -- A COMMAND
 
-pub submitted-ordered : (client : ℕ) (part : Part) (slot ticket : ℕ) (command : Command) → slot < length part.entries → part.least_ticket ≤ ticket
-    → IsOrderedPart client part → IsOrderedPart client (submitted_part part slot ticket command)
-submitted-ordered client part slot ticket command within next old =
+pub submitted-ordered : {tags : ℕ} (client : ℕ) (part : Part) (slot ticket : ℕ) (command : Command) → slot < length part.entries → part.least_ticket ≤ ticket
+    → IsOrderedPart tags client part → IsOrderedPart tags client (submitted_part part slot ticket command)
+submitted-ordered {tags} client part slot ticket command within next old =
     added-ordered client part slot (new_entry ticket command) (record { within = within; next = next; queued = refl }) tt old

@@ -6,9 +6,9 @@ use Rattle.scsi_cmd.specs.Held.{held_at}
 use Rattle.scsi_cmd.specs.declared.Command.{Command}
 use Rattle.scsi_cmd.specs.declared.SubmitFault.{SubmitFault}
 use Rattle.scsi_cmd.specs.declared.Task.{Task}
-use Rattle.uas_profile.specs.declared.TheConstants.{TASK_SLOT}
+use Rattle.uas_profile.specs.Tags.{task_slot}
 use Rattle.uas_profile.specs.declared.Pipe.{Pipe}
-use Rattle.uas_profile.specs.Places.{command_slot, place_of}
+use Rattle.uas_profile.specs.Tags.{command_slot, place_of}
 use Rattle.uas_profile.specs.declared.Place.{Place}
 use Rattle.uas_profile.specs.PipeStates.{stopped_pipe}
 use Rattle.shared_machine.specs.Pipes.{all_rung}
@@ -98,7 +98,7 @@ by_tag-owners MayEnd state act (Some place) each = routed-owners MayEnd state pl
 
 -- what the first message ends, where the step is the command pipe's
 abbrev pub Ends : Shared → Step → ℕ → ℕ → Type 0
-Ends state step client ticket = (step ≡ CommandPipe) × IsEndedBy state (record { client = client; slot = TASK_SLOT }) ticket
+Ends state step client ticket = (step ≡ CommandPipe) × IsEndedBy state (record { client = client; slot = task_slot state.tags }) ticket
 
 -- a task management under the first message ends what it noted
 first-ends : (state : Shared) (place : Place) (rest : List Place) (part : Part) → state.messages ≡ place ∷ rest → slice_get state.parts place.client ≡ Some part
@@ -157,24 +157,24 @@ submitted_under-owners MayEnd state client tag ticket command (Some slot) =
 -- TASK MANAGEMENT
 
 managed_or-owners : (MayEnd : ℕ → ℕ → Type 0) (state : Shared) (part : Part) (client : ℕ) (slot : Option ℕ) (ticket : ℕ) (task : Task)
-    (fault : Option SubmitFault) → slice_get state.parts client ≡ Some part → task_fault_at part slot ticket task ≡ fault
-    → IsOwners MayEnd state.parts (managed_or state part (record { client = client; slot = TASK_SLOT }) slot ticket task fault)
+    (fault : Option SubmitFault) → slice_get state.parts client ≡ Some part → task_fault_at state.tags part slot ticket task ≡ fault
+    → IsOwners MayEnd state.parts (managed_or state part (record { client = client; slot = (task_slot state.tags) }) slot ticket task fault)
 managed_or-owners MayEnd state part client slot ticket task None there none =
-    written MayEnd state.parts client part (managed_part part slot ticket task)
-    (managed state part (record { client = client; slot = TASK_SLOT }) slot ticket task) there refl refl
-    (filled-kept (MayEnd client) part.entries TASK_SLOT (new_management ticket task (noted_tickets part slot task))
-    (not_some (held_at part.entries TASK_SLOT)
-    (task-turn (is_some (held_at part.entries TASK_SLOT)) part.least_ticket ticket (is_there part slot task) none).free))
+    written MayEnd state.parts client part (managed_part state.tags part slot ticket task)
+    (managed state part (record { client = client; slot = (task_slot state.tags) }) slot ticket task) there refl refl
+    (filled-kept (MayEnd client) part.entries (task_slot state.tags) (new_management ticket task (noted_tickets state.tags part slot task))
+    (not_some (held_at part.entries (task_slot state.tags))
+    (task-turn (is_some (held_at part.entries (task_slot state.tags))) part.least_ticket ticket (is_there part slot task) none).free))
 managed_or-owners MayEnd state part client slot ticket task (Some fault) there is =
-    unchanged MayEnd state.parts (managed_or state part (record { client = client; slot = TASK_SLOT }) slot ticket task (Some fault)) refl
+    unchanged MayEnd state.parts (managed_or state part (record { client = client; slot = (task_slot state.tags) }) slot ticket task (Some fault)) refl
 
 managed_to-owners : (MayEnd : ℕ → ℕ → Type 0) (state : Shared) (client : ℕ) (slot : Option ℕ) (ticket : ℕ) (task : Task) (found : Option Part)
     → slice_get state.parts client ≡ found
-    → IsOwners MayEnd state.parts (managed_to state (record { client = client; slot = TASK_SLOT }) slot ticket task found)
+    → IsOwners MayEnd state.parts (managed_to state (record { client = client; slot = (task_slot state.tags) }) slot ticket task found)
 managed_to-owners MayEnd state client slot ticket task None is =
-    unchanged MayEnd state.parts (managed_to state (record { client = client; slot = TASK_SLOT }) slot ticket task None) refl
+    unchanged MayEnd state.parts (managed_to state (record { client = client; slot = (task_slot state.tags) }) slot ticket task None) refl
 managed_to-owners MayEnd state client slot ticket task (Some part) is =
-    managed_or-owners MayEnd state part client slot ticket task (task_fault_at part slot ticket task) is refl
+    managed_or-owners MayEnd state part client slot ticket task (task_fault_at state.tags part slot ticket task) is refl
 
 -- RETIREMENT
 
@@ -248,22 +248,22 @@ event_step-owners MayEnd state (event ∷ rest) = event_seen-owners MayEnd (reco
 
 due_step-owners : (state : Shared) (step : Step) → IsOwners (Ends state step) state.parts (due_step state step)
 due_step-owners state (Submit client tag ticket command) =
-    submitted_under-owners (Ends state (Submit client tag ticket command)) state client tag ticket command (command_slot (length state.parts) client tag)
+    submitted_under-owners (Ends state (Submit client tag ticket command)) state client tag ticket command (command_slot state.tags (length state.parts) client tag)
 due_step-owners state (TaskStep client ticket task) =
-    managed_to-owners (Ends state (TaskStep client ticket task)) state client (named_slot (length state.parts) client task) ticket task
+    managed_to-owners (Ends state (TaskStep client ticket task)) state client (named_slot state.tags (length state.parts) client task) ticket task
     (slice_get state.parts client) refl
 due_step-owners state CommandPipe = carry_step-owners state state.messages refl
 due_step-owners state (Data tag) =
-    by_tag-owners (Ends state (Data tag)) state move_act (place_of (length state.parts) tag)
+    by_tag-owners (Ends state (Data tag)) state move_act (place_of state.tags (length state.parts) tag)
     (λ place part. move_act-kept (Ends state (Data tag) place.client) place part)
 due_step-owners state (Status tag) =
-    by_tag-owners (Ends state (Status tag)) state send_act (place_of (length state.parts) tag)
+    by_tag-owners (Ends state (Status tag)) state send_act (place_of state.tags (length state.parts) tag)
     (λ place part. send_act-kept (Ends state (Status tag) place.client) place part)
 due_step-owners state Engine = engine_step-owners (Ends state Engine) state state.retirement
 due_step-owners state Event = event_step-owners (Ends state Event) state state.events
-due_step-owners state (Retire pipe tag) = retire_step-owners (Ends state (Retire pipe tag)) state pipe (place_of (length state.parts) tag)
+due_step-owners state (Retire pipe tag) = retire_step-owners (Ends state (Retire pipe tag)) state pipe (place_of state.tags (length state.parts) tag)
 due_step-owners state (Take client) =
-    routed-owners (Ends state (Take client)) state client (take_act client) (λ part is. take_act-kept (Ends state (Take client) client) client part)
+    routed-owners (Ends state (Take client)) state client (take_act state.tags client) (λ part is. take_act-kept state.tags (Ends state (Take client) client) client part)
 
 pub shared_step-owners : (state : Shared) (step : Step) → IsOwners (Ends state step) state.parts (shared_step state step)
 shared_step-owners state step =

@@ -6,7 +6,7 @@ use Rattle.block_unit.specs.BlockMaps.{BlockMaps}
 use Rattle.scsi_cmd.specs.declared.Command.{Command}
 use Rattle.scsi_cmd.specs.Submission.{first_submit_fault}
 use Rattle.scsi_cmd.specs.Op.{moved_bytes}
-use Rattle.uas_profile.specs.declared.TheConstants.{TAGS, TASK_SLOT, MAX_CLIENTS, MOST_MESSAGES, MOST_EVENTS_PENDING, WINDOW_BYTES, MOST_DATA_TRBS}
+use Rattle.uas_profile.specs.declared.TheConstants.{MOST_TAGS, STREAMS, WINDOW_BYTES, MOST_DATA_TRBS}
 use Rattle.scsi_cmd.specs.Request.{ends_commands}
 use Rattle.scsi_cmd.specs.declared.Request.{Request}
 use Rattle.scsi_cmd.specs.declared.Request.TheVariants.{Execute, Manage}
@@ -39,8 +39,8 @@ use Rattle.uas_profile.specs.Pipes.{same_pipe}
 use Rattle.shared_machine.specs.Part.{Part, event_place, seen_by}
 pub use Rattle.machine_invariant.specs.Ordered.{held_in, under}
 use Rattle.machine_invariant.specs.Ordered.{IsOrdered}
-use Rattle.shared_machine.specs.Shared.{Shared, opening, due, is_asked, is_held, pipe_of, shared_step}
-use Rattle.uas_profile.specs.Places.{place_of}
+use Rattle.shared_machine.specs.Shared.{Shared, greatest_tag, opening, due, is_asked, is_held, pipe_of, shared_step}
+use Rattle.uas_profile.specs.Tags.{AreTags, place_of, task_slot}
 use Rattle.shared_machine.specs.Replay.{replay}
 use Rattle.shared_machine.specs.Bus.{IsPlace}
 use Rattle.shared_machine.specs.Soundness.{one_if, awaited_data, readied_of, times_in}
@@ -130,9 +130,9 @@ awaited_data_of (Some entry) = awaited_data (data_trbs entry.task.request) entry
 -- WHAT A SLOT IS FOR
 
 -- the last slot of a client is for task managements, the others for commands
-abbrev pub IsRequestIn : ℕ → Request → Type 0
-IsRequestIn slot (Execute op) = slot < TASK_SLOT
-IsRequestIn slot (Manage what noted) = slot ≡ TASK_SLOT
+abbrev pub IsRequestIn : ℕ → ℕ → Request → Type 0
+IsRequestIn tags slot (Execute op) = slot < task_slot tags
+IsRequestIn tags slot (Manage what noted) = slot ≡ task_slot tags
 
 -- a command ends with a status
 abbrev pub IsStatusAnswer : TaskAnswer → Type 0
@@ -236,8 +236,8 @@ request_bytes (Execute op) = moved_bytes op
 request_bytes (Manage what noted) = 0
 
 -- An entry of a slot and its TDs. There is a data TD exactly where bytes are moved, and 65,536 bytes are the most.
-pub record IsMatchedEntry (slot : ℕ) (entry : Entry) : Type 0 where
-  pub asks : IsRequestIn slot entry.task.request
+pub record IsMatchedEntry (tags slot : ℕ) (entry : Entry) : Type 0 where
+  pub asks : IsRequestIn tags slot entry.task.request
   pub answers : IsPhaseOf entry.task.request entry.task.phase
   pub command : IsCommandTd entry.task.phase entry.command_td
   pub status : IsStatusTd entry.task.phase entry.status_td
@@ -254,11 +254,11 @@ pub record IsMatchedAt (state : Shared) (place : Place) (held : Option Entry) : 
   pub moved : data_events place state.events ≡ awaited_data_of held
   pub sent : status_events place state.events ≡ awaited_status held
   pub ready : times_ready state.parts place ≡ readied_of held
-  pub sound : IfSome held (IsMatchedEntry place.slot)
+  pub sound : IfSome held (IsMatchedEntry state.tags place.slot)
 
--- each client that is there has its slots
+-- each client that is there has the places of the most slots; those from its number of tags on are empty, as each request asks its slot
 abbrev pub HaveSlots : List Part → Type 0
-HaveSlots parts = (client : ℕ) → IfSome (slice_get parts client) (λ part. length part.entries ≡ TAGS)
+HaveSlots parts = (client : ℕ) → IfSome (slice_get parts client) (λ part. length part.entries ≡ MOST_TAGS)
 
 -- THE RETIREMENT
 
@@ -294,7 +294,7 @@ is_whole_at state pipe place = option_map_or (is_whole_on pipe) (under state.par
 -- Stop Endpoint finds the pipe running, and from then on it is stopped; once the controller was moved every TRB of the TD is consumed.
 -- (So of as many clients as there are streams: those alone are rung as a pipe is held no more.)
 abbrev pub IsAtStage : Shared → Pipe → Place → RetirementStage → Type 0
-IsAtStage state pipe place StopAsked = length state.parts ≤ MAX_CLIENTS → (pipe_of state pipe).runs ≡ true
+IsAtStage state pipe place StopAsked = greatest_tag state ≤ STREAMS → (pipe_of state pipe).runs ≡ true
 IsAtStage state pipe place StopAnswered = (pipe_of state pipe).runs ≡ false
 IsAtStage state pipe place MoveAsked = (pipe_of state pipe).runs ≡ false
 IsAtStage state pipe place MoveAnswered = ((pipe_of state pipe).runs ≡ false) × (is_whole_at state pipe place ≡ true)
@@ -302,7 +302,7 @@ IsAtStage state pipe place MoveAnswered = ((pipe_of state pipe).runs ≡ false) 
 -- The retirement under way is of a pipe with streams and of a place that is there, whose TD on that pipe is left over.
 pub record IsRetiring (state : Shared) (retirement : Retirement) : Type 0 where
   pub streams : HasStreams retirement.pipe
-  pub there : IsPlace (length state.parts) retirement.place
+  pub there : IsPlace state.tags (length state.parts) retirement.place
   pub left : is_left_over_at state retirement.pipe retirement.place ≡ true
   pub stage : IsAtStage state retirement.pipe retirement.place retirement.stage
 
@@ -318,11 +318,12 @@ is_passed state pipe place =
 -- What stands on a pipe for a place. While the pipe isn't held it runs wherever it has a TRB to take, so that a TD that is left over is
 -- retired from a pipe that runs (of as many clients as there are streams). A TD that is left over has a TRB until the controller was moved past it.
 pub record FlowsAt (state : Shared) (pipe : Pipe) (place : Place) : Type 0 where
-  pub runs : length state.parts ≤ MAX_CLIENTS → is_held state pipe ≡ false → has_trb_at state pipe place ≡ true → (pipe_of state pipe).runs ≡ true
+  pub runs : greatest_tag state ≤ STREAMS → is_held state pipe ≡ false → has_trb_at state pipe place ≡ true → (pipe_of state pipe).runs ≡ true
   pub left : is_passed state pipe place ≡ false → is_left_over_at state pipe place ≡ true → has_trb_at state pipe place ≡ true
 
 -- Every place is matched, also one that isn't there: nothing stands at it, so that nothing names it.
 pub record IsMatched (state : Shared) : Type 0 where
+  pub tags : AreTags state.tags
   pub slots : HaveSlots state.parts
   pub places : (place : Place) → IsMatchedAt state place (under state.parts place)
   pub ordered : IsOrdered state
@@ -340,13 +341,13 @@ pipe_places state = carried_places state.events ++ state.messages
 -- a client has as many TRBs in the command pipe's ring as it has slots at most, and three events for each slot; and the controller's own
 -- commands one event
 pub record HasRoom (state : Shared) : Type 0 where
-  pub pipe : length (pipe_places state) ≤ TAGS * length state.parts
-  pub events : length state.events ≤ 3 * (TAGS * length state.parts) + 1
+  pub pipe : length (pipe_places state) ≤ greatest_tag state
+  pub events : length state.events ≤ 3 * greatest_tag state + 1
 
--- the same at MAX_CLIENTS clients: the command pipe's ring has room for all but two of its places, and the event ring for all but one
+-- the same of as many tags as there are streams: the command pipe's ring has room for all but two of its places, and the event ring for all but one
 pub record HasRingRoom (state : Shared) : Type 0 where
-  pub pipe : length (pipe_places state) ≤ MOST_MESSAGES
-  pub events : length state.events ≤ MOST_EVENTS_PENDING
+  pub pipe : length (pipe_places state) ≤ STREAMS
+  pub events : length state.events ≤ 3 * STREAMS + 1
 
 -- nothing names a place twice
 pub record IsNamedOnce (state : Shared) (place : Place) : Type 0 where
@@ -356,10 +357,10 @@ pub record IsNamedOnce (state : Shared) (place : Place) : Type 0 where
   pub ready : times_ready state.parts place ≤ 1
 
 -- a message is of a queued command of a place that is there, and the command TD is as it was pushed
-pub record IsOwnMessage (parts : List Part) (place : Place) : Type 0 where
+pub record IsOwnMessage (tags : ℕ) (parts : List Part) (place : Place) : Type 0 where
   pub entry : Entry
   pub held : under parts place ≡ Some entry
-  pub there : IsPlace (length parts) place
+  pub there : IsPlace tags (length parts) place
   pub queued : entry.task.phase ≡ Queued
   pub pushed : entry.command_td ≡ pushed
 
@@ -375,10 +376,10 @@ awaits_event (StatusDone place) entry = is_awaited entry.status_td 1
 awaits_event (EngineDone place) entry = false
 
 -- an event of a TD is of such a one, of a place that is there, and the host makes something of it
-pub record IsOwnTdEvent (parts : List Part) (event : Completion) : Type 0 where
+pub record IsOwnTdEvent (tags : ℕ) (parts : List Part) (event : Completion) : Type 0 where
   pub entry : Entry
   pub held : under parts (event_place event) ≡ Some entry
-  pub there : IsPlace (length parts) (event_place event)
+  pub there : IsPlace tags (length parts) (event_place event)
   pub awaits : awaits_event event entry ≡ true
   pub seen : is_some (seen_by event entry) ≡ true
 
@@ -390,14 +391,14 @@ pub record IsOwnEngineEvent (state : Shared) (place : Place) : Type 0 where
   pub answered : is_asked retirement.stage ≡ false
 
 abbrev pub IsOwnEvent : Shared → Completion → Type 0
-IsOwnEvent state (CommandDone place) = IsOwnTdEvent state.parts (CommandDone place)
-IsOwnEvent state (DataDone place) = IsOwnTdEvent state.parts (DataDone place)
-IsOwnEvent state (StatusDone place) = IsOwnTdEvent state.parts (StatusDone place)
+IsOwnEvent state (CommandDone place) = IsOwnTdEvent state.tags state.parts (CommandDone place)
+IsOwnEvent state (DataDone place) = IsOwnTdEvent state.tags state.parts (DataDone place)
+IsOwnEvent state (StatusDone place) = IsOwnTdEvent state.tags state.parts (StatusDone place)
 IsOwnEvent state (EngineDone place) = IsOwnEngineEvent state place
 
 -- every message and every event that waits is of an entry that waits for it: none is stray
 pub record HasNoStray (state : Shared) : Type 0 where
-  pub messages : (at : ℕ) (place : Place) → slice_get state.messages at ≡ Some place → IsOwnMessage state.parts place
+  pub messages : (at : ℕ) (place : Place) → slice_get state.messages at ≡ Some place → IsOwnMessage state.tags state.parts place
   pub events : (at : ℕ) (event : Completion) → slice_get state.events at ≡ Some event → IsOwnEvent state event
 
 -- a TRB in the command pipe's ring is of a command TD that is pending
@@ -424,7 +425,7 @@ HaveDataTrbs state = (place : Place) → IfSome (under state.parts place) HasDat
 -- THE LAWS
 
 abbrev pub OpeningIsMatched : Type 0
-OpeningIsMatched = (units : List BlockMaps) → IsMatched (opening units)
+OpeningIsMatched = (tags : ℕ) (units : List BlockMaps) → AreTags tags → IsMatched (opening tags units)
 
 -- a step keeps what waits matched
 abbrev pub StepKeepsMatches : Type 0
@@ -438,9 +439,9 @@ OrderIsKept = (state : Shared) (step : Step) → IsMatched state → IsOrdered (
 abbrev pub FromMatches : (Shared → Type 0) → Type 0
 FromMatches Holds = (state : Shared) → IsMatched state → Holds state
 
--- the same at MAX_CLIENTS clients at most
+-- the same of as many tags as there are streams at most
 abbrev pub RingsHaveRoom : Type 0
-RingsHaveRoom = (state : Shared) → IsMatched state → length state.parts ≤ MAX_CLIENTS → HasRingRoom state
+RingsHaveRoom = (state : Shared) → IsMatched state → greatest_tag state ≤ STREAMS → HasRingRoom state
 
 abbrev pub AreNamedOnce : Shared → Type 0
 AreNamedOnce state = (place : Place) → IsNamedOnce state place
@@ -472,11 +473,11 @@ EventFreesFirst state =
 -- where a chunk moves no data event of the place waits, and where an answer is handed over no status event
 abbrev pub NoDataEventWaits : Shared → Type 0
 NoDataEventWaits state =
-    (tag : ℕ) (place : Place) → place_of (length state.parts) tag ≡ Some place → due state (Data tag) ≡ true → data_events place state.events ≡ 0
+    (tag : ℕ) (place : Place) → place_of state.tags (length state.parts) tag ≡ Some place → due state (Data tag) ≡ true → data_events place state.events ≡ 0
 
 abbrev pub NoStatusEventWaits : Shared → Type 0
 NoStatusEventWaits state =
-    (tag : ℕ) (place : Place) → place_of (length state.parts) tag ≡ Some place → due state (Status tag) ≡ true → status_events place state.events ≡ 0
+    (tag : ℕ) (place : Place) → place_of state.tags (length state.parts) tag ≡ Some place → due state (Status tag) ≡ true → status_events place state.events ≡ 0
 
 -- a submission without a fault has a data TD of MOST_DATA_TRBS TRBs at most
 abbrev pub AcceptedFits : Type 0
@@ -486,7 +487,8 @@ AcceptedFits =
 
 -- what is so of the state after every list of steps
 abbrev pub OverReplays : (Shared → Type 0) → Type 0
-OverReplays Holds = (units : List BlockMaps) (steps : List Step) → Holds (replay units steps).0
+OverReplays Holds = (tags : ℕ) (units : List BlockMaps) (steps : List Step) → AreTags tags → Holds (replay tags units steps).0
 
 abbrev pub ReplaysHaveRoom : Type 0
-ReplaysHaveRoom = (units : List BlockMaps) (steps : List Step) → length units ≤ MAX_CLIENTS → HasRingRoom (replay units steps).0
+ReplaysHaveRoom =
+    (tags : ℕ) (units : List BlockMaps) (steps : List Step) → AreTags tags → length units * tags ≤ STREAMS → HasRingRoom (replay tags units steps).0

@@ -8,13 +8,12 @@ use Rattle.scsi_cmd.specs.declared.Request.{Request}
 use Rattle.scsi_cmd.specs.declared.Request.TheVariants.{Execute, Manage}
 use Rattle.scsi_cmd.specs.declared.Task.{Task}
 use Rattle.scsi_cmd.specs.declared.Task.TheVariants.{Abort, Reset, Query}
-use Rattle.uas_profile.specs.declared.TheConstants.{TASK_SLOT}
 use Rattle.scsi_cmd.specs.Held.{held_at}
 use Rattle.solo_model.specs.declared.Phase.{Phase}
 use Rattle.solo_model.specs.declared.Phase.TheVariants.{Queued, Begun, Sent, Gone}
 use Rattle.solo_model.specs.TaggedTask.{can_go, is_noted}
 use Rattle.uas_profile.specs.declared.Place.{Place}
-use Rattle.uas_profile.specs.Places.{tag_of}
+use Rattle.uas_profile.specs.Tags.{tag_of, task_slot}
 use Rattle.shared_machine.specs.declared.Completion.{Completion}
 use Rattle.shared_machine.specs.declared.Completion.TheVariants.{CommandDone, DataDone, StatusDone, EngineDone}
 use Rattle.shared_machine.specs.Td.{Entry}
@@ -43,10 +42,10 @@ is_queued Gone = false
 -- ONE CLIENT
 
 -- the slot of a client is one that a task management names: an abort and a query that of its tag, a reset each
-abbrev pub names : ℕ → ℕ → Task → Bool
-names client slot (Abort tag) = tag == tag_of (record { client = client; slot = slot })
-names client slot Reset = true
-names client slot (Query tag) = tag == tag_of (record { client = client; slot = slot })
+abbrev pub names : ℕ → ℕ → ℕ → Task → Bool
+names tags client slot (Abort tag) = tag == tag_of tags (record { client = client; slot = slot })
+names tags client slot Reset = true
+names tags client slot (Query tag) = tag == tag_of tags (record { client = client; slot = slot })
 
 -- every ticket is below the least that may come, and no two slots have one ticket
 pub record HasTickets (part : Part) : Type 0 where
@@ -62,21 +61,21 @@ IsReceivedInOrder part =
 
 -- A task management of this ticket noted of the commands that it names those with earlier tickets, and nothing else. Once it was received, what
 -- it ends is gone, unless its answer had been handed over.
-pub record HasNoted (client : ℕ) (part : Part) (management : Entry) (what : Task) (noted : ArrayVec ℕ) : Type 0 where
+pub record HasNoted (tags client : ℕ) (part : Part) (management : Entry) (what : Task) (noted : ArrayVec ℕ) : Type 0 where
   pub earlier : All (λ ticket. ticket < management.task.ticket) noted.items
-  pub exact : (slot : ℕ) (entry : Entry) → slot < TASK_SLOT → held_at part.entries slot ≡ Some entry
-      → is_noted noted.items entry.task.ticket ≡ (names client slot what && nat_lt entry.task.ticket management.task.ticket)
-  pub ended : is_queued management.task.phase ≡ false → (slot : ℕ) (entry : Entry) → slot < TASK_SLOT → held_at part.entries slot ≡ Some entry
+  pub exact : (slot : ℕ) (entry : Entry) → slot < task_slot tags → held_at part.entries slot ≡ Some entry
+      → is_noted noted.items entry.task.ticket ≡ (names tags client slot what && nat_lt entry.task.ticket management.task.ticket)
+  pub ended : is_queued management.task.phase ≡ false → (slot : ℕ) (entry : Entry) → slot < task_slot tags → held_at part.entries slot ≡ Some entry
       → is_noted (ended_by what noted).items entry.task.ticket ≡ true → can_go entry.task.phase ≡ false
 
-abbrev pub NotedBy : ℕ → Part → Entry → Request → Type 0
-NotedBy client part entry (Execute op) = Unit {0}
-NotedBy client part entry (Manage what noted) = HasNoted client part entry what noted
+abbrev pub NotedBy : ℕ → ℕ → Part → Entry → Request → Type 0
+NotedBy tags client part entry (Execute op) = Unit {0}
+NotedBy tags client part entry (Manage what noted) = HasNoted tags client part entry what noted
 
-pub record IsOrderedPart (client : ℕ) (part : Part) : Type 0 where
+pub record IsOrderedPart (tags client : ℕ) (part : Part) : Type 0 where
   pub tickets : HasTickets part
   pub received : IsReceivedInOrder part
-  pub noted : (slot : ℕ) (entry : Entry) → held_at part.entries slot ≡ Some entry → NotedBy client part entry entry.task.request
+  pub noted : (slot : ℕ) (entry : Entry) → held_at part.entries slot ≡ Some entry → NotedBy tags client part entry entry.task.request
 
 -- THE MESSAGES: those of one client are in the order of their tickets
 
@@ -121,6 +120,6 @@ AreBehind parts (EngineDone place ∷ rest) = AreBehind parts rest
 -- THE WHOLE
 
 pub record IsOrdered (state : Shared) : Type 0 where
-  pub parts : (client : ℕ) (part : Part) → slice_get state.parts client ≡ Some part → IsOrderedPart client part
+  pub parts : (client : ℕ) (part : Part) → slice_get state.parts client ≡ Some part → IsOrderedPart state.tags client part
   pub messages : AreRising state.parts state.messages
   pub events : AreBehind state.parts state.events

@@ -4,7 +4,7 @@ use Rattle.arrayvec.specs.ArrayVec.{ArrayVec}
 use Rattle.scsi_cmd.specs.Request.{ended_by}
 use Rattle.scsi_cmd.specs.declared.Request.TheVariants.{Manage}
 use Rattle.scsi_cmd.specs.declared.Task.{Task}
-use Rattle.uas_profile.specs.declared.TheConstants.{TASK_SLOT}
+use Rattle.uas_profile.specs.Tags.{task_slot}
 use Rattle.solo_model.specs.TaggedTask.{is_noted}
 use Rattle.solo_model.specs.declared.Phase.TheVariants.{Gone}
 use Rattle.uas_profile.specs.declared.Place.{Place}
@@ -56,9 +56,9 @@ GoneByNote =
 -- which hold in every replay.
 abbrev pub EndsEarlierNamed : Type 0
 EndsEarlierNamed =
-    (state : Shared) (place : Place) (old : Entry) → IsOrdered state → under state.parts place ≡ Some old → place.slot < TASK_SLOT
+    (state : Shared) (place : Place) (old : Entry) → IsOrdered state → under state.parts place ≡ Some old → place.slot < task_slot state.tags
     → (ended : IsEndedBy state place old.task.ticket)
-    → (names place.client place.slot ended.what ≡ true) × (old.task.ticket < ended.management.task.ticket)
+    → (names state.tags place.client place.slot ended.what ≡ true) × (old.task.ticket < ended.management.task.ticket)
 
 -- No step changes the ticket or the request of what stands at a place before and after it: so a task management notes later what it noted first.
 abbrev pub RequestsStay : Type 0
@@ -67,16 +67,16 @@ RequestsStay =
     → under (shared_step state step).0.parts place ≡ Some now → (now.task.ticket ≡ old.task.ticket) × (now.task.request ≡ old.task.request)
 
 -- the place of a client's task managements
-abbrev pub task_place : ℕ → Place
-task_place client = record { client = client; slot = TASK_SLOT }
+abbrev pub task_place : ℕ → ℕ → Place
+task_place tags client = record { client = client; slot = task_slot tags }
 
 -- A task management that is accepted notes just what the client holds then of that which it names.
 abbrev pub NotedAtSubmission : Type 0
 NotedAtSubmission =
-    (state : Shared) (client ticket : ℕ) (task : Task) (part : Part) → slice_get state.parts client ≡ Some part → TASK_SLOT < length part.entries
+    (state : Shared) (client ticket : ℕ) (task : Task) (part : Part) → slice_get state.parts client ≡ Some part → task_slot state.tags < length part.entries
     → (shared_step state (TaskStep client ticket task)).1.refused ≡ None
-    → under (shared_step state (TaskStep client ticket task)).0.parts (task_place client)
-    ≡ Some (new_management ticket task (noted_tickets part (named_slot (length state.parts) client task) task))
+    → under (shared_step state (TaskStep client ticket task)).0.parts (task_place state.tags client)
+    ≡ Some (new_management ticket task (noted_tickets state.tags part (named_slot state.tags (length state.parts) client task) task))
 
 -- OF ONE STEP, BY THE STATES BEFORE AND AFTER IT
 

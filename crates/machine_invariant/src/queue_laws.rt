@@ -22,8 +22,8 @@ pub fn order_is_kept()
     ensures { OrderIsKept }
 {}
 
-/// No place is named twice, so that no queue outgrows the places: `MOST_MESSAGES` TRBs in the command pipe's ring and
-/// `MOST_EVENTS_PENDING` events are the most of `MAX_CLIENTS` clients.
+/// No place is named twice, so that no queue outgrows the places: the command pipe's ring has a TRB for each tag at most, and three
+/// events wait for each tag and one more. Of as many tags as there are streams both rings have room.
 pub fn no_queue_outgrows()
     ensures once { FromMatches AreNamedOnce }
     ensures clients { FromMatches HasRoom }

@@ -6,7 +6,7 @@ use file_disk::{Blocks, FileAccess, HostBlocks, OpenFault};
 use host_commands::{BlockLength, CommandSet, LogicalUnitShape, SerialNumber};
 use std::alloc::{AllocError, Global};
 use std::io::{BufReader, Write};
-use uas_profile::MAX_CLIENTS;
+use uas_profile::MAX_UNITS;
 use uas_replay::{FAULT, RunFault};
 use uas_tasks::MOST_CHUNK_BLOCKS;
 use usb_disk::UsbStrings;
@@ -92,8 +92,8 @@ pub fn serve_usb<O: Output>(rt: &HostRuntime, asked: &UsbAsked, output: &mut O) 
 /// Room for as many images as can be asked for.
 fn no_images(alloc: Global) -> Result<Images, AllocError> {
     Ok(Images {
-        files: Vec::with_capacity(alloc, MAX_CLIENTS)?,
-        shapes: Vec::with_capacity(alloc, MAX_CLIENTS)?,
+        files: Vec::with_capacity(alloc, MAX_UNITS)?,
+        shapes: Vec::with_capacity(alloc, MAX_UNITS)?,
     })
 }
 
@@ -113,7 +113,7 @@ fn disk_of(alloc: Global, asked: &UsbAsked, shapes: &[LogicalUnitShape]) -> Opti
         BlockLength::Bytes512 => MOST_CHUNK_BLOCKS,
         BlockLength::Bytes4096 => MOST_CHUNK_BLOCKS / 8,
     };
-    if shapes.len() > MAX_CLIENTS {
+    if shapes.len() > MAX_UNITS {
         return None;
     }
     UsbTags::new(alloc, shapes, set, strings, chunk).ok()

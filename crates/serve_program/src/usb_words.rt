@@ -4,7 +4,7 @@ use arrayvec::ArrayVec;
 use clap::{Arg, ArgAction, ArgMatches, Command};
 use host_commands::{BlockLength, Product, Vendor};
 use std::alloc::{AllocError, Global};
-use uas_profile::MAX_CLIENTS;
+use uas_profile::MAX_UNITS;
 
 /// What each exit status says, and an example.
 const USB_HELP: &str = "\
@@ -22,7 +22,7 @@ const BLOCK_SIZES: &[&str] = &["512", "4096"];
 #[derive(Debug, Drop)]
 pub struct UsbAsked<'a> {
     /// The images of the logical units, in order.
-    pub files: ArrayVec<&'a str, MAX_CLIENTS>,
+    pub files: ArrayVec<&'a str, MAX_UNITS>,
     pub read_only: bool,
     /// The serial number of the first unit; the others count on from it. Else each has its file's inode number.
     pub serial: Option<u32>,
@@ -41,7 +41,7 @@ pub fn usb_command<'a>(alloc: Global) -> Result<Command<'a>, AllocError> {
             Arg::new(alloc, "FILE")
                 .required(true)
                 .action(ArgAction::Set)
-                .num_args(1..=MAX_CLIENTS)
+                .num_args(1..=MAX_UNITS)
                 .help("The images of its logical units, 1 to 15; what is written goes to them"),
         )?
         .arg(
@@ -131,7 +131,7 @@ pub fn usb_asked<'a>(words: &ArgMatches<'a>) -> Result<UsbAsked<'a>, WordFault> 
     })
 }
 
-fn files<'a>(words: &ArgMatches<'a>) -> Result<ArrayVec<&'a str, MAX_CLIENTS>, WordFault> {
+fn files<'a>(words: &ArgMatches<'a>) -> Result<ArrayVec<&'a str, MAX_UNITS>, WordFault> {
     let Some(names) = words.get_strs("FILE") else {
         return Err(WordFault::Missing);
     };

@@ -4,11 +4,12 @@ use Rattle.std.proofs.Common.{rules}
 use Rattle.std.specs.Prelude.{◌==◌, length}
 use Rattle.std.proofs.lemmas.Bool.{eqb-true, eqb-false, false≢true}
 use Rattle.shared_machine.specs.declared.Step.{Step}
-use Rattle.shared_machine.specs.Shared.{Shared, due, shared_step}
+use Rattle.shared_machine.specs.Shared.{Shared, due, greatest_tag, shared_step}
 use Rattle.shared_machine.specs.Replay.{replayed}
 use Rattle.shared_machine.specs.Drain.{Drained, drained, round, rounds, tried, tried_one, tries}
 use Rattle.shared_machine.specs.Laws.{NoneDue, AllDue, LeadsTo}
 use Rattle.shared_machine.proofs.NumberOfClients.{length-parts}
+use Rattle.shared_machine.proofs.NumberOfTags.{kept-tags}
 
 -- ONE TRY
 
@@ -45,6 +46,18 @@ pub tried-parts : (now : Shared × ℕ) (steps : List Step) → length (tried no
 tried-parts now [] = refl
 tried-parts now (step ∷ steps) = tried-parts (tried_one now step) steps ∙ tried_one-parts now step
 
+-- a try keeps how many tags a client has
+pub tried_one-tags : (now : Shared × ℕ) (step : Step) → (tried_one now step).0.tags ≡ now.0.tags
+tried_one-tags now step = search (rules, kept-tags)
+
+pub tried-tags : (now : Shared × ℕ) (steps : List Step) → (tried now steps).0.tags ≡ now.0.tags
+tried-tags now [] = refl
+tried-tags now (step ∷ steps) = tried-tags (tried_one now step) steps ∙ tried_one-tags now step
+
+-- and the greatest tag
+pub tried-greatest : (now : Shared × ℕ) (steps : List Step) → greatest_tag (tried now steps).0 ≡ greatest_tag now.0
+tried-greatest now steps = rw (tried-parts now steps, tried-tags now steps) refl
+
 -- ROUNDS
 
 -- what a drain of so many steps leaves after a round
@@ -71,7 +84,7 @@ ended-so P was after rest spent quiet more =
 
 -- where it ends quiet, nothing is due
 abbrev pub QuietIsDone : Drained → Type 0
-QuietIsDone end = end.quiet ≡ true → NoneDue end.state (tries (length end.state.parts))
+QuietIsDone end = end.quiet ≡ true → NoneDue end.state (tries (greatest_tag end.state))
 
 -- where it doesn't end quiet, it took as many steps as it may
 abbrev pub UnquietIsSpent : Drained → Type 0
@@ -82,10 +95,10 @@ abbrev pub QuietIsSpare : Drained → Type 0
 QuietIsSpare end = end.quiet ≡ true → 0 < end.left
 
 -- a round that took no step, though more may act, leaves none due
-pub round-none : (now : Shared × ℕ) → 0 < (round now).1 → (round now).1 ≡ now.1 → NoneDue (round now).0 (tries (length (round now).0.parts))
+pub round-none : (now : Shared × ℕ) → 0 < (round now).1 → (round now).1 ≡ now.1 → NoneDue (round now).0 (tries (greatest_tag (round now).0))
 round-none now some same =
-    let still = tried-none now (tries (length now.0.parts)) (omega arith) (omega arith) in
-    let P : Shared × ℕ → Type 0 = λ t. NoneDue t.0 (tries (length t.0.parts)) in
+    let still = tried-none now (tries (greatest_tag now.0)) (omega arith) (omega arith) in
+    let P : Shared × ℕ → Type 0 = λ t. NoneDue t.0 (tries (greatest_tag t.0)) in
     subst P (sym still.1) still.0
 
 -- rounds that end quiet leave nothing due
@@ -103,7 +116,7 @@ rounds-unquiet zero now few = absurd (omega arith)
 rounds-unquiet (suc more) now few =
     ended-so UnquietIsSpent now.1 (round now) (rounds more (round now))
     (λ none is. refl) (λ some same is. absurd (false≢true (sym is)))
-    (λ some fewer. rounds-unquiet more (round now) (omega (arith, tried-left now (tries (length now.0.parts)))))
+    (λ some fewer. rounds-unquiet more (round now) (omega (arith, tried-left now (tries (greatest_tag now.0)))))
 
 -- rounds that end quiet could have taken more
 pub rounds-spare : (most : ℕ) (now : Shared × ℕ) → QuietIsSpare (rounds most now)
@@ -118,9 +131,18 @@ pub rounds-parts : (most : ℕ) (now : Shared × ℕ) → length (rounds most no
 unfolding rounds
 rounds-parts zero now = refl
 rounds-parts (suc more) now =
-    let same = tried-parts now (tries (length now.0.parts)) in
+    let same = tried-parts now (tries (greatest_tag now.0)) in
     ended-so (λ end. length end.state.parts ≡ length now.0.parts) now.1 (round now) (rounds more (round now))
     (λ none. same) (λ some equal. same) (λ some fewer. rounds-parts more (round now) ∙ same)
+
+-- and how many tags a client has
+pub rounds-tags : (most : ℕ) (now : Shared × ℕ) → (rounds most now).state.tags ≡ now.0.tags
+unfolding rounds
+rounds-tags zero now = refl
+rounds-tags (suc more) now =
+    let same = tried-tags now (tries (greatest_tag now.0)) in
+    ended-so (λ end. end.state.tags ≡ now.0.tags) now.1 (round now) (rounds more (round now))
+    (λ none. same) (λ some equal. same) (λ some fewer. rounds-tags more (round now) ∙ same)
 
 -- WHAT A DRAIN TAKES
 
@@ -178,7 +200,7 @@ pub rounds-taken : (most : ℕ) (now : Shared × ℕ) → Taken now ((rounds mos
 unfolding rounds
 rounds-taken zero now = Taken-none now
 rounds-taken (suc more) now =
-    let one = tried-taken now (tries (length now.0.parts)) in
+    let one = tried-taken now (tries (greatest_tag now.0)) in
     ended-so (λ end. Taken now (end.state, end.left)) now.1 (round now) (rounds more (round now))
     (λ none. subst (λ n. Taken now ((round now).0, n)) none one) (λ some same. one)
     (λ some fewer. let rest = rounds more (round now) in Taken-append now (round now) (rest.state, rest.left) one (rounds-taken more (round now)))
@@ -205,3 +227,6 @@ drained-parts state limit = rounds-parts (suc limit) (state, limit)
 pub drained-run : (state : Shared) (limit : ℕ) →
     (steps : List Step) × LeadsTo state steps (drained state limit).state × (length steps + (drained state limit).left ≡ limit)
 drained-run state limit = let taken = rounds-taken (suc limit) (state, limit) in (taken.steps, taken.run, taken.spent)
+
+pub drained-tags : (state : Shared) (limit : ℕ) → (drained state limit).state.tags ≡ state.tags
+drained-tags state limit = rounds-tags (suc limit) (state, limit)

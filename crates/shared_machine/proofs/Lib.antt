@@ -3,6 +3,7 @@ pub mod OwnSlots
 pub mod Due
 pub mod StreamDoors
 pub mod NumberOfClients
+pub mod NumberOfTags
 pub mod Drains
 pub mod Lengths
 pub mod Replying

@@ -11,7 +11,7 @@ use Rattle.scsi_cmd.specs.declared.Reply.{Reply}
 use Rattle.scsi_cmd.specs.Held.{held_at}
 use Rattle.solo_model.specs.TaggedTask.{TaggedTask, carried, finds, moved, sent}
 use Rattle.uas_profile.specs.declared.Place.{Place}
-use Rattle.uas_profile.specs.Places.{command_slot, place_of}
+use Rattle.uas_profile.specs.Tags.{command_slot, place_of}
 use Rattle.shared_machine.specs.declared.Completion.{Completion}
 use Rattle.shared_machine.specs.declared.Completion.TheVariants.{CommandDone, DataDone, StatusDone, EngineDone}
 use Rattle.shared_machine.specs.declared.Outcome.{Outcome}
@@ -110,7 +110,7 @@ managed_or-silent state part place slot ticket task (Some fault) = refl
 managed-silent : (state : Shared) (place : Place) (slot : Option ℕ) (ticket : ℕ) (task : Task) (at : Option Part)
     → (managed_to state place slot ticket task at).1.reply ≡ None
 managed-silent state place slot ticket task None = refl
-managed-silent state place slot ticket task (Some part) = managed_or-silent state part place slot ticket task (task_fault_at part slot ticket task)
+managed-silent state place slot ticket task (Some part) = managed_or-silent state part place slot ticket task (task_fault_at state.tags part slot ticket task)
 
 carry-silent : (state : Shared) (messages : List Place) → (carry_step state messages).1.reply ≡ None
 carry-silent state [] = refl
@@ -167,17 +167,17 @@ unless-silent state step false silent = refl
 -- a step's reply brings as many bytes as was told of it
 pub shared_step-room : (state : Shared) (step : Step) → option_map_or reply_len (shared_step state step).1.reply 0 ≡ step_len state step
 shared_step-room state (Submit client tag ticket command) =
-    unless-silent state (Submit client tag ticket command) true (submitted-silent state client tag ticket command (command_slot _ client tag))
+    unless-silent state (Submit client tag ticket command) true (submitted-silent state client tag ticket command (command_slot _ _ client tag))
 shared_step-room state (TaskStep client ticket task) =
-    unless-silent state (TaskStep client ticket task) true (managed-silent state _ (named_slot _ client task) ticket task (slice_get state.parts client))
+    unless-silent state (TaskStep client ticket task) true (managed-silent state _ (named_slot _ _ client task) ticket task (slice_get state.parts client))
 shared_step-room state CommandPipe = unless-silent state CommandPipe (due state CommandPipe) (carry-silent state state.messages)
 shared_step-room state (Data tag) =
     unless-silent state (Data tag) (due state (Data tag))
-    (tagged-silent state move_act (place_of _ tag) (λ at part. move-slot part at.slot at (held_at part.entries at.slot)))
+    (tagged-silent state move_act (place_of _ _ tag) (λ at part. move-slot part at.slot at (held_at part.entries at.slot)))
 shared_step-room state (Status tag) =
     unless-silent state (Status tag) (due state (Status tag))
-    (tagged-silent state send_act (place_of _ tag) (λ at part. send-slot part at.slot at (held_at part.entries at.slot)))
+    (tagged-silent state send_act (place_of _ _ tag) (λ at part. send-slot part at.slot at (held_at part.entries at.slot)))
 shared_step-room state Engine = unless-silent state Engine (due state Engine) (engine-silent state state.retirement)
 shared_step-room state Event = unless-silent state Event (due state Event) (event-silent state state.events)
-shared_step-room state (Retire pipe tag) = unless-silent state (Retire pipe tag) (due state (Retire pipe tag)) (retire-silent state pipe (place_of _ tag))
+shared_step-room state (Retire pipe tag) = unless-silent state (Retire pipe tag) (due state (Retire pipe tag)) (retire-silent state pipe (place_of _ _ tag))
 shared_step-room state (Take client) = shared_step-len state client

@@ -6,9 +6,9 @@ use Rattle.shared_machine.specs.declared.Step.{Step}
 use Rattle.uas_profile.specs.declared.Pipe.{Pipe}
 use Rattle.uas_profile.specs.declared.Pipe.TheVariants.{Status, DataIn, DataOut}
 use Rattle.shared_machine.specs.declared.Step.TheVariants.{CommandPipe, Data, Status as StatusStep, Engine, Event}
-use Rattle.shared_machine.specs.Shared.{Shared, due}
+use Rattle.shared_machine.specs.Shared.{Shared, due, greatest_tag}
 use Rattle.shared_machine.specs.Drain.{all_tags, retirements, tried, tried_one, tries, round, rounds}
-use Rattle.shared_machine.proofs.Drains.{tried-left, tried-parts}
+use Rattle.shared_machine.proofs.Drains.{tried-left, tried-greatest}
 use Rattle.std.proofs.lemmas.Bool.{ne_eqb}
 
 pub tried-append : (now : Shared × ℕ) (steps more : List Step) → tried now (steps ++ more) ≡ tried (tried now steps) more
@@ -25,23 +25,23 @@ tried-suc kind now (suc count) first =
     tried-suc kind (tried_one now (kind first)) count (first + 1)
     ∙ ap (λ n. tried_one (tried (tried_one now (kind first)) (map kind (range_with_len (first + 1) count))) (kind n)) e
 
--- what a kind of tries leaves, each part of a round knowing its own number of clients
+-- what a kind of tries leaves, each part of a round knowing its own number of tags
 abbrev LeadsOn : ℕ → (ℕ → List Step) → Shared × ℕ → Shared × ℕ → Type 0
-LeadsOn clients steps before after = (after ≡ tried before (steps clients)) × (length after.0.parts ≡ clients)
+LeadsOn greatest steps before after = (after ≡ tried before (steps greatest)) × (greatest_tag after.0 ≡ greatest)
 
-led : (clients : ℕ) (steps : ℕ → List Step) (before after : Shared × ℕ) → length before.0.parts ≡ clients → after ≡ tried before (steps (length before.0.parts))
-    → LeadsOn clients steps before after
-led clients steps before after here is =
-    (is ∙ ap (λ k. tried before (steps k)) here, ap (λ (s : Shared × ℕ). length s.0.parts) is ∙ tried-parts before (steps (length before.0.parts)) ∙ here)
+led : (greatest : ℕ) (steps : ℕ → List Step) (before after : Shared × ℕ) → greatest_tag before.0 ≡ greatest → after ≡ tried before (steps (greatest_tag before.0))
+    → LeadsOn greatest steps before after
+led greatest steps before after here is =
+    (is ∙ ap (λ k. tried before (steps k)) here, ap (λ (s : Shared × ℕ). greatest_tag s.0) is ∙ tried-greatest before (steps (greatest_tag before.0)) ∙ here)
 
 abbrev one_step : Step → ℕ → List Step
-one_step step clients = step ∷ []
+one_step step greatest = step ∷ []
 
 abbrev of_tags : (ℕ → Step) → ℕ → List Step
-of_tags kind clients = map kind (all_tags clients)
+of_tags kind greatest = map kind (all_tags greatest)
 
 abbrev of_pipe : Pipe → ℕ → List Step
-of_pipe pipe clients = retirements clients pipe
+of_pipe pipe greatest = retirements greatest pipe
 
 -- one more part
 joined : (now before after : Shared × ℕ) (steps more : List Step) → before ≡ tried now steps → after ≡ tried before more → after ≡ tried now (steps ++ more)
@@ -50,32 +50,32 @@ joined now before after steps more is on = on ∙ ap (λ s. tried s more) is ∙
 -- a round by its eight parts, each of which knows its own number of tags
 pub round-by : (now one two three four five six seven eight : Shared × ℕ) →
     one ≡ tried_one now CommandPipe → two ≡ tried_one one Engine → three ≡ tried_one two Event
-    → four ≡ tried three (map Data (all_tags (length three.0.parts))) → five ≡ tried four (map StatusStep (all_tags (length four.0.parts)))
-    → six ≡ tried five (retirements (length five.0.parts) Status) → seven ≡ tried six (retirements (length six.0.parts) DataIn)
-    → eight ≡ tried seven (retirements (length seven.0.parts) DataOut) → eight ≡ round now
+    → four ≡ tried three (map Data (all_tags (greatest_tag three.0))) → five ≡ tried four (map StatusStep (all_tags (greatest_tag four.0)))
+    → six ≡ tried five (retirements (greatest_tag five.0) Status) → seven ≡ tried six (retirements (greatest_tag six.0) DataIn)
+    → eight ≡ tried seven (retirements (greatest_tag seven.0) DataOut) → eight ≡ round now
 round-by now one two three four five six seven eight command engine event data_tries statuses on_status on_data_in on_data_out =
-    let clients : ℕ = length now.0.parts in
-    let first = led clients (one_step CommandPipe) now one refl command in
-    let second = led clients (one_step Engine) one two first.1 engine in
-    let third = led clients (one_step Event) two three second.1 event in
-    let fourth = led clients (of_tags Data) three four third.1 data_tries in
-    let fifth = led clients (of_tags StatusStep) four five fourth.1 statuses in
-    let sixth = led clients (of_pipe Status) five six fifth.1 on_status in
-    let seventh = led clients (of_pipe DataIn) six seven sixth.1 on_data_in in
-    let eighth = led clients (of_pipe DataOut) seven eight seventh.1 on_data_out in
-    let steps : List Step = map Data (all_tags clients) in
+    let greatest : ℕ = greatest_tag now.0 in
+    let first = led greatest (one_step CommandPipe) now one refl command in
+    let second = led greatest (one_step Engine) one two first.1 engine in
+    let third = led greatest (one_step Event) two three second.1 event in
+    let fourth = led greatest (of_tags Data) three four third.1 data_tries in
+    let fifth = led greatest (of_tags StatusStep) four five fourth.1 statuses in
+    let sixth = led greatest (of_pipe Status) five six fifth.1 on_status in
+    let seventh = led greatest (of_pipe DataIn) six seven sixth.1 on_data_in in
+    let eighth = led greatest (of_pipe DataOut) seven eight seventh.1 on_data_out in
+    let steps : List Step = map Data (all_tags greatest) in
     joined now seven eight
-    (CommandPipe ∷ Engine ∷ Event ∷ steps ++ map StatusStep (all_tags clients) ++ retirements clients Status ++ retirements clients DataIn)
-    (retirements clients DataOut)
-    (joined now six seven (CommandPipe ∷ Engine ∷ Event ∷ steps ++ map StatusStep (all_tags clients) ++ retirements clients Status) (retirements clients DataIn)
-    (joined now five six (CommandPipe ∷ Engine ∷ Event ∷ steps ++ map StatusStep (all_tags clients)) (retirements clients Status)
-    (joined now four five (CommandPipe ∷ Engine ∷ Event ∷ steps) (map StatusStep (all_tags clients))
+    (CommandPipe ∷ Engine ∷ Event ∷ steps ++ map StatusStep (all_tags greatest) ++ retirements greatest Status ++ retirements greatest DataIn)
+    (retirements greatest DataOut)
+    (joined now six seven (CommandPipe ∷ Engine ∷ Event ∷ steps ++ map StatusStep (all_tags greatest) ++ retirements greatest Status) (retirements greatest DataIn)
+    (joined now five six (CommandPipe ∷ Engine ∷ Event ∷ steps ++ map StatusStep (all_tags greatest)) (retirements greatest Status)
+    (joined now four five (CommandPipe ∷ Engine ∷ Event ∷ steps) (map StatusStep (all_tags greatest))
     (joined now three four (CommandPipe ∷ Engine ∷ Event ∷ []) steps
     (joined now two three (CommandPipe ∷ Engine ∷ []) (Event ∷ []) (joined now one two (CommandPipe ∷ []) (Engine ∷ []) first.0 second.0) third.0)
     fourth.0) fifth.0) sixth.0) seventh.0) eighth.0
 
 pub round-left : (now after : Shared × ℕ) → after ≡ round now → after.1 ≤ now.1
-round-left now after is = subst (λ (s : Shared × ℕ). s.1 ≤ now.1) (sym is) (tried-left now (tries (length now.0.parts)))
+round-left now after is = subst (λ (s : Shared × ℕ). s.1 ≤ now.1) (sym is) (tried-left now (tries (greatest_tag now.0)))
 
 -- one more tag was tried
 pub tried-next : (kind : ℕ → Step) (now : Shared × ℕ) (count : ℕ) (at after : Shared × ℕ) →

@@ -1,27 +1,26 @@
 -- The drain: rounds of tries until nothing acts.
-use Rattle.std.specs.Prelude.{◌≡◌, ℕ, zero, suc, ◌-◌, ◌*◌, ◌<◌, ◌==◌, Bool, true, false, List, [], ◌∷◌, ◌++◌, length, map, if◌then◌else◌}
+use Rattle.std.specs.Prelude.{◌≡◌, ℕ, zero, suc, ◌-◌, ◌<◌, ◌==◌, Bool, true, false, List, [], ◌∷◌, ◌++◌, length, map, if◌then◌else◌}
 use Rattle.std.specs.List.{range_with_len}
-use Rattle.uas_profile.specs.declared.TheConstants.{TAGS}
 use Rattle.uas_profile.specs.declared.Pipe.{Pipe}
 use Rattle.uas_profile.specs.declared.Pipe.TheVariants.{Status, DataIn, DataOut}
 use Rattle.shared_machine.specs.declared.Step.{Step}
 use Rattle.shared_machine.specs.declared.Step.TheVariants.{CommandPipe, Data, Status as StatusStep, Engine, Event, Retire}
-use Rattle.shared_machine.specs.Shared.{Shared, due, shared_step}
+use Rattle.shared_machine.specs.Shared.{Shared, due, greatest_tag, shared_step}
 
--- every tag of so many clients, rising
+-- the tags up to the greatest, rising
 abbrev pub all_tags : ℕ → List ℕ
-all_tags clients = range_with_len 1 (clients * TAGS)
+all_tags greatest = range_with_len 1 greatest
 
 -- the retirements on a pipe, by rising tag
 abbrev pub retirements : ℕ → Pipe → List Step
-retirements clients pipe = map (Retire pipe) (all_tags clients)
+retirements greatest pipe = map (Retire pipe) (all_tags greatest)
 
 -- The tries of a round, in order: the command pipe, the controller's command ring, the event ring, the data stream of each tag, the status
 -- stream of each tag, the retirement of each tag's TD on pipe 2, 3 and 4.
 abbrev pub tries : ℕ → List Step
-tries clients =
-    CommandPipe ∷ Engine ∷ Event ∷ [] ++ map Data (all_tags clients) ++ map StatusStep (all_tags clients)
-    ++ retirements clients Status ++ retirements clients DataIn ++ retirements clients DataOut
+tries greatest =
+    CommandPipe ∷ Engine ∷ Event ∷ [] ++ map Data (all_tags greatest) ++ map StatusStep (all_tags greatest)
+    ++ retirements greatest Status ++ retirements greatest DataIn ++ retirements greatest DataOut
 
 -- the shared machine, and how many more steps may act
 abbrev pub tried_one : Shared × ℕ → Step → Shared × ℕ
@@ -44,7 +43,7 @@ AreNotLeftOver state pipe tag next = (other : ℕ) → tag < other → other < n
 
 -- a whole round
 abbrev pub round : Shared × ℕ → Shared × ℕ
-round now = tried now (tries (length now.0.parts))
+round now = tried now (tries (greatest_tag now.0))
 
 -- What a drain leaves: the shared machine, how many more steps could have acted, and whether it ended because none was
 -- due.

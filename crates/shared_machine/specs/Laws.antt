@@ -14,7 +14,7 @@ use Rattle.shared_machine.specs.Td.{Entry}
 use Rattle.shared_machine.specs.declared.Step.{Step}
 use Rattle.shared_machine.specs.declared.Step.TheVariants.{Take}
 use Rattle.shared_machine.specs.Part.{Part}
-use Rattle.shared_machine.specs.Shared.{Shared, idle, due, shared_step}
+use Rattle.shared_machine.specs.Shared.{Shared, greatest_tag, idle, due, shared_step}
 use Rattle.shared_machine.specs.Replay.{replayed}
 use Rattle.shared_machine.specs.Drain.{tries, drained}
 
@@ -32,6 +32,10 @@ IdleChangesNothing = (state : Shared) (step : Step) → due state step ≡ false
 abbrev pub StepKeepsClients : Type 0
 StepKeepsClients = (state : Shared) (step : Step) → length (shared_step state step).0.parts ≡ length state.parts
 
+-- a step keeps the number of tags
+abbrev pub StepKeepsTags : Type 0
+StepKeepsTags = (state : Shared) (step : Step) → (shared_step state step).0.tags ≡ state.tags
+
 -- THE DRAIN
 
 -- none of these steps is due
@@ -43,7 +47,7 @@ NoneDue state (step ∷ steps) = (due state step ≡ false) × NoneDue state ste
 abbrev pub QuietLeavesNothingDue : Type 0
 QuietLeavesNothingDue =
     (state : Shared) (limit : ℕ) → (drained state limit).quiet ≡ true
-    → NoneDue (drained state limit).state (tries (length (drained state limit).state.parts))
+    → NoneDue (drained state limit).state (tries (greatest_tag (drained state limit).state))
 
 -- a drain that doesn't end quiet took as many steps as it may
 abbrev pub UnquietSpendsLimit : Type 0
@@ -72,6 +76,10 @@ DrainIsRun =
 -- a drain keeps the number of clients
 abbrev pub DrainKeepsClients : Type 0
 DrainKeepsClients = (state : Shared) (limit : ℕ) → length (drained state limit).state.parts ≡ length state.parts
+
+-- and the number of tags
+abbrev pub DrainKeepsTags : Type 0
+DrainKeepsTags = (state : Shared) (limit : ℕ) → (drained state limit).state.tags ≡ state.tags
 
 -- THE NEXT REPLY
 

@@ -12,7 +12,7 @@ use Rattle.scsi_cmd.specs.declared.SubmitFault.{SubmitFault}
 use Rattle.scsi_cmd.specs.Op.{moved_bytes}
 use Rattle.scsi_cmd.specs.declared.Task.{Task}
 use Rattle.scsi_cmd.specs.declared.Task.TheVariants.{Abort, Reset, Query}
-use Rattle.uas_profile.specs.declared.TheConstants.{TAGS, TASK_SLOT}
+use Rattle.uas_profile.specs.declared.TheConstants.{MOST_TAGS}
 use Rattle.solo_model.specs.TaggedTask.{TaggedTask}
 use Rattle.solo_model.specs.declared.Phase.{Phase}
 use Rattle.solo_model.specs.declared.Phase.TheVariants.{Queued, Begun, Sent, Gone}
@@ -31,7 +31,7 @@ use Rattle.shared_machine.specs.declared.Completion.{Completion}
 use Rattle.shared_machine.specs.declared.Completion.TheVariants.{CommandDone, DataDone, StatusDone, EngineDone}
 use Rattle.shared_machine.specs.declared.Mark.{Mark}
 use Rattle.shared_machine.specs.declared.Mark.TheVariants.{Carry, Move, Send, Settle, Quiet}
-use Rattle.uas_profile.specs.Places.{command_slot, tag_of}
+use Rattle.uas_profile.specs.Tags.{command_slot, tag_of, task_slot}
 use Rattle.shared_machine.specs.Td.{pushed, data_trbs, is_awaited, left_over_data, left_over_td, with_trb_taken, with_event_seen}
 use Rattle.shared_machine.specs.Td.{data_after_status, is_ready, passed_on, retired_on}
 use Rattle.std.specs.Prelude.{◌-◌, ◌*◌}
@@ -46,7 +46,7 @@ pub record Part : Type 0 where
 
 -- the part of a client that has submitted nothing
 abbrev pub new_part : ℕ → BlockMaps → Part
-new_part number unit = record { number = number; unit = unit; entries = replicate TAGS None; least_ticket = 0; ready = [] }
+new_part number unit = record { number = number; unit = unit; entries = replicate MOST_TAGS None; least_ticket = 0; ready = [] }
 
 -- the part with this under a slot
 abbrev pub with_entry : Part → ℕ → Entry → Part
@@ -97,10 +97,10 @@ tickets_of (None ∷ places) = tickets_of places
 tickets_of (Some entry ∷ places) = entry.task.ticket ∷ tickets_of places
 
 -- the command slot of the client that an abort or a query names, where its tag has one
-abbrev pub named_slot : ℕ → ℕ → Task → Option ℕ
-named_slot clients client (Abort tag) = command_slot clients client tag
-named_slot clients client Reset = None
-named_slot clients client (Query tag) = command_slot clients client tag
+abbrev pub named_slot : ℕ → ℕ → ℕ → Task → Option ℕ
+named_slot tags clients client (Abort tag) = command_slot tags clients client tag
+named_slot tags clients client Reset = None
+named_slot tags clients client (Query tag) = command_slot tags clients client tag
 
 abbrev pub named_entry : Part → Option ℕ → Option Entry
 named_entry part None = None
@@ -114,24 +114,24 @@ is_there part slot (Query tag) = is_some (named_entry part slot)
 
 -- the tickets that a task management notes: an abort and a query that of the command under its tag, a reset those of all commands of the
 -- client
-abbrev pub noted_tickets : Part → Option ℕ → Task → List ℕ
-noted_tickets part slot (Abort tag) = tickets_of (named_entry part slot ∷ [])
-noted_tickets part slot Reset = tickets_of (take TASK_SLOT part.entries)
-noted_tickets part slot (Query tag) = tickets_of (named_entry part slot ∷ [])
+abbrev pub noted_tickets : ℕ → Part → Option ℕ → Task → List ℕ
+noted_tickets tags part slot (Abort tag) = tickets_of (named_entry part slot ∷ [])
+noted_tickets tags part slot Reset = tickets_of (take (task_slot tags) part.entries)
+noted_tickets tags part slot (Query tag) = tickets_of (named_entry part slot ∷ [])
 
 -- the first fault of a task management of a client that is there
-abbrev pub task_fault_at : Part → Option ℕ → ℕ → Task → Option SubmitFault
-task_fault_at part slot ticket task =
-    first_task_fault true (is_some (held_at part.entries TASK_SLOT)) part.least_ticket ticket (is_there part slot task)
+abbrev pub task_fault_at : ℕ → Part → Option ℕ → ℕ → Task → Option SubmitFault
+task_fault_at tags part slot ticket task =
+    first_task_fault true (is_some (held_at part.entries (task_slot tags))) part.least_ticket ticket (is_there part slot task)
 
 -- the entry of a task management that was just submitted
 abbrev pub new_management : ℕ → Task → List ℕ → Entry
 new_management ticket task noted =
     record { task = queued_management ticket task noted; command_td = pushed; status_td = pushed; data_td = None }
 
-abbrev pub managed_part : Part → Option ℕ → ℕ → Task → Part
-managed_part part slot ticket task =
-    record (with_entry part TASK_SLOT (new_management ticket task (noted_tickets part slot task))) { least_ticket = ticket + 1 }
+abbrev pub managed_part : ℕ → Part → Option ℕ → ℕ → Task → Part
+managed_part tags part slot ticket task =
+    record (with_entry part (task_slot tags) (new_management ticket task (noted_tickets tags part slot task))) { least_ticket = ticket + 1 }
 
 -- CARRY
 
@@ -326,22 +326,22 @@ settled part slot rest (Some reply) = record {
 }
 
 -- the tag of a slot of this client
-abbrev pub slot_tag : ℕ → ℕ → ℕ
-slot_tag client slot = tag_of (record { client = client; slot = slot })
+abbrev pub slot_tag : ℕ → ℕ → ℕ → ℕ
+slot_tag tags client slot = tag_of tags (record { client = client; slot = slot })
 
 -- the reply of an entry
 abbrev pub entry_reply : ℕ → Entry → Option Reply
 entry_reply tag entry = reply_of tag entry.task
 
-abbrev pub taken : ℕ → Part → List ℕ → Act
-taken client part [] = nothing part
-taken client part (slot ∷ rest) =
-    settled part slot rest (option_and_then (entry_reply (slot_tag client slot)) (held_at part.entries slot))
+abbrev pub taken : ℕ → ℕ → Part → List ℕ → Act
+taken tags client part [] = nothing part
+taken tags client part (slot ∷ rest) =
+    settled part slot rest (option_and_then (entry_reply (slot_tag tags client slot)) (held_at part.entries slot))
 
 -- the client takes the reply that was ready first
-abbrev pub take_act : ℕ → Part → Act
-take_act client part = taken client part part.ready
+abbrev pub take_act : ℕ → ℕ → Part → Act
+take_act tags client part = taken tags client part part.ready
 
--- tag t of client c becomes t - 16c
-abbrev pub own_tag : ℕ → ℕ → ℕ
-own_tag client tag = tag - client * TAGS
+-- tag t of client c becomes t - tags c
+abbrev pub own_tag : ℕ → ℕ → ℕ → ℕ
+own_tag tags client tag = tag - client * tags

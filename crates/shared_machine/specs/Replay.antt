@@ -1,5 +1,5 @@
 -- The shared machine over whole lists of steps.
-use Rattle.std.specs.Prelude.{List, [], ◌∷◌}
+use Rattle.std.specs.Prelude.{ℕ, List, [], ◌∷◌}
 use Rattle.block_unit.specs.BlockMaps.{BlockMaps}
 use Rattle.shared_machine.specs.declared.Step.{Step}
 use Rattle.shared_machine.specs.declared.Outcome.{Outcome}
@@ -14,6 +14,6 @@ abbrev pub replayed : Shared → List Step → Shared × List Outcome
 replayed state [] = (state, [])
 replayed state (step ∷ steps) = with_outcome (shared_step state step).1 (replayed (shared_step state step).0 steps)
 
--- The replay: from new units.
-abbrev pub replay : List BlockMaps → List Step → Shared × List Outcome
-replay units steps = replayed (opening units) steps
+-- The replay: from new units, with so many tags of each client.
+abbrev pub replay : ℕ → List BlockMaps → List Step → Shared × List Outcome
+replay tags units steps = replayed (opening tags units) steps

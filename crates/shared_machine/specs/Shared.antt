@@ -1,5 +1,5 @@
 -- The shared machine: many clients over one controller and one device, without rings or bytes.
-use Rattle.std.specs.Prelude.{ℕ, suc, Bool, true, false, ◌&&◌, if◌then◌else◌, List, [], ◌∷◌, ◌++◌, filter, map, length, slice_get}
+use Rattle.std.specs.Prelude.{ℕ, suc, ◌*◌, Bool, true, false, ◌&&◌, if◌then◌else◌, List, [], ◌∷◌, ◌++◌, filter, map, length, slice_get}
 use Rattle.std.specs.Prelude.{slice_set, Option, Some, None, is_none}
 use Rattle.std.specs.Prelude.{option_to_list}
 use Rattle.std.specs.List.{range_with_len}
@@ -7,7 +7,7 @@ use Rattle.std.specs.Option.{option_map_or}
 use Rattle.block_unit.specs.BlockMaps.{BlockMaps}
 use Rattle.uas_profile.specs.declared.Pipe.{Pipe}
 use Rattle.uas_profile.specs.declared.Pipe.TheVariants.{Command as CommandPipeName, Status as StatusPipe, DataIn, DataOut}
-use Rattle.uas_profile.specs.declared.TheConstants.{TASK_SLOT, STREAMS}
+use Rattle.uas_profile.specs.declared.TheConstants.{STREAMS}
 use Rattle.scsi_cmd.specs.declared.Command.{Command}
 use Rattle.uas_profile.specs.declared.Direction.{Direction}
 use Rattle.uas_profile.specs.declared.Direction.TheVariants.{Nothing, ToHost, ToDevice}
@@ -32,7 +32,7 @@ use Rattle.shared_machine.specs.declared.Step.{Step}
 use Rattle.shared_machine.specs.declared.Step.TheVariants.{Submit, Task as TaskStep, CommandPipe, Data, Status, Engine, Event, Retire, Take}
 use Rattle.shared_machine.specs.declared.Outcome.{Outcome}
 use Rattle.scsi_cmd.specs.declared.Task.{Task}
-use Rattle.uas_profile.specs.Places.{place_of, command_slot, tag_of}
+use Rattle.uas_profile.specs.Tags.{place_of, command_slot, tag_of, task_slot}
 use Rattle.uas_profile.specs.Doors.{door}
 use Rattle.shared_machine.specs.Tests.{submission_bells}
 use Rattle.uas_profile.specs.Pipes.{target_of}
@@ -45,9 +45,10 @@ use Rattle.uas_profile.specs.PipeStates.{stopped_pipe}
 use Rattle.shared_machine.specs.Part.{Part, Act, new_part, fault_at, submitted_part, carry_act, move_act, send_act, event_act}
 use Rattle.shared_machine.specs.Part.{take_act, stop_act, pass_act, retire_act, managed_part, named_slot, task_fault_at}
 
--- each client's part by number; the messages in the command pipe and the events not yet taken, the oldest first; the
+-- how many tags each client has, which never changes; each client's part by number; the messages in the command pipe and the events not yet taken, the oldest first; the
 -- pipes 2 to 4; and the retirement under way
 pub record Shared : Type 0 where
+  pub tags : ℕ
   pub parts : List Part
   pub messages : List Place
   pub events : List Completion
@@ -61,9 +62,10 @@ abbrev pub new_parts : ℕ → List BlockMaps → List Part
 new_parts number [] = []
 new_parts number (unit ∷ units) = new_part number unit ∷ new_parts (suc number) units
 
--- the shared machine over these units, the unit of client c at place c
-abbrev pub opening : List BlockMaps → Shared
-opening units = record {
+-- the shared machine over these units, the unit of client c at place c, with so many tags of each client
+abbrev pub opening : ℕ → List BlockMaps → Shared
+opening tags units = record {
+  tags = tags;
   parts = new_parts 0 units;
   messages = [];
   events = [];
@@ -72,6 +74,10 @@ opening units = record {
   data_out = new_pipe;
   retirement = None;
 }
+
+-- the greatest tag of a client
+abbrev pub greatest_tag : Shared → ℕ
+greatest_tag state = length state.parts * state.tags
 
 -- THE PIPES
 
@@ -153,7 +159,7 @@ part_fact state client test = option_map_or test (slice_get state.parts client) 
 
 abbrev pub place_fact : Shared → ℕ → (Entry → Bool) → Bool
 place_fact state tag test =
-    option_map_or (λ place. part_fact state place.client (entry_fact test place.slot)) (place_of (length state.parts) tag) false
+    option_map_or (λ place. part_fact state place.client (entry_fact test place.slot)) (place_of state.tags (length state.parts) tag) false
 
 -- the target gives or takes data
 abbrev pub is_moving : Phase → Bool
@@ -269,18 +275,18 @@ submitted_under state client tag ticket command (Some slot) =
 
 abbrev pub submit_step : Shared → ℕ → ℕ → ℕ → Command → Shared × Outcome
 submit_step state client tag ticket command =
-    submitted_under state client tag ticket command (command_slot (length state.parts) client tag)
+    submitted_under state client tag ticket command (command_slot state.tags (length state.parts) client tag)
 
 -- TASK MANAGEMENT
 
 -- it goes the way of a submission without data, under the client's task tag
 abbrev pub managed : Shared → Part → Place → Option ℕ → ℕ → Task → Shared × Outcome
 managed state part place slot ticket task = (
-  record (with_streams_rung state Nothing (tag_of place)) {
-    parts = slice_set state.parts place.client (managed_part part slot ticket task);
+  record (with_streams_rung state Nothing (tag_of state.tags place)) {
+    parts = slice_set state.parts place.client (managed_part state.tags part slot ticket task);
     messages = state.messages ++ place ∷ [];
   },
-  acceptance place.client TaskMark (submission_bells (is_held state) Nothing (tag_of place)),
+  acceptance place.client TaskMark (submission_bells (is_held state) Nothing (tag_of state.tags place)),
 )
 
 abbrev pub managed_or : Shared → Part → Place → Option ℕ → ℕ → Task → Option SubmitFault → Shared × Outcome
@@ -289,11 +295,12 @@ managed_or state part place slot ticket task (Some fault) = (state, task_refusal
 
 abbrev pub managed_to : Shared → Place → Option ℕ → ℕ → Task → Option Part → Shared × Outcome
 managed_to state place slot ticket task None = (state, task_refusal place.client NotYours)
-managed_to state place slot ticket task (Some part) = managed_or state part place slot ticket task (task_fault_at part slot ticket task)
+managed_to state place slot ticket task (Some part) = managed_or state part place slot ticket task (task_fault_at state.tags part slot ticket task)
 
 abbrev pub task_step : Shared → ℕ → ℕ → Task → Shared × Outcome
 task_step state client ticket task =
-    managed_to state (record { client = client; slot = TASK_SLOT }) (named_slot (length state.parts) client task) ticket task (slice_get state.parts client)
+    managed_to state (record { client = client; slot = task_slot state.tags }) (named_slot state.tags (length state.parts) client task) ticket task
+    (slice_get state.parts client)
 
 -- the first message leaves the command pipe
 abbrev pub carry_step : Shared → List Place → Shared × Outcome
@@ -368,12 +375,12 @@ abbrev pub due_step : Shared → Step → Shared × Outcome
 due_step state (Submit client tag ticket command) = submit_step state client tag ticket command
 due_step state (TaskStep client ticket task) = task_step state client ticket task
 due_step state CommandPipe = carry_step state state.messages
-due_step state (Data tag) = routed_by_tag state move_act (place_of (length state.parts) tag)
-due_step state (Status tag) = routed_by_tag state send_act (place_of (length state.parts) tag)
+due_step state (Data tag) = routed_by_tag state move_act (place_of state.tags (length state.parts) tag)
+due_step state (Status tag) = routed_by_tag state send_act (place_of state.tags (length state.parts) tag)
 due_step state Engine = engine_step state state.retirement
 due_step state Event = event_step state state.events
-due_step state (Retire pipe tag) = retire_step state pipe (place_of (length state.parts) tag)
-due_step state (Take client) = routed state client (take_act client)
+due_step state (Retire pipe tag) = retire_step state pipe (place_of state.tags (length state.parts) tag)
+due_step state (Take client) = routed state client (take_act state.tags client)
 
 -- One step of the shared machine: the state after it and its outcome.
 abbrev pub shared_step : Shared → Step → Shared × Outcome

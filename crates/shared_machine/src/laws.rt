@@ -1,6 +1,6 @@
 //! The laws of the shared machine, which hold of its definitions.
-ghost use Rattle.shared_machine.specs.Laws.{ActsWhereDue, IdleChangesNothing, StepKeepsClients};
-ghost use Rattle.shared_machine.specs.Laws.{QuietLeavesNothingDue, UnquietSpendsLimit, QuietSparesLimit, DrainIsRun, DrainKeepsClients};
+ghost use Rattle.shared_machine.specs.Laws.{ActsWhereDue, IdleChangesNothing, StepKeepsClients, StepKeepsTags};
+ghost use Rattle.shared_machine.specs.Laws.{QuietLeavesNothingDue, UnquietSpendsLimit, QuietSparesLimit, DrainIsRun, DrainKeepsClients, DrainKeepsTags};
 ghost use Rattle.shared_machine.specs.Laws.{TakeBringsNextLen};
 
 /// A step acts exactly where it is due.
@@ -25,6 +25,12 @@ pub fn drains_to_quiet()
 pub fn keeps_clients()
     ensures step { StepKeepsClients }
     ensures drain { DrainKeepsClients }
+{}
+
+/// No step and no drain changes how many tags a client has.
+pub fn keeps_tags()
+    ensures step { StepKeepsTags }
+    ensures drain { DrainKeepsTags }
 {}
 
 /// A Take's reply brings as many bytes as was told of it.

@@ -14,6 +14,7 @@ mod replay_laws;
 pub use doorbells::Doorbells;
 pub use laws::{
     acts_where_due, brings_next_len, drains_to_quiet, idle_changes_nothing, keeps_clients,
+    keeps_tags,
 };
 pub use replay_laws::{idle_can_be_left_out, replay_goes_on, step_brings_its_len};
 use scsi_cmd::{Command, Reply, SubmitFault, Task};

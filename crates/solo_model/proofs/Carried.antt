@@ -9,7 +9,7 @@ use Rattle.block_unit.specs.BlockMaps.{BlockMaps}
 use Rattle.scsi_cmd.specs.declared.Op.{Op}
 use Rattle.scsi_cmd.specs.declared.Request.{Request}
 use Rattle.scsi_cmd.specs.declared.Request.TheVariants.{Execute, Manage}
-use Rattle.uas_profile.specs.declared.TheConstants.{TAGS}
+use Rattle.uas_profile.specs.declared.TheConstants.{MOST_TAGS}
 use Rattle.scsi_cmd.specs.Held.{AllHeld, held_at, held_under}
 use Rattle.scsi_cmd.specs.Request.{ended_by}
 use Rattle.scsi_cmd.specs.Laws.{held_at-past}
@@ -86,7 +86,7 @@ pub carry-held : (state : SoloState) (slot : ℕ) (held : Option TaggedTask) (ac
     held_at state.tasks slot ≡ held →
     IsCarried state.unit (heeded (option_and_then ended_next held) state.tasks) slot (found_by state.tasks held) acted unit tasks →
     applied state (option_and_then (carried_at state (suc slot)) held) ≡
-    (record { unit = unit; tasks = tasks; least_ticket = state.least_ticket }, outcome acted)
+    (record { tags = state.tags; unit = unit; tasks = tasks; least_ticket = state.least_ticket }, outcome acted)
 carry-held state slot None acted unit tasks at is =
     let none = subst (CarriedFrom state.unit state.tasks slot false acted unit tasks) at is in
     rw (none.0, none.1, none.2) refl
@@ -98,7 +98,7 @@ carry-held state slot (Some task) acted unit tasks at is =
         IsCarried state.unit (heeded (ended_next (record { ticket = ticket; request = request; buffer = buffer; phase = phase })) state.tasks)
         slot (finds request state.tasks) acted unit tasks →
         applied state (carried_at state (suc slot) (record { ticket = ticket; request = request; buffer = buffer; phase = phase }))
-        ≡ (record { unit = unit; tasks = tasks; least_ticket = state.least_ticket }, outcome acted)
+        ≡ (record { tags = state.tags; unit = unit; tasks = tasks; least_ticket = state.least_ticket }, outcome acted)
     by-fields ticket (Execute op) buffer Queued at is =
         let done = subst (CarriedFrom state.unit state.tasks slot false acted unit tasks) at is in
         rw (done.0, done.1, done.2) refl
@@ -125,7 +125,7 @@ pub carry-step : (state : SoloState) (index slot : ℕ) (acted : Bool) (unit : B
     IsCarried state.unit (heeded (option_and_then ended_next (held_at state.tasks slot)) state.tasks) slot
     (found_by state.tasks (held_at state.tasks slot)) acted unit tasks →
     applied state (option_and_then (carried_at state index) (held_under state.tasks index))
-    ≡ (record { unit = unit; tasks = tasks; least_ticket = state.least_ticket }, outcome acted)
+    ≡ (record { tags = state.tags; unit = unit; tasks = tasks; least_ticket = state.least_ticket }, outcome acted)
 carry-step state index slot acted unit tasks under is =
     let place : index ≡ suc slot = index-of index slot under in
     rw place (carry-held state slot (held_at state.tasks slot) acted unit tasks refl is)
@@ -135,18 +135,18 @@ carry-step state index slot acted unit tasks under is =
     index-of (suc at) slot is = index-at at slot is
       where
         index-at : (at slot : ℕ) → slot_under (suc at) ≡ Some slot → suc at ≡ suc slot
-        index-at at slot is = elim (nat_lt at TAGS) as (λ b. cond b (Some at) None ≡ Some slot → suc at ≡ suc slot) [
+        index-at at slot is = elim (nat_lt at MOST_TAGS) as (λ b. cond b (Some at) None ≡ Some slot → suc at ≡ suc slot) [
           | true ↦ λ there. cc
           | false ↦ λ none. cc
         ] is
 
 -- an index without a slot has no task
-pub none-under : (tasks : List (Option TaggedTask)) (index : ℕ) → slot_under index ≡ None → length tasks ≡ TAGS → held_under tasks index ≡ None
+pub none-under : (tasks : List (Option TaggedTask)) (index : ℕ) → slot_under index ≡ None → length tasks ≡ MOST_TAGS → held_under tasks index ≡ None
 none-under tasks zero none places = refl
 none-under tasks (suc at) none places =
-    let past : TAGS ≤ at = elim (nat_lt at TAGS) as (λ b. nat_lt at TAGS ≡ b → cond b (Some at) None ≡ None → TAGS ≤ at) [
+    let past : MOST_TAGS ≤ at = elim (nat_lt at MOST_TAGS) as (λ b. nat_lt at MOST_TAGS ≡ b → cond b (Some at) None ≡ None → MOST_TAGS ≤ at) [
       | true ↦ λ is there. absurd (some-none there)
-      | false ↦ λ is there. ltb-false at TAGS is
+      | false ↦ λ is there. ltb-false at MOST_TAGS is
     ] refl none in
     held_at-past tasks at (omega (arith, past, places))
   where

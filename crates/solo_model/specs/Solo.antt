@@ -20,27 +20,29 @@ use Rattle.solo_model.specs.TaggedTask.{TaggedTask}
 use Rattle.solo_model.specs.declared.Label.{Label}
 use Rattle.solo_model.specs.declared.Label.TheVariants.{Submit, Task as TaskLabel, Carry, Move, Send, Settle}
 use Rattle.solo_model.specs.declared.NotARun.{NotARun}
-use Rattle.uas_profile.specs.declared.TheConstants.{TAGS, TASK_SLOT}
+use Rattle.uas_profile.specs.declared.TheConstants.{MOST_TAGS}
+use Rattle.uas_profile.specs.Tags.{task_slot}
 
--- a unit, the tasks by slot (index less 1), and the least ticket that a submission may have
+-- how many tags the client has, a unit, the tasks by slot (index less 1), and the least ticket that a submission may have
 pub record SoloState : Type 0 where
+  pub tags : ℕ
   pub unit : BlockMaps
   pub tasks : List (Option TaggedTask)
   pub least_ticket : ℕ
 
 -- no task yet
-abbrev pub opening : BlockMaps → SoloState
-opening unit = record { unit = unit; tasks = replicate TAGS None; least_ticket = 0 }
+abbrev pub opening : ℕ → BlockMaps → SoloState
+opening tags unit = record { tags = tags; unit = unit; tasks = replicate MOST_TAGS None; least_ticket = 0 }
 
--- the slot of an index, where there is one; with 16 tags: index 1 has slot 0 and index 16 slot 15, 0 and 17 have none
+-- the slot of an index that has a place: index 1 has slot 0 and index 16 slot 15, 0 and 17 have none
 abbrev pub slot_under : ℕ → Option ℕ
 slot_under zero = None
-slot_under (suc slot) = if nat_lt slot TAGS then Some slot else None
+slot_under (suc slot) = if nat_lt slot MOST_TAGS then Some slot else None
 
--- commands have the indices 1 to TASK_SLOT; the last one, TAGS, is for task management
-abbrev pub is_command_index : ℕ → Bool
-is_command_index zero = false
-is_command_index (suc slot) = nat_lt slot TASK_SLOT
+-- commands have the indices 1 to task_slot; the last one, tags, is for task management
+abbrev pub is_command_index : ℕ → ℕ → Bool
+is_command_index tags zero = false
+is_command_index tags (suc slot) = nat_lt slot (task_slot tags)
 
 -- the unit and the task of this index are now these
 abbrev pub with_task : SoloState → ℕ → BlockMaps × TaggedTask → SoloState
@@ -63,33 +65,33 @@ submitted state index ticket command (Some fault) = None
 -- TASK MANAGEMENT
 
 -- the command under an index, where there is one
-abbrev pub command_under : List (Option TaggedTask) → ℕ → Option TaggedTask
-command_under tasks index = if is_command_index index then held_under tasks index else None
+abbrev pub command_under : ℕ → List (Option TaggedTask) → ℕ → Option TaggedTask
+command_under tags tasks index = if is_command_index tags index then held_under tasks index else None
 
 -- what is to be managed is there: of an abort and a query the command under its index, of a reset always
-abbrev pub is_there : List (Option TaggedTask) → Task → Bool
-is_there tasks (Abort index) = is_some (command_under tasks index)
-is_there tasks Reset = true
-is_there tasks (Query index) = is_some (command_under tasks index)
+abbrev pub is_there : ℕ → List (Option TaggedTask) → Task → Bool
+is_there tags tasks (Abort index) = is_some (command_under tags tasks index)
+is_there tags tasks Reset = true
+is_there tags tasks (Query index) = is_some (command_under tags tasks index)
 
 abbrev pub tickets_of : List (Option TaggedTask) → List ℕ
 tickets_of tasks = filter_map (option_map (λ task. task.ticket)) tasks
 
 -- The tickets that a task management notes: an abort and a query that of the command under its index, a reset those of all commands
 -- that were submitted and not settled.
-abbrev pub noted_tickets : List (Option TaggedTask) → Task → List ℕ
-noted_tickets tasks (Abort index) = tickets_of (command_under tasks index ∷ [])
-noted_tickets tasks Reset = tickets_of (take TASK_SLOT tasks)
-noted_tickets tasks (Query index) = tickets_of (command_under tasks index ∷ [])
+abbrev pub noted_tickets : ℕ → List (Option TaggedTask) → Task → List ℕ
+noted_tickets tags tasks (Abort index) = tickets_of (command_under tags tasks index ∷ [])
+noted_tickets tags tasks Reset = tickets_of (take (task_slot tags) tasks)
+noted_tickets tags tasks (Query index) = tickets_of (command_under tags tasks index ∷ [])
 
 -- the index of task management
-abbrev pub task_index : ℕ
-task_index = TASK_SLOT + 1
+abbrev pub task_index : ℕ → ℕ
+task_index tags = suc (task_slot tags)
 
 abbrev pub managed : SoloState → ℕ → Task → Option SubmitFault → Option (SoloState × Option Reply)
 managed state ticket task None =
-    Some (silently (record (with_task state task_index
-    (state.unit, queued_management ticket task (noted_tickets state.tasks task))) { least_ticket = ticket + 1 }))
+    Some (silently (record (with_task state (task_index state.tags)
+    (state.unit, queued_management ticket task (noted_tickets state.tags state.tasks task))) { least_ticket = ticket + 1 }))
 managed state ticket task (Some fault) = None
 
 -- the tasks once a task management that ends these tickets is carried: commands of such a ticket are gone
@@ -120,10 +122,10 @@ IsCarried unit tasks slot found acted unit_now tasks_now = MatchOption (option_a
 abbrev pub solo_step : SoloState → Label → Option (SoloState × Option Reply)
 solo_step state (Submit index ticket command) =
     submitted state index ticket command
-    (first_submit_fault (is_command_index index) (is_some (held_under state.tasks index)) state.least_ticket ticket command)
+    (first_submit_fault (is_command_index state.tags index) (is_some (held_under state.tasks index)) state.least_ticket ticket command)
 solo_step state (TaskLabel ticket task) =
     managed state ticket task
-    (first_task_fault true (is_some (held_under state.tasks task_index)) state.least_ticket ticket (is_there state.tasks task))
+    (first_task_fault true (is_some (held_under state.tasks (task_index state.tags))) state.least_ticket ticket (is_there state.tags state.tasks task))
 solo_step state (Carry index) = option_and_then (carried_at state index) (held_under state.tasks index)
 solo_step state (Move index) =
     option_map (λ after. silently (with_task state index after))

@@ -2,7 +2,8 @@
 use Rattle.std.specs.Prelude.{◌≡◌, ℕ, List, Option, length}
 use Rattle.scsi_cmd.specs.declared.Op.{Op}
 use Rattle.scsi_cmd.specs.Op.{moved_bytes}
-use Rattle.uas_profile.specs.declared.TheConstants.{TAGS}
+use Rattle.uas_profile.specs.declared.TheConstants.{MOST_TAGS}
+use Rattle.uas_profile.specs.Tags.{AreTags}
 use Rattle.scsi_cmd.specs.Held.{AllHeld}
 use Rattle.scsi_cmd.specs.declared.Request.{Request}
 use Rattle.scsi_cmd.specs.declared.Request.TheVariants.{Execute, Manage}
@@ -47,6 +48,7 @@ abbrev pub IsSound : ℕ → TaggedTask → Type 0
 IsSound count task = IsSoundRequest count task task.request
 
 -- each tag has its place, and each task is sound
-pub record IsSoundSolo (count : ℕ) (held : List (Option TaggedTask)) : Type 0 where
-  pub places : length held ≡ TAGS
+pub record IsSoundSolo (tags count : ℕ) (held : List (Option TaggedTask)) : Type 0 where
+  pub number : AreTags tags
+  pub places : length held ≡ MOST_TAGS
   pub tasks : AllHeld (IsSound count) held

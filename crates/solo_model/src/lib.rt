@@ -2,7 +2,7 @@
 //! between a command and its reply, so it says what a client may expect of a disk that it has alone.
 //!
 //! A client has tags for commands and a last one for task management, named here by their index
-//! from 1 on. A command goes through the steps *submit*, *carry* (the device receives it), *move* (one chunk
+//! from 1 on; how many, is said where the machine is made, and never changes. A command goes through the steps *submit*, *carry* (the device receives it), *move* (one chunk
 //! of at most eight blocks, on the blocks of that moment), *send* (the device hands over its answer) and
 //! *settle* (the client gets its reply); a [`Label`] names one step, and [`Solo::apply`] does it or says that
 //! it isn't a step here. `Solo::apply` is the definition `solo_step`, exactly, and takes no memory.
@@ -24,7 +24,7 @@ use scsi_cmd::Command;
 pub use scsi_cmd::{Buffer, Reply, Request, SubmitFault, Task, submit_fault, task_fault};
 use std::marker::Model;
 use thiserror::Error;
-use uas_profile::{TAGS, TASK_SLOT};
+use uas_profile::{MOST_TAGS, TASK_SLOT};
 
 /// The response to a task management (SAM), by the code of its Response unit (INCITS 471).
 #[derive(Clone, Copy, Debug, PartialEq, Eq)]
@@ -140,8 +140,9 @@ pub struct NotARun;
 /// One client and its logical unit.
 #[derive(Debug, Drop)]
 pub struct Solo {
+    tags: usize,
     unit: Unit,
-    tasks: [Option<TaggedTask>; TAGS],
+    tasks: [Option<TaggedTask>; MOST_TAGS],
     least_ticket: u64,
 }
 
@@ -152,7 +153,7 @@ impl Model for Solo {
 
     ghost use Rattle.solo_model.specs.Soundness.{IsSoundSolo};
 
-    ghost view = { λ solo. record { unit = solo.unit; tasks = solo.tasks; least_ticket = solo.least_ticket } };
+    ghost view = { λ solo. record { tags = solo.tags; unit = solo.unit; tasks = solo.tasks; least_ticket = solo.least_ticket } };
 
-    ghost invariant = { λ solo. IsSoundSolo solo.unit.count solo.tasks };
+    ghost invariant = { λ solo. IsSoundSolo solo.tags solo.unit.count solo.tasks };
 }

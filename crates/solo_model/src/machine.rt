@@ -2,6 +2,7 @@ ghost use Rattle.std.specs.Prelude.{◌≡◌, ℕ, suc, ◌+◌, ◌^◌, ◌<�
 ghost use Rattle.std.specs.Prelude.{option_and_then, option_map, is_some, option_to_list, ◌++◌, if◌then◌else◌};
 ghost use Rattle.std.specs.Option.{option_map_or};
 ghost use Rattle.arrayvec.specs.ArrayVec.{array_vec_len};
+ghost use Rattle.uas_profile.specs.Tags.{AreTags, task_slot};
 ghost use Rattle.scsi_cmd.specs.Held.{AllHeld, held_at};
 ghost use Rattle.solo_model.specs.Soundness.{IsSound};
 ghost use Rattle.solo_model.specs.TaggedTask.{after_notes, carried, ended_next, finds, moved, sent, reply_of};
@@ -15,18 +16,35 @@ use crate::{
 use arrayvec::ArrayVec;
 use block_unit::Unit;
 use scsi_cmd::{Command, Reply};
-use uas_profile::{TAGS, TASK_SLOT};
+use uas_profile::{MOST_TAGS, TAGS, TASK_SLOT, task_slot};
 
 impl Solo {
-    /// A client that has submitted nothing yet, with this unit.
+    /// A client with the usual number of tags that has submitted nothing yet, with this unit.
     pub fn new(unit: Unit) -> Solo
-        ensures { result ≡ opening unit }
+        ensures { result ≡ opening TAGS unit }
+    {
+        Solo::with_tags(unit, TAGS)
+    }
+
+    /// The same with so many tags.
+    pub fn with_tags(unit: Unit, tags: usize) -> Solo
+        requires { AreTags tags }
+        ensures { result ≡ opening tags unit }
     {
         Solo {
+            tags,
             unit,
             tasks: std::array::from_fn(|_| None),
             least_ticket: 0,
         }
+    }
+
+    /// How many tags the client has.
+    pub fn tags(&self) -> usize
+        ensures is { result ≡ self.now.tags }
+        ensures are { AreTags result }
+    {
+        self.tags
     }
 
     /// The unit.
@@ -63,19 +81,11 @@ impl Solo {
         requires { ticket < 2 ^ 60 }
         ensures { applied self.old (solo_step self.old (Label.Submit index ticket command)) ≡ (self.new, result) }
     {
-        let Some(slot) = slot_of(index) else {
+        let Some(slot) = command_slot(self.tags, index) else {
             return Err(NotARun);
         };
         let in_use = self.tasks[slot].is_some();
-        if submit_fault(
-            slot < TASK_SLOT,
-            in_use,
-            self.least_ticket,
-            ticket,
-            &command,
-        )
-        .is_some()
-        {
+        if submit_fault(true, in_use, self.least_ticket, ticket, &command).is_some() {
             return Err(NotARun);
         }
         self.tasks[slot] = Some(TaggedTask::new(ticket, command));
@@ -87,13 +97,14 @@ impl Solo {
         requires { ticket < 2 ^ 60 }
         ensures { applied self.old (solo_step self.old (Label.Task ticket task)) ≡ (self.new, result) }
     {
-        let in_use = self.tasks[TASK_SLOT].is_some();
-        let there = is_there(&self.tasks, &task);
+        let task_slot = task_slot(self.tags);
+        let in_use = self.tasks[task_slot].is_some();
+        let there = is_there(self.tags, &self.tasks, &task);
         if task_fault(true, in_use, self.least_ticket, ticket, there).is_some() {
             return Err(NotARun);
         }
-        let noted = noted_tickets(&self.tasks, &task);
-        self.tasks[TASK_SLOT] = Some(TaggedTask::management(ticket, task, noted));
+        let noted = noted_tickets(self.tags, &self.tasks, &task);
+        self.tasks[task_slot] = Some(TaggedTask::management(ticket, task, noted));
         self.least_ticket = ticket + 1;
         Ok(None)
     }
@@ -146,11 +157,11 @@ fn run_if(acted: bool) -> Result<Option<Reply>, NotARun>
     if acted { Ok(None) } else { Err(NotARun) }
 }
 
-/// The slot of an index, where there is one.
+/// The slot of an index that has a place.
 fn slot_of(index: u16) -> Option<usize>
     ensures { result ≡ slot_under index }
 {
-    if 1 <= index && usize::from(index) <= TAGS {
+    if 1 <= index && usize::from(index) <= MOST_TAGS {
         Some(usize::from(index) - 1)
     } else {
         None
@@ -158,11 +169,12 @@ fn slot_of(index: u16) -> Option<usize>
 }
 
 /// Whether what is to be managed is there: of an abort and a query the command under its index, of a reset always.
-fn is_there(tasks: &[Option<TaggedTask>; TAGS], task: &Task) -> bool
-    ensures { result ≡ is_there tasks.now task.now }
+fn is_there(tags: usize, tasks: &[Option<TaggedTask>; MOST_TAGS], task: &Task) -> bool
+    requires { AreTags tags }
+    ensures { result ≡ is_there tags tasks.now task.now }
 {
     match task {
-        Task::Abort { tag } | Task::Query { tag } => match command_slot(*tag) {
+        Task::Abort { tag } | Task::Query { tag } => match command_slot(tags, *tag) {
             Some(slot) => tasks[slot].is_some(),
             None => false,
         },
@@ -171,28 +183,30 @@ fn is_there(tasks: &[Option<TaggedTask>; TAGS], task: &Task) -> bool
 }
 
 /// The slot of a command's index.
-fn command_slot(index: u16) -> Option<usize>
-    ensures none { IfNone result (is_command_index index ≡ false) }
-    ensures some { IfSome result (λ slot. (slot < TASK_SLOT) × (suc slot ≡ index) × (is_command_index index ≡ true)) }
+fn command_slot(tags: usize, index: u16) -> Option<usize>
+    requires { AreTags tags }
+    ensures none { IfNone result (is_command_index tags index ≡ false) }
+    ensures some { IfSome result (λ slot. (slot < task_slot tags) × (suc slot ≡ index) × (is_command_index tags index ≡ true)) }
 {
     match slot_of(index) {
-        Some(slot) if slot < TASK_SLOT => Some(slot),
+        Some(slot) if slot < task_slot(tags) => Some(slot),
         _ => None,
     }
 }
 
 /// The tickets that a task management notes: an abort and a query that of the command under its index, a reset those of all
 /// commands that were submitted and not settled.
-fn noted_tickets(tasks: &[Option<TaggedTask>], task: &Task) -> ArrayVec<u64, TASK_SLOT>
-    requires { length tasks.now ≡ TAGS }
-    ensures { result.items ≡ noted_tickets tasks.now task.now }
+fn noted_tickets(tags: usize, tasks: &[Option<TaggedTask>], task: &Task) -> ArrayVec<u64, TASK_SLOT>
+    requires tags { AreTags tags }
+    requires tasks { length tasks.now ≡ MOST_TAGS }
+    ensures { result.items ≡ noted_tickets tags tasks.now task.now }
 {
     match task {
-        Task::Abort { tag } | Task::Query { tag } => match command_slot(*tag) {
+        Task::Abort { tag } | Task::Query { tag } => match command_slot(tags, *tag) {
             Some(slot) => tickets_in(&tasks[slot..slot + 1]),
             None => ArrayVec::new(),
         },
-        Task::Reset => tickets_in(&tasks[..TASK_SLOT]),
+        Task::Reset => tickets_in(&tasks[..task_slot(tags)]),
     }
 }
 

@@ -9,6 +9,7 @@ ghost use Rattle.stream_array.specs.Stored.{entry_in, word_in, dequeue_of_word};
 ghost use Rattle.uas_profile.specs.declared.TheConstants.{STREAM_ENTRIES};
 
 use crate::{Dequeue, InvalidStream, NoMemory, Pipe};
+use byteorder::{ByteOrder, LittleEndian};
 use std::alloc::Global;
 use std::marker::Model;
 use uas_profile::{PIPE_SPAN, RINGS, STREAM_SPAN, STREAMS};
@@ -141,7 +142,7 @@ fn text(dequeue: Dequeue) -> [u8; 16]
     let state = if dequeue.cycle { 3 } else { 2 };
     let word = dequeue.pointer + state;
     let mut bytes = [0; 16];
-    bytes[..8].copy_from_slice(&word.to_le_bytes());
+    LittleEndian::write_u64(&mut bytes, word);
     bytes
 }
 
@@ -173,7 +174,5 @@ fn dequeue_of(word: u64) -> Dequeue
 fn word(bytes: &[u8; 16]) -> u64
     ensures { result ≡ word_in bytes.now }
 {
-    let mut low = [0; 8];
-    low.copy_from_slice(&bytes[..8]);
-    u64::from_le_bytes(low)
+    LittleEndian::read_u64(bytes)
 }

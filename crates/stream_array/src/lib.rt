@@ -17,7 +17,7 @@
 //! step, and written there. [`Lines::next_pending`] visits only streams with bytes put since it last found
 //! them empty: each pipe keeps a mark of these beside its rings. `new` takes all memory, and no other call
 //! takes any. The crate stands on `cycle_ring` and `event_ring` for the rings, on `xhci_trb` for the
-//! texts of TRBs and on `marks`.
+//! texts of TRBs, on `marks` and on `byteorder`.
 #![tactic(auto)]
 
 ghost use Rattle.std.specs.Prelude.{◌≡◌, ℕ, ◌+◌, ◌*◌, ◌^◌, ◌<◌, ◌≤◌, Some, None, IfSome, IsTrue};

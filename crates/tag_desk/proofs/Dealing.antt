@@ -14,6 +14,7 @@ use Rattle.tag_desk.specs.declared.rule.WorkView.{WorkView}
 use Rattle.tag_desk.specs.declared.rule.WorkView.TheVariants.{Idle}
 use Rattle.tag_desk.specs.declared.rule.View.{View}
 use Rattle.tag_desk.specs.declared.rule.View.TheVariants.{Dealer, Client, Work, Both, Spent}
+use Rattle.tag_desk.specs.declared.rule.TagCounts.{TagCounts}
 use Rattle.tag_desk.specs.Rule.{undealt, Books, Knows, WorkKnows, IsDesk}
 use Rattle.tag_desk.proofs.Moves.{updated, updated_here, updated_else}
 
@@ -55,8 +56,8 @@ dealt_else b from new k (Both t v w) e other h = (
 dealt_else b from new k Spent e other h = tt
 
 -- the dealer deals its next tag whole
-pub deal_allowed : (tags id from : ℕ) → Splits (IsDesk tags) id (Dealer from) (Dealer (from + 1)) (Both from Waiting Idle)
-deal_allowed tags id from s held at =
+pub deal_allowed : (counts : TagCounts) (id from : ℕ) → Splits (IsDesk counts) id (Dealer from) (Dealer (from + 1)) (Both from Waiting Idle)
+deal_allowed counts id from s held at =
     let b : Books = held.books in
     let know = held.each_seat id (Dealer from) at in
     let new : ℕ = length s.views in
@@ -87,10 +88,10 @@ reworked_else b t owner k (Both j v w) other h = (h.0, h.1, updated_else b.work 
 reworked_else b t owner k Spent other h = tt
 
 -- the rule is kept where no more than the seats change, and one is the pump's of a tag
-reseated : (tags t owner : ℕ) (s : State (Option Slip) View) (views : List View) (held : IsDesk tags s)
+reseated : (counts : TagCounts) (t owner : ℕ) (s : State (Option Slip) View) (views : List View) (held : IsDesk counts s)
     → ((k : ℕ) (v : View) → get_elem? views k ≡ some v → Knows (reworked held.books t owner) k v)
-    → IsDesk tags record { words = s.words; homes = s.homes; views = views }
-reseated tags t owner s views held knows = record {
+    → IsDesk counts record { words = s.words; homes = s.homes; views = views }
+reseated counts t owner s views held knows = record {
   books = reworked held.books t owner;
   width = held.width;
   depth = held.depth;
@@ -100,24 +101,24 @@ reseated tags t owner s views held knows = record {
 }
 
 -- a tag's seat is cut into its client's and its pump's
-pub part_allowed : (tags id t : ℕ) (v : ClientView) (w : WorkView) → Splits (IsDesk tags) id (Both t v w) (Client t v) (Work t w)
-part_allowed tags id t v w s held at =
+pub part_allowed : (counts : TagCounts) (id t : ℕ) (v : ClientView) (w : WorkView) → Splits (IsDesk counts) id (Both t v w) (Client t v) (Work t w)
+part_allowed counts id t v w s held at =
     let b : Books = held.books in
     let know = held.each_seat id (Both t v w) at in
     let new : ℕ = length s.views in
-    reseated tags t new s (set s.views id (Client t v) ++ Work t w ∷ []) held
+    reseated counts t new s (set s.views id (Client t v) ++ Work t w ∷ []) held
     (seats_added (Knows (reworked b t new)) s.views id (Client t v) (Work t w)
     (know.0, know.1, know.3)
     (know.0, updated_here b.work t t new refl, know.4)
     (λ k u other there. reworked_else b t new k u (λ same. other (sym same ∙ know.2)) (held.each_seat k u there)))
 
 -- a tag's two seats are united
-pub unite_allowed : (tags id other t : ℕ) (v : ClientView) (w : WorkView) → Joins (IsDesk tags) id (Client t v) other (Work t w) (Both t v w) Spent
-unite_allowed tags id other t v w s held at apart there =
+pub unite_allowed : (counts : TagCounts) (id other t : ℕ) (v : ClientView) (w : WorkView) → Joins (IsDesk counts) id (Client t v) other (Work t w) (Both t v w) Spent
+unite_allowed counts id other t v w s held at apart there =
     let b : Books = held.books in
     let mine = held.each_seat id (Client t v) at in
     let its = held.each_seat other (Work t w) (sym (set_else s.views id other (Both t v w) apart) ∙ there) in
-    reseated tags t id s (set (set s.views id (Both t v w)) other Spent) held
+    reseated counts t id s (set (set s.views id (Both t v w)) other Spent) held
     (seats_set (Knows (reworked b t id)) (set s.views id (Both t v w)) other Spent tt
     (λ k u far at'.
     seats_set (λ j x. j ≢ other → Knows (reworked b t id) j x) s.views id (Both t v w)
@@ -144,14 +145,15 @@ first_seat b dealer none zero v at = subst (Knows b 0) (some-injective (Dealer 0
 first_seat b dealer none (suc k) v at = absurd (some-ne-none v (sym at))
 
 -- a table of zeros and empty slots, of which no tag is dealt
-pub opening_desk : (tags : ℕ) (words : List ℕ) → words ≡ replicate {A = ℕ} tags 0 → IsDesk tags (opening words (replicate tags None) (Dealer 0))
-opening_desk tags words zeros =
+pub opening_desk : (counts : TagCounts) (words : List ℕ) → words ≡ replicate {A = ℕ} counts.all 0
+    → IsDesk counts (opening words (replicate counts.all None) (Dealer 0))
+opening_desk counts words zeros =
     let b : Books = record { stage = λ _. undealt; client = λ _. 0; work = λ _. 0; dealer = 0; dealt = 0 } in
     record {
       books = b;
-      width = ap length zeros ∙ length-replicate tags 0;
-      depth = length_vacant tags;
+      width = ap length zeros ∙ length-replicate counts.all 0;
+      depth = length_vacant counts.all;
       fresh = λ t late. refl;
-      each_tag = λ t below. (ap (λ (l : List ℕ). slice_index l t) zeros ∙ zero_at tags t, vacant_at tags t below);
+      each_tag = λ t below. (ap (λ (l : List ℕ). slice_index l t) zeros ∙ zero_at counts.all t, vacant_at counts.all t below);
       each_seat = first_seat b refl refl;
     }

@@ -1,17 +1,17 @@
 -- What one seat of one tag knows and holds, before and after its steps.
 use Rattle.std.proofs.Common.{◌≡◌, ◌≢◌, ℕ, ◌+◌, ◌*◌, ◌/◌, ◌==◌, eq-eqb, ne_eqb, List, [], ◌∷◌, sym, refl, ap, subst, ◌∙◌, arith, Option, Some, None}
-use Rattle.std.proofs.Common.{MatchBool}
+use Rattle.std.proofs.Common.{MatchBool, Bool, true}
 use mathlib.Core.Option as maybe
 use Rattle.atomic_table.specs.Table.{rest, step}
 use Rattle.tag_desk.specs.declared.Slip.{Slip}
 use Rattle.tag_desk.specs.declared.rule.ClientView.{ClientView}
 use Rattle.tag_desk.specs.declared.rule.ClientView.TheVariants.{Waiting, Free, Open}
 use Rattle.tag_desk.specs.declared.rule.View.{View}
-use Rattle.tag_desk.specs.declared.rule.View.TheVariants.{Client, Work}
-use Rattle.tag_desk.specs.declared.rule.WorkView.{WorkView}
-use Rattle.tag_desk.specs.declared.rule.WorkView.TheVariants.{Claimed}
-use Rattle.tag_desk.specs.Slips.{IsAsk, IsEnd}
-use Rattle.tag_desk.specs.Rule.{Sat, Looks, Takes, IsAbove, index_in, client_in, work_in}
+use Rattle.tag_desk.specs.declared.rule.View.TheVariants.{Client}
+use Rattle.tag_desk.specs.declared.Slip.TheVariants.{Ask, AskTask, Answer, Refused, Unserved}
+use Rattle.tag_desk.specs.Slips.{IsAsk, IsCommand, IsEnd, IsTask}
+use Rattle.tag_desk.specs.Rule.{Sat, Looks, index_in, client_in}
+use Rattle.uas_profile.specs.Tags.{slot_of, task_slot}
 use Rattle.tag_desk.specs.Seats.{IsFree, IsDealt, client_sat, open_ticket}
 
 opened : (v : ClientView) (o : Option ℕ) (n : ℕ) → o ≡ open_ticket v → o ≡ Some n → (x : Slip) × (v ≡ Open n x)
@@ -49,15 +49,24 @@ looked slots t n found me w is told =
     let q : (4 * n + 3) / 4 ≡ n = omega arith in
     subst (λ k. Ended t k w) q (won (Ended t ((4 * n + 3) / 4) w) (w ≡ me) found (4 * n + 3) is told)
 
--- the pump's seat holds an ask of the ticket, which is above what it finished, and has the claim
-abbrev pub Taken : ℕ → WorkView → ℕ → Sat → Type 0
-Taken t v n w = (x : Slip) × IsAsk (t + 1) n x × IsAbove v n × (w ≡ (Work t (Claimed n), (t, Some x) ∷ []))
+-- the ask of a tag is a command or a task management, by the tag's slot
+pub command_asked : (tags tag n : ℕ) → slot_of tags tag ≢ task_slot tags → (x : Slip) → IsAsk tags tag n x → IsCommand n x
+command_asked tags tag n other (Ask m command) ask = ask.0
+command_asked tags tag n other (AskTask m task) ask = absurd (other ask.1)
+command_asked tags tag n other (Answer reply) ask = absurd ask
+command_asked tags tag n other (Refused m fault buffer) ask = absurd ask
+command_asked tags tag n other (Unserved m buffer) ask = absurd ask
 
-pub took : (slots t n found : ℕ) (me w : Sat) → found ≡ 4 * n + 1 → Takes (step slots t (4 * n + 1) (4 * n + 2) maybe.none) me found w
-    → Taken t (work_in me.0) n w
-took slots t n found me w is told =
-    let q : (4 * n + 1) / 4 ≡ n = omega arith in
-    subst (λ k. Taken t (work_in me.0) k w) q (won (Taken t (work_in me.0) ((4 * n + 1) / 4) w) (w ≡ me) found (4 * n + 1) is told)
+pub task_asked : (tags tag n : ℕ) → slot_of tags tag ≡ task_slot tags → (x : Slip) → IsAsk tags tag n x → IsTask n x
+task_asked tags tag n here (Ask m command) ask = absurd (ask.1 here)
+task_asked tags tag n here (AskTask m task) ask = ask.0
+task_asked tags tag n here (Answer reply) ask = absurd ask
+task_asked tags tag n here (Refused m fault buffer) ask = absurd ask
+task_asked tags tag n here (Unserved m buffer) ask = absurd ask
+
+-- what is told where a test is true
+pub told_true : (A B : Type 0) (b : Bool) → b ≡ true → MatchBool b A B → A
+told_true A B b is told = subst (λ b. MatchBool b A B) is told
 
 -- a seat that holds one slot with a value
 abbrev pub Holds : ℕ → List (ℕ × Option Slip) → Type 0

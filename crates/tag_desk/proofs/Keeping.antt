@@ -1,5 +1,5 @@
 -- What became of each ticket that a client posted. Cited by `close`.
-use Rattle.std.proofs.Common.{◌≡◌, ◌≢◌, ℕ, zero, suc, ◌+◌, ◌-◌, ◌*◌, ◌/◌, ◌%◌, ◌<◌, ◌≤◌, ◌==◌, List, [], ◌∷◌, length, sym, refl, ap, subst, ◌∙◌, arith}
+use Rattle.std.proofs.Common.{◌≡◌, ◌≢◌, ℕ, zero, suc, ◌+◌, ◌-◌, ◌*◌, ◌%◌, ◌<◌, ◌≤◌, ◌==◌, List, [], ◌∷◌, length, sym, refl, ap, subst, ◌∙◌, arith}
 use Rattle.std.proofs.Common.{Bool, true, false, if◌then◌else◌, eq-eqb, ne_eqb, Option, Some, None, slice_get, sum_by}
 use mathlib.Core.Logic.{dite}
 use native.Mathlib.Decide.{ℕ_discrete}
@@ -24,7 +24,9 @@ use Rattle.tag_desk.specs.Left.{client_view, work_line, standing, unclaimed, pos
 use Rattle.tag_desk.specs.History.{Deed, posts, reaps, CameBy, PostsAt, KeepsTickets, one_of, posted_count, reaped_count, slip_count, ticket_count}
 use Rattle.tag_desk.proofs.Seating.{end_named}
 use Rattle.tag_desk.proofs.Finding.{found_all}
-use Rattle.uas_profile.specs.declared.TheConstants.{TAGS}
+use Rattle.tag_desk.proofs.Tags.{tag_by_slot, tag_within}
+use Rattle.uas_profile.specs.Tags.{client_of, slot_of}
+use Rattle.uas_profile.proofs.TagLaws.{slots-below_tags}
 
 -- ---- one tag and one ticket
 
@@ -50,8 +52,9 @@ one_other : (tag n t m : ℕ) → m ≢ n → one_of tag n t m ≡ 0
 one_other tag n t m e = ap (λ b. if t == tag then (if b then 1 else 0) else 0) (ne_eqb m n e) ∙ neither_if (t == tag)
 
 -- two tags of a client stand at two places
-apart : (c t tag : ℕ) → IsTagOf c t → IsTagOf c tag → t ≢ tag → (tag - 1) % TAGS ≢ (t - 1) % TAGS
-apart c t tag own other differ = λ same. differ (let a = own.0 in let b = own.1 in let d = other.0 in let e = other.1 in omega arith)
+apart : (tags c t tag : ℕ) → 0 < tags → IsTagOf tags c t → IsTagOf tags c tag → t ≢ tag → slot_of tags tag ≢ slot_of tags t
+apart tags c t tag some own other differ =
+    λ same. differ (let a = tag_by_slot tags c t some own in let b = tag_by_slot tags c tag some other in omega arith)
 
 -- ---- what a client's seat has open
 
@@ -95,59 +98,65 @@ sum_gone posted reaped was one d now had open_now new none = omega arith
 -- ---- a client's deeds
 
 -- what a seat's deeds left: of each ticket that was posted and not looked up the seat has it open
-record Known (c : ℕ) (deeds : List Deed) (seat : Customer) : Type 0 where
+record Known (tags c : ℕ) (deeds : List Deed) (seat : Customer) : Type 0 where
   client : seat.client ≡ c
-  count : length seat.lines ≡ TAGS
-  each : (tag n : ℕ) → IsTagOf c tag
-      → posted_count tag n deeds ≡ reaped_count tag n deeds + open_count n (line_view seat.lines ((tag - 1) % TAGS))
-  asked : (k : ℕ) → k < TAGS → IsAsked (line_view seat.lines k)
+  number : seat.tags ≡ tags
+  count : length seat.lines ≡ tags
+  each : (tag n : ℕ) → IsTagOf tags c tag
+      → posted_count tag n deeds ≡ reaped_count tag n deeds + open_count n (line_view seat.lines (slot_of tags tag))
+  asked : (k : ℕ) → k < tags → IsAsked (line_view seat.lines k)
   later : (tag n : ℕ) → seat.least_ticket ≤ n → posted_count tag n deeds ≡ 0
   once : (tag n : ℕ) → posted_count tag n deeds ≤ 1
 
-new_view : (table : TableId) (c : ℕ) (seat : Customer) (k : ℕ) → IsNewCustomer table c seat → k < TAGS → line_view seat.lines k ≡ Free 0
-new_view table c seat k new within =
-    let line : ClientLine = new_line table (TAGS * c + k) in
-    ap view_or (slice_get_read seat.lines TAGS k line (sym new.count) within (sym (new.lines k line within)))
+new_view : (table : TableId) (tags c : ℕ) (seat : Customer) (k : ℕ) → IsNewCustomer table tags c seat → k < tags → line_view seat.lines k ≡ Free 0
+new_view table tags c seat k new within =
+    let line : ClientLine = new_line table (tags * c + k) in
+    ap view_or (slice_get_read seat.lines tags k line (sym new.count) within (sym (new.lines k line within)))
 
-known_new : (table : TableId) (c : ℕ) (seat : Customer) → IsNewCustomer table c seat → Known c [] seat
-known_new table c seat new = record {
+known_new : (table : TableId) (tags c : ℕ) (seat : Customer) → 0 < tags → IsNewCustomer table tags c seat → Known tags c [] seat
+known_new table tags c seat some new = record {
   client = new.client;
+  number = new.tags;
   count = new.count;
   each =
       λ tag n own.
-      let none : open_count n (line_view seat.lines ((tag - 1) % TAGS)) ≡ 0 = ap (open_count n) (new_view table c seat ((tag - 1) % TAGS) new (omega arith)) in
+      let none : open_count n (line_view seat.lines (slot_of tags tag)) ≡ 0 =
+      ap (open_count n) (new_view table tags c seat (slot_of tags tag) new (slots-below_tags tags tag some)) in
       omega arith;
-  asked = λ k within. subst IsAsked (sym (new_view table c seat k new within)) tt;
+  asked = λ k within. subst IsAsked (sym (new_view table tags c seat k new within)) tt;
   later = λ tag n least. refl;
   once = λ tag n. omega arith;
 }
 
-known_posted : (c : ℕ) (before : List Deed) (old seat : Customer) (t : ℕ) (x : Slip) → Known c before old → PostsAt old seat t x
-    → Known c (posts t x ∷ before) (posting old t (ticket_in x) x)
-known_posted c before old seat t x was post =
-    let k : ℕ = (t - 1) % TAGS in
+known_posted : (tags c : ℕ) (before : List Deed) (old seat : Customer) (t : ℕ) (x : Slip) → 0 < tags → Known tags c before old → PostsAt old seat t x
+    → Known tags c (posts t x ∷ before) (posting old t (ticket_in x) x)
+known_posted tags c before old seat t x some was post =
+    let k : ℕ = slot_of tags t in
     let m : ℕ = ticket_in x in
+    let low : k < tags = slots-below_tags tags t some in
     let deep : k < length old.lines = let e = was.count in omega arith in
-    let own : IsTagOf c t = subst (λ i. IsTagOf i t) was.client post.own in
-    record {
+    let at : slot_of old.tags t ≡ k = ap (λ n. slot_of n t) was.number in
+    let own : IsTagOf tags c t = subst (λ (p : ℕ × ℕ). IsTagOf p.0 p.1 t) (λ i. (was.number i, was.client i)) post.own in
+    subst (λ j. Known tags c (posts t x ∷ before) (record old { least_ticket = m + 1; lines = with_view old.lines j (Open m x) })) (sym at) record {
       client = was.client;
+      number = was.number;
       count = length_view old.lines k (Open m x) ∙ was.count;
       each =
           λ tag n of.
-          let j : ℕ = (tag - 1) % TAGS in
+          let j : ℕ = slot_of tags tag in
           let had = was.each tag n of in
           dite (ℕ_discrete t tag)
           (λ (e : t ≡ tag).
-          let place : k ≡ j = ap (λ i. (i - 1) % TAGS) e in
+          let place : k ≡ j = ap (slot_of tags) e in
           let now : open_count n (line_view (with_view old.lines k (Open m x)) j) ≡ (if m == n then 1 else 0) =
           ap (open_count n) (ap (line_view (with_view old.lines k (Open m x))) (sym place) ∙ view_here old.lines k (Open m x) deep) in
           let none : open_count n (line_view old.lines j) ≡ 0 =
-          ap (open_count n) (ap (line_view old.lines) (sym place) ∙ ap view_or post.free.1 ∙ post.free.2.1) in
+          ap (open_count n) (ap (line_view old.lines) (sym place ∙ sym at) ∙ ap view_or post.free.1 ∙ post.free.2.1) in
           let one = one_here tag n t m e in
           sum_more _ _ _ _ _ _ had none one now)
           (λ (e : t ≢ tag).
           let same : open_count n (line_view (with_view old.lines k (Open m x)) j) ≡ open_count n (line_view old.lines j) =
-          ap (open_count n) (view_else old.lines k j (Open m x) (apart c t tag own of e)) in
+          ap (open_count n) (view_else old.lines k j (Open m x) (apart tags c t tag some own of e)) in
           let none = one_else tag n t m e in
           omega arith);
       asked =
@@ -168,32 +177,35 @@ known_posted c before old seat t x was post =
           (λ (e : m ≢ n). let none = one_other tag n t m e in let rest = was.once tag n in omega arith);
     }
 
-known_reaped : (c : ℕ) (before : List Deed) (old : Customer) (t m : ℕ) (x y : Slip) (line : ClientLine) → Known c before old → IsTagOf c t
-    → slice_get old.lines ((t - 1) % TAGS) ≡ Some line → line.view ≡ Open m x → IsEnd t m y
-    → Known c (reaps t y ∷ before) (record old { lines = with_view old.lines ((t - 1) % TAGS) (Free (m + 1)) })
-known_reaped c before old t m x y line was own at view ends =
-    let k : ℕ = (t - 1) % TAGS in
+known_reaped : (tags c : ℕ) (before : List Deed) (old : Customer) (t m : ℕ) (x y : Slip) (line : ClientLine) → 0 < tags → Known tags c before old
+    → IsTagOf tags c t → slice_get old.lines (slot_of old.tags t) ≡ Some line → line.view ≡ Open m x → IsEnd t m y
+    → Known tags c (reaps t y ∷ before) (record old { lines = with_view old.lines (slot_of old.tags t) (Free (m + 1)) })
+known_reaped tags c before old t m x y line some was own there view ends =
+    let k : ℕ = slot_of tags t in
+    let low : k < tags = slots-below_tags tags t some in
     let deep : k < length old.lines = let e = was.count in omega arith in
-    record {
+    let at : slot_of old.tags t ≡ k = ap (λ n. slot_of n t) was.number in
+    subst (λ j. Known tags c (reaps t y ∷ before) (record old { lines = with_view old.lines j (Free (m + 1)) })) (sym at) record {
       client = was.client;
+      number = was.number;
       count = length_view old.lines k (Free (m + 1)) ∙ was.count;
       each =
           λ tag n of.
-          let j : ℕ = (tag - 1) % TAGS in
+          let j : ℕ = slot_of tags tag in
           let had = was.each tag n of in
           dite (ℕ_discrete t tag)
           (λ (e : t ≡ tag).
-          let place : k ≡ j = ap (λ i. (i - 1) % TAGS) e in
+          let place : k ≡ j = ap (slot_of tags) e in
           let now : open_count n (line_view (with_view old.lines k (Free (m + 1))) j) ≡ 0 =
           ap (open_count n) (ap (line_view (with_view old.lines k (Free (m + 1)))) (sym place) ∙ view_here old.lines k (Free (m + 1)) deep) in
           let was_open : open_count n (line_view old.lines j) ≡ (if m == n then 1 else 0) =
-          ap (open_count n) (ap (line_view old.lines) (sym place) ∙ ap view_or at ∙ view) in
+          ap (open_count n) (ap (line_view old.lines) (sym place ∙ sym at) ∙ ap view_or there ∙ view) in
           let one : one_of tag n t (ticket_in y) ≡ (if m == n then 1 else 0) =
           one_here tag n t (ticket_in y) e ∙ ap (λ i. if i == n then 1 else 0) (end_named t m y ends) in
           sum_gone _ _ _ _ _ _ had was_open one now)
           (λ (e : t ≢ tag).
           let same : open_count n (line_view (with_view old.lines k (Free (m + 1))) j) ≡ open_count n (line_view old.lines j) =
-          ap (open_count n) (view_else old.lines k j (Free (m + 1)) (apart c t tag own of e)) in
+          ap (open_count n) (view_else old.lines k j (Free (m + 1)) (apart tags c t tag some own of e)) in
           let none = one_else tag n t (ticket_in y) e in
           omega arith);
       asked =
@@ -205,14 +217,15 @@ known_reaped c before old t m x y line was own at view ends =
       once = λ tag n. was.once tag n;
     }
 
-known : (table : TableId) (c : ℕ) (deeds : List Deed) (seat : Customer) → CameBy table c deeds seat → Known c deeds seat
-known table c [] seat came = known_new table c seat came
-known table c (posts t x ∷ before) seat came =
-    subst (Known c (posts t x ∷ before)) (sym came.2.is) (known_posted c before came.0 seat t x (known table c before came.0 came.1) came.2)
-known table c (reaps t y ∷ before) seat came =
+known : (table : TableId) (tags c : ℕ) (deeds : List Deed) (seat : Customer) → 0 < tags → CameBy table tags c deeds seat → Known tags c deeds seat
+known table tags c [] seat some came = known_new table tags c seat some came
+known table tags c (posts t x ∷ before) seat some came =
+    subst (Known tags c (posts t x ∷ before)) (sym came.2.is)
+    (known_posted tags c before came.0 seat t x some (known table tags c before came.0 some came.1) came.2)
+known table tags c (reaps t y ∷ before) seat some came =
     let reap = came.3 in
-    subst (Known c (reaps t y ∷ before)) (sym reap.6)
-    (known_reaped c before came.0 t reap.1 reap.2 y reap.0 (known table c before came.0 came.1) came.2 reap.3 reap.4 reap.5)
+    subst (Known tags c (reaps t y ∷ before)) (sym reap.6)
+    (known_reaped tags c before came.0 t reap.1 reap.2 y reap.0 some (known table tags c before came.0 some came.1) came.2 reap.3 reap.4 reap.5)
 
 -- ---- the three lists
 
@@ -306,29 +319,37 @@ left_at at n tag t ticket named within =
     ∙ ap (λ j. slip_count tag ticket (posted_at j (at t)) + slip_count tag ticket (done_at j (at t)) + ticket_count tag ticket (held_at j (at t))) (sym named)
     ∙ in_one tag ticket (at t)
 
-pub keeps : (desk : MadeDesk) (clients : List Customer) (pumps : List Server) → 0 < desk.pumps → HasEachClientOf desk clients → HasEachPumpOf desk pumps
+pub keeps : (desk : MadeDesk) (clients : List Customer) (pumps : List Server) → 0 < desk.pumps → 0 < desk.tags → HasEachClientOf desk clients → HasEachPumpOf desk pumps
     → (c : ℕ) → c < desk.clients → KeepsTickets desk.table (seat_of clients c) (left_of desk clients pumps)
-keeps desk clients pumps some customers servers c below =
+keeps desk clients pumps some some_tags customers servers c below =
     let seat : Customer = seat_of clients c in
-    let number : seat.client ≡ c = (found_all client_number (IsClientOf desk) clients c no_customer customers.own (customers.there c below)).1 in
+    let found = found_all client_number (IsClientOf desk) clients c no_customer customers.own (customers.there c below) in
+    let number : seat.client ≡ c = found.1 in
+    let same : seat.tags ≡ desk.tags = found.0.2 in
+    let many : 0 < seat.tags = omega arith in
     record {
-      once = λ deeds came tag ticket own. (known desk.table seat.client deeds seat came).once tag ticket;
+      once = λ deeds came tag ticket own. (known desk.table seat.tags seat.client deeds seat many came).once tag ticket;
       kept =
           λ deeds came tag ticket own.
-          let was = known desk.table seat.client deeds seat came in
+          let was = known desk.table seat.tags seat.client deeds seat many came in
           let t : ℕ = tag - 1 in
           let named : tag ≡ t + 1 = let low = own.0 in omega arith in
-          let whose : t / TAGS ≡ c = own.1 ∙ number in
-          let within : t < TAGS * desk.clients = omega arith in
-          let at : ℕ → Standing = λ i. standing (client_view clients i) (work_line desk pumps i) in
-          let q : ℕ = t / TAGS % desk.pumps in
+          let is : suc t ≡ tag = omega arith in
+          let its : IsTagOf desk.tags c tag = subst (λ (p : ℕ × ℕ). IsTagOf p.0 p.1 tag) (λ i. (same i, number i)) own in
+          let whose : client_of desk.tags (suc t) ≡ c = ap (client_of desk.tags) is ∙ its.1 in
+          let which : slot_of desk.tags (suc t) ≡ slot_of seat.tags tag = λ i. slot_of (sym same i) (is i) in
+          let within : t < desk.tags * desk.clients = omega (arith, tag_within desk.tags c desk.clients tag some_tags its below) in
+          let at : ℕ → Standing = λ i. standing (client_view desk.tags clients i) (work_line desk pumps i) in
+          let q : ℕ = client_of desk.tags (suc t) % desk.pumps in
           let server : IsPumpOf desk (server_of pumps q) = (found_all pump_number (IsPumpOf desk) pumps q no_server servers.own (servers.there q (omega arith))).0 in
           let ended : ended_ticket (work_line desk pumps t) ≡ finished_ticket (work_line desk pumps t) =
           server.2 t None (let wide = server.0 in omega arith) in
-          let view : client_view clients t ≡ line_view seat.lines (t % TAGS) = ap (λ i. line_view (seat_of clients i).lines (t % TAGS)) whose in
-          let asked : IsAsked (client_view clients t) = subst IsAsked (sym view) (was.asked (t % TAGS) (omega arith)) in
+          let view : client_view desk.tags clients t ≡ line_view seat.lines (slot_of seat.tags tag) =
+          λ i. line_view (seat_of clients (whose i)).lines (which i) in
+          let asked : IsAsked (client_view desk.tags clients t) =
+          subst IsAsked (sym view) (was.asked (slot_of seat.tags tag) (slots-below_tags seat.tags tag many)) in
           was.each tag ticket own
           ∙ ap (λ i. reaped_count tag ticket deeds + i)
-          (sym (left_at at (TAGS * desk.clients) tag t ticket named within
-          ∙ stands ticket (client_view clients t) (work_line desk pumps t) asked ended ∙ ap (open_count ticket) view));
+          (sym (left_at at (desk.tags * desk.clients) tag t ticket named within
+          ∙ stands ticket (client_view desk.tags clients t) (work_line desk pumps t) asked ended ∙ ap (open_count ticket) view));
     }

@@ -1,3 +1,4 @@
+pub mod Tags
 pub mod Moves
 pub mod Steps
 pub mod Dealing

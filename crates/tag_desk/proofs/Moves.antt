@@ -15,6 +15,7 @@ use Rattle.tag_desk.specs.declared.rule.ClientView.{ClientView}
 use Rattle.tag_desk.specs.declared.rule.WorkView.{WorkView}
 use Rattle.tag_desk.specs.declared.rule.View.{View}
 use Rattle.tag_desk.specs.declared.rule.View.TheVariants.{Dealer, Client, Work, Both, Spent}
+use Rattle.tag_desk.specs.declared.rule.TagCounts.{TagCounts}
 use Rattle.tag_desk.specs.Rule.{Stage, Books, Knows, ClientKnows, WorkKnows, IsAt, IsDesk, Place}
 
 -- a function with one value changed
@@ -60,17 +61,17 @@ knows_moved b t k x clients works (Both j v w) h = (
 )
 knows_moved b t k x clients works Spent h = h
 
-at_moved : (k t m n : ℕ) (home slot : Place) (y x : Stage) → k ≡ t → m ≡ n → home ≡ slot → y ≡ x → IsAt t n slot x → IsAt k m home y
-at_moved k t m n home slot y x a b c d h =
-    subst (λ (p : ℕ × (ℕ × (Place × Stage))). IsAt p.0 p.1.0 p.1.1.0 p.1.1.1) (λ i. (sym a i, (sym b i, (sym c i, sym d i)))) h
+at_moved : (tags k t m n : ℕ) (home slot : Place) (y x : Stage) → k ≡ t → m ≡ n → home ≡ slot → y ≡ x → IsAt tags t n slot x → IsAt tags k m home y
+at_moved tags k t m n home slot y x a b c d h =
+    subst (λ (p : ℕ × (ℕ × (Place × Stage))). IsAt tags p.0 p.1.0 p.1.1.0 p.1.1.1) (λ i. (sym a i, (sym b i, (sym c i, sym d i)))) h
 
 -- one tag moves: its word, its slot, its stage, and what one seat knows of it
-pub moved : (tags : ℕ) (s : State (Option Slip) View) (held : IsDesk tags s) (t id n : ℕ) (slot : maybe.Option (Option Slip)) (x : Stage) (w : View)
-    → t < tags → t < held.books.dealt → IsAt t n (some slot) x → Knows (restaged held.books t x) id w
+pub moved : (counts : TagCounts) (s : State (Option Slip) View) (held : IsDesk counts s) (t id n : ℕ) (slot : maybe.Option (Option Slip)) (x : Stage) (w : View)
+    → t < counts.all → t < held.books.dealt → IsAt counts.each t n (some slot) x → Knows (restaged held.books t x) id w
     → ((k : ℕ) → k ≢ id → (v : ClientView) → held.books.client t ≡ k → ClientKnows v (held.books.stage t) → ClientKnows v x)
     → ((k : ℕ) → k ≢ id → (v : WorkView) → held.books.work t ≡ k → WorkKnows v (held.books.stage t) → WorkKnows v x)
-    → IsDesk tags record { words = slice_set s.words t n; homes = slice_set s.homes t slot; views = slice_set s.views id w }
-moved tags s held t id n slot x w within dealt at knows clients works =
+    → IsDesk counts record { words = slice_set s.words t n; homes = slice_set s.homes t slot; views = slice_set s.views id w }
+moved counts s held t id n slot x w within dealt at knows clients works =
     let b : Books = held.books in
     let wide : t < length s.words = let e = held.width in omega arith in
     let deep : t < length s.homes = let e = held.depth in omega arith in
@@ -85,9 +86,9 @@ moved tags s held t id n slot x w within dealt at knows clients works =
           (λ (e : k ≡ t).
           let word : get_or (set s.words t n) k 0 ≡ n = ap (λ i. get_or (set s.words t n) i 0) e ∙ get_or-set_same s.words t n 0 wide in
           let home : get_elem? (set s.homes t slot) k ≡ some slot = ap (get_elem? (set s.homes t slot)) e ∙ set_here s.homes t slot deep in
-          at_moved k t _ n _ (some slot) _ x e word home (updated_here b.stage t k x e) at)
+          at_moved counts.each k t _ n _ (some slot) _ x e word home (updated_here b.stage t k x e) at)
           (λ (e : k ≢ t).
-          at_moved k k _ _ _ _ _ _ refl (get_or-set_other s.words t k n 0 e) (set_else s.homes t k slot e) (updated_else b.stage t k x e)
+          at_moved counts.each k k _ _ _ _ _ _ refl (get_or-set_other s.words t k n 0 e) (set_else s.homes t k slot e) (updated_else b.stage t k x e)
           (held.each_tag k below));
       each_seat =
           λ k v there.
@@ -102,9 +103,9 @@ set_found (x ∷ xs) zero = refl
 set_found (x ∷ xs) (suc i) = ap (λ l. x ∷ l) (set_found xs i)
 
 -- a step that changed nothing
-pub unmoved : (tags : ℕ) (s : State (Option Slip) View) (t id : ℕ) (w : View) → IsDesk tags s → get_elem? s.views id ≡ some w
-    → IsDesk tags record { words = slice_set s.words t (slice_index s.words t); homes = s.homes; views = slice_set s.views id w }
-unmoved tags s t id w held at =
+pub unmoved : (counts : TagCounts) (s : State (Option Slip) View) (t id : ℕ) (w : View) → IsDesk counts s → get_elem? s.views id ≡ some w
+    → IsDesk counts record { words = slice_set s.words t (slice_index s.words t); homes = s.homes; views = slice_set s.views id w }
+unmoved counts s t id w held at =
     let words = set_found s.words t in
     let views = set_again s.views id w at in
-    subst (IsDesk tags) (λ i. record { words = sym words i; homes = s.homes; views = sym views i }) held
+    subst (IsDesk counts) (λ i. record { words = sym words i; homes = s.homes; views = sym views i }) held

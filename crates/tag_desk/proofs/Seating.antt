@@ -1,5 +1,5 @@
 -- One line of a seat that was read, and written back.
-use Rattle.std.proofs.Common.{◌≡◌, ℕ, zero, suc, ◌+◌, ◌-◌, ◌*◌, ◌/◌, ◌%◌, ◌<◌, ◌≢◌, List, [], ◌∷◌, length, set, get_or, sym, refl, ap, subst, ◌∙◌}
+use Rattle.std.proofs.Common.{◌≡◌, ℕ, zero, suc, ◌+◌, ◌-◌, ◌*◌, ◌%◌, ◌<◌, ◌≢◌, List, [], ◌∷◌, length, set, get_or, sym, refl, ap, subst, ◌∙◌}
 use Rattle.std.proofs.Common.{arith, Option, Some, None, MatchOption, IfSome, slice_get, All, Bool, true, false, if◌then◌else◌, nat_lt, ◌==◌}
 use mathlib.Core.Logic.{dite}
 use native.Mathlib.Decide.{ℕ_discrete}
@@ -13,10 +13,11 @@ use Rattle.tag_desk.specs.declared.rule.ClientView.{ClientView}
 use Rattle.tag_desk.specs.Seats.{MadeDesk, Customer, Server, ClientLine, WorkLine, HeldClaim, IsClientOf, IsPumpOf, IsServed, IsOnTable, IsFreeAt, ended_ticket, finished_ticket, finishing}
 use Rattle.tag_desk.specs.Slips.{IsEnd, ticket_in}
 use Rattle.tag_desk.specs.declared.Slip.TheVariants.{Ask, AskTask, Answer, Refused, Unserved}
-use Rattle.tag_desk.specs.Seats.{IsAway, ReapsAt, ClaimsAt, with_view, IsTagOf, new_line, AreNewCustomers, AreServersBelow}
+use Rattle.tag_desk.specs.Seats.{IsAllFree, IsAway, ReapsAt, ClaimsAt, with_view, new_line, AreNewCustomers, AreServersBelow}
 use Rattle.atomic_table.specs.Seated.{TableId}
 use Rattle.tag_desk.specs.declared.rule.WorkView.TheVariants.{Idle}
-use Rattle.uas_profile.specs.declared.TheConstants.{TAGS}
+use Rattle.uas_profile.specs.Tags.{client_of, slot_of}
+use Rattle.uas_profile.proofs.TagLaws.{slots-below_tags}
 
 -- writing a line back with another view is what `with_view` says
 pub set_view : (lines : List ClientLine) (k : ℕ) (l : ClientLine) (v : ClientView) → k < length lines → l ≡ get_or lines k l
@@ -52,16 +53,16 @@ view_here (x ∷ xs) (suc k) v l at = view_here xs k v l at
 
 -- a client's seat stays one of the desk
 pub own_posting : (desk : MadeDesk) (seat : Customer) (k least : ℕ) (v : ClientView) → IsClientOf desk seat
-    → IsClientOf desk (record { client = seat.client; least_ticket = least; lines = with_view seat.lines k v })
-own_posting desk seat k least v own = (own.0, λ j d within. view_table seat.lines k j v d ∙ own.1 j d within)
+    → IsClientOf desk (record { client = seat.client; tags = seat.tags; least_ticket = least; lines = with_view seat.lines k v })
+own_posting desk seat k least v own = (own.0, λ j d within. view_table seat.lines k j v d ∙ own.1 j d within, own.2)
 
 pub own_reaping : (desk : MadeDesk) (old new : Customer) (tag : ℕ) (y : Slip) → IsClientOf desk old → ReapsAt old new tag y → IsClientOf desk new
 own_reaping desk old new tag y own reaps =
-    subst (IsClientOf desk) (sym reaps.6) (own_posting desk old ((tag - 1) % TAGS) old.least_ticket (Free (reaps.1 + 1)) own)
+    subst (IsClientOf desk) (sym reaps.6) (own_posting desk old (slot_of old.tags tag) old.least_ticket (Free (reaps.1 + 1)) own)
 
 pub free_reaping : (old new : Customer) (tag : ℕ) (y : Slip) → ReapsAt old new tag y → IsFreeAt new tag
 free_reaping old new tag y reaps =
-    let k = (tag - 1) % TAGS in
+    let k = slot_of old.tags tag in
     let line : ClientLine = record { table = reaps.0.table; index = reaps.0.index; view = Free (reaps.1 + 1) } in
     subst (λ s. IsFreeAt s tag) (sym reaps.6) (line, view_here old.lines k (Free (reaps.1 + 1)) reaps.0 reaps.3, (reaps.1 + 1, refl))
 
@@ -98,12 +99,12 @@ pub own_finishing : (desk : MadeDesk) (seat : Server) (claim : HeldClaim) (y : S
     → IsEnd claim.tag claim.ticket y → IsPumpOf desk (finishing seat claim y)
 own_finishing desk seat claim y own same ends = own_setting desk seat (claim.tag - 1) _ own same (end_named claim.tag claim.ticket y ends)
 
-pub own_claiming : (desk : MadeDesk) (old new : Server) (tag ticket : ℕ) (claim : HeldClaim) → IsPumpOf desk old → ClaimsAt old new tag ticket claim
+pub own_claiming : (desk : MadeDesk) (old new : Server) (tag ticket : ℕ) (claim : HeldClaim) → IsPumpOf desk old → ClaimsAt desk.tags old new tag ticket claim
     → IsPumpOf desk new
 own_claiming desk old new tag ticket claim own claims = subst (IsPumpOf desk) (sym claims.5) (own_setting desk old (tag - 1) None own refl refl)
 
 pub away_claiming : (desk : MadeDesk) (old new : Server) (tag ticket : ℕ) (claim : HeldClaim) → IsPumpOf desk old → IsServed desk old tag
-    → ClaimsAt old new tag ticket claim → IsAway new tag
+    → ClaimsAt desk.tags old new tag ticket claim → IsAway new tag
 away_claiming desk old new tag ticket claim own served claims =
     let len = own.0 in
     let low = served.0 in
@@ -122,21 +123,26 @@ if_some A None some h = tt
 if_some A (Some x) some h = some x h
 
 -- the seats of a new desk are its own, and all tags are free
-pub own_new : (desk : MadeDesk) (clients : ℕ) (seats : List Customer) → desk.clients ≡ clients → AreNewCustomers desk.table clients seats
-    → All (IsClientOf desk) seats
-own_new desk clients seats is are c d within =
+pub own_new : (desk : MadeDesk) (tags clients : ℕ) (seats : List Customer) → desk.tags ≡ tags → desk.clients ≡ clients
+    → AreNewCustomers desk.table tags clients seats → All (IsClientOf desk) seats
+own_new desk tags clients seats each_has is are c d within =
     let count = are.count in
     let each = are.each c d (omega arith) in
-    let named = each.client in (omega arith, λ k l below. ap (λ (line : ClientLine). line.table) (each.lines k l below))
+    let named = each.client in (
+      omega arith,
+      λ k l below. ap (λ (line : ClientLine). line.table) (each.lines k l (let e = each.tags in omega arith)),
+      each.tags ∙ sym each_has,
+    )
 
-pub free_new : (table : TableId) (clients : ℕ) (seats : List Customer) → AreNewCustomers table clients seats → All (λ seat. (tag : ℕ)
-    → IsTagOf seat.client tag → IsFreeAt seat tag) seats
-free_new table clients seats are c d within tag own =
+pub free_new : (table : TableId) (tags clients : ℕ) (seats : List Customer) → 0 < tags → AreNewCustomers table tags clients seats → All IsAllFree seats
+free_new table tags clients seats some are c d within tag own =
     let count = are.count in
     let each = are.each c d (omega arith) in
-    let k : ℕ = (tag - 1) % TAGS in
-    let line : ClientLine = new_line table (TAGS * c + k) in
-    (line, slice_get_read (get_or seats c d).lines TAGS k line (sym each.count) (omega arith) (sym (each.lines k line (omega arith))), (0, refl))
+    let k : ℕ = slot_of tags tag in
+    let low : k < tags = slots-below_tags tags tag some in
+    let line : ClientLine = new_line table (tags * c + k) in
+    let there = slice_get_read (get_or seats c d).lines tags k line (sym each.count) low (sym (each.lines k line low)) in
+    (line, ap (λ n. slice_get (get_or seats c d).lines (slot_of n tag)) each.tags ∙ there, (0, refl))
 
 on_table_if : (desk : MadeDesk) (t : ℕ) (dealt serves : Bool)
     → IsOnTable desk.table (if dealt then (if serves then Some (record { table = desk.table; index = t; view = Idle }) else None) else None)
@@ -150,14 +156,14 @@ ended_if table t true true = refl
 ended_if table t true false = refl
 ended_if table t false serves = refl
 
-pub own_serving : (desk : MadeDesk) (seats : List Server) → AreServersBelow desk (TAGS * desk.clients) seats → All (IsPumpOf desk) seats
+pub own_serving : (desk : MadeDesk) (seats : List Server) → AreServersBelow desk (desk.tags * desk.clients) seats → All (IsPumpOf desk) seats
 own_serving desk seats are p d within =
     let count = are.count in
     let each = are.each p d (omega arith) in
     let all = each.count in (
       each.count,
-      λ t o below. subst (IsOnTable desk.table) (sym (each.lines t o (omega arith))) (on_table_if desk t (nat_lt t (TAGS * desk.clients))
-          (t / TAGS % desk.pumps == p)),
-      λ t o below. subst IsEndedWell (sym (each.lines t o (omega arith))) (ended_if desk.table t (nat_lt t (TAGS * desk.clients))
-          (t / TAGS % desk.pumps == p)),
+      λ t o below. subst (IsOnTable desk.table) (sym (each.lines t o (omega arith))) (on_table_if desk t (nat_lt t (desk.tags * desk.clients))
+          (client_of desk.tags (suc t) % desk.pumps == p)),
+      λ t o below. subst IsEndedWell (sym (each.lines t o (omega arith))) (ended_if desk.table t (nat_lt t (desk.tags * desk.clients))
+          (client_of desk.tags (suc t) % desk.pumps == p)),
     )

@@ -15,7 +15,8 @@ use Rattle.tag_desk.specs.declared.rule.WorkView.TheVariants.{Idle, Claimed, Fin
 use Rattle.tag_desk.specs.declared.rule.View.{View}
 use Rattle.tag_desk.specs.declared.rule.View.TheVariants.{Client, Work, Both, Spent}
 use Rattle.tag_desk.specs.Slips.{IsAsk, IsEnd}
-use Rattle.tag_desk.specs.Rule.{Stage, undealt, free, posted, taken, done, ClientKnows, WorkKnows, IsAt, IsDesk, Place, Sat, Lifts, Posts, Takes}
+use Rattle.tag_desk.specs.declared.rule.TagCounts.{TagCounts}
+use Rattle.tag_desk.specs.Rule.{Stage, undealt, free, posted, taken, done, ClientKnows, WorkKnows, IsAt, IsDesk, Place, Sat, Lifts, Posts, TakesOne}
 use Rattle.tag_desk.specs.Rule.{Books, Knows, IsAbove, Finishes, Looks, Settles, IsSettled, posted_word, done_word}
 use Rattle.tag_desk.specs.Seats.{IsHome}
 use Rattle.tag_desk.proofs.Moves.{moved, unmoved, restaged, updated_here}
@@ -54,64 +55,64 @@ above_at_posted (Finished k y) stage n x is h = subst (WorkKnows (Finished k y))
 
 -- ---- what a word tells of the stage
 
-IsPosted : ℕ → ℕ → Place → Stage → Type 0
-IsPosted t n slot stage = (x : Slip) × (stage ≡ posted n x) × (slot ≡ some (some (Some x))) × IsAsk (t + 1) n x
+IsPosted : ℕ → ℕ → ℕ → Place → Stage → Type 0
+IsPosted tags t n slot stage = (x : Slip) × (stage ≡ posted n x) × (slot ≡ some (some (Some x))) × IsAsk tags (t + 1) n x
 
 IsDone : ℕ → ℕ → Place → Stage → Type 0
 IsDone t n slot stage = (y : Slip) × (stage ≡ done n y) × (slot ≡ some (some (Some y))) × IsEnd (t + 1) n y
 
-posted_by_word : (t word n : ℕ) (slot : Place) (stage : Stage) → word ≡ posted_word n → IsAt t word slot stage → IsPosted t n slot stage
+posted_by_word : (tags t word n : ℕ) (slot : Place) (stage : Stage) → word ≡ posted_word n → IsAt tags t word slot stage → IsPosted tags t n slot stage
 unfolding IsPosted
-posted_by_word t word n slot undealt is at = absurd (omega arith)
-posted_by_word t word n slot (free m) is at = absurd (omega arith)
-posted_by_word t word n slot (posted m x) is at =
-    let e : m ≡ n = omega arith in (x, ap (λ k. posted k x) e, at.1, subst (λ k. IsAsk (t + 1) k x) e at.2)
-posted_by_word t word n slot (taken m) is at = absurd (omega arith)
-posted_by_word t word n slot (done m y) is at = absurd (omega arith)
+posted_by_word tags t word n slot undealt is at = absurd (omega arith)
+posted_by_word tags t word n slot (free m) is at = absurd (omega arith)
+posted_by_word tags t word n slot (posted m x) is at =
+    let e : m ≡ n = omega arith in (x, ap (λ k. posted k x) e, at.1, subst (λ k. IsAsk tags (t + 1) k x) e at.2)
+posted_by_word tags t word n slot (taken m) is at = absurd (omega arith)
+posted_by_word tags t word n slot (done m y) is at = absurd (omega arith)
 
-done_by_word : (t word n : ℕ) (slot : Place) (stage : Stage) → word ≡ done_word n → IsAt t word slot stage → IsDone t n slot stage
+done_by_word : (tags t word n : ℕ) (slot : Place) (stage : Stage) → word ≡ done_word n → IsAt tags t word slot stage → IsDone t n slot stage
 unfolding IsDone
-done_by_word t word n slot undealt is at = absurd (omega arith)
-done_by_word t word n slot (free m) is at = absurd (omega arith)
-done_by_word t word n slot (posted m x) is at = absurd (omega arith)
-done_by_word t word n slot (taken m) is at = absurd (omega arith)
-done_by_word t word n slot (done m y) is at =
+done_by_word tags t word n slot undealt is at = absurd (omega arith)
+done_by_word tags t word n slot (free m) is at = absurd (omega arith)
+done_by_word tags t word n slot (posted m x) is at = absurd (omega arith)
+done_by_word tags t word n slot (taken m) is at = absurd (omega arith)
+done_by_word tags t word n slot (done m y) is at =
     let e : m ≡ n = omega arith in (y, ap (λ k. done k y) e, at.1, subst (λ k. IsEnd (t + 1) k y) e at.2)
 
 -- ---- the steps
 
 -- a seat gives its slot back with a slip in it, and the word is written
-abbrev Stores : ℕ → ℕ → ℕ → ℕ → View → ℕ → Slip → (Step (Option Slip) → Sat → ℕ → Sat → Type 0) → Type 0
-Stores tags slots t id old word z Told =
-    Allows (IsDesk tags) slots id (old, (t, Some z) ∷ []) t (λ _. word) (Told (step slots t word 0 maybe.none) (old, (t, Some z) ∷ []))
+abbrev Stores : TagCounts → ℕ → ℕ → ℕ → View → ℕ → Slip → (Step (Option Slip) → Sat → ℕ → Sat → Type 0) → Type 0
+Stores counts slots t id old word z Told =
+    Allows (IsDesk counts) slots id (old, (t, Some z) ∷ []) t (λ _. word) (Told (step slots t word 0 maybe.none) (old, (t, Some z) ∷ []))
 
 -- which is allowed where the books say so once the tag is at its next stage
-stored : (tags slots t id word : ℕ) (old new : View) (z : Slip) (x : Stage) (Told : Step (Option Slip) → Sat → ℕ → Sat → Type 0) → t < tags
-    → ((found : ℕ) → Told (step slots t word 0 maybe.none) (old, (t, Some z) ∷ []) found (new, [])) → IsAt t word (some (some (Some z))) x
+stored : (counts : TagCounts) (slots t id word : ℕ) (old new : View) (z : Slip) (x : Stage) (Told : Step (Option Slip) → Sat → ℕ → Sat → Type 0) → t < counts.all
+    → ((found : ℕ) → Told (step slots t word 0 maybe.none) (old, (t, Some z) ∷ []) found (new, [])) → IsAt counts.each t word (some (some (Some z))) x
     → ((b : Books) → Knows b id old → (t < b.dealt) × Knows (restaged b t x) id new
     × ((k : ℕ) → k ≢ id → (v : ClientView) → b.client t ≡ k → ClientKnows v (b.stage t) → ClientKnows v x)
     × ((k : ℕ) → k ≢ id → (w : WorkView) → b.work t ≡ k → WorkKnows w (b.stage t) → WorkKnows w x))
-    → Stores tags slots t id old word z Told
-stored tags slots t id word old new z x Told within tells is next s held homes at fits =
+    → Stores counts slots t id old word z Told
+stored counts slots t id word old new z x Told within tells is next s held homes at fits =
     let known = next held.books (held.each_seat id old at) in
-    (new, gives, tt, moved tags s held t id word (some (Some z)) x new within known.0 is known.1 known.2 known.3, tells (slice_index s.words t))
+    (new, gives, tt, moved counts s held t id word (some (Some z)) x new within known.0 is known.1 known.2 known.3, tells (slice_index s.words t))
 
-pub post_allowed : (tags slots t id n last : ℕ) (x : Slip) → t < tags → last ≤ n → IsAsk (t + 1) n x
-    → Stores tags slots t id (Client t (Free last)) (4 * n + 1) x Posts
-post_allowed tags slots t id n last x within late ask =
+pub post_allowed : (counts : TagCounts) (slots t id n last : ℕ) (x : Slip) → t < counts.all → last ≤ n → IsAsk counts.each (t + 1) n x
+    → Stores counts slots t id (Client t (Free last)) (4 * n + 1) x Posts
+post_allowed counts slots t id n last x within late ask =
     let q : (4 * n + 1) / 4 ≡ n = omega arith in
     let new : View = Client t (Open ((4 * n + 1) / 4) x) in
-    stored tags slots t id (4 * n + 1) (Client t (Free last)) new x (posted n x) Posts within (λ found. refl) (refl, refl, ask) (λ b know. (
+    stored counts slots t id (4 * n + 1) (Client t (Free last)) new x (posted n x) Posts within (λ found. refl) (refl, refl, ask) (λ b know. (
       know.0,
       (know.0, know.1, subst (ClientKnows (Open ((4 * n + 1) / 4) x)) (sym (updated_here b.stage t t (posted n x) refl)) (sym q, refl)),
       (λ k other v own _. absurd (other (sym own ∙ know.1))),
       (λ k other w own h. work_at_free w (b.stage t) n x (last, know.2, late) h),
     ))
 
-pub finish_allowed : (tags slots t id n : ℕ) (y : Slip) → t < tags → IsEnd (t + 1) n y → Stores tags slots t id (Work t (Claimed n)) (4 * n + 3) y Finishes
-finish_allowed tags slots t id n y within end =
+pub finish_allowed : (counts : TagCounts) (slots t id n : ℕ) (y : Slip) → t < counts.all → IsEnd (t + 1) n y → Stores counts slots t id (Work t (Claimed n)) (4 * n + 3) y Finishes
+finish_allowed counts slots t id n y within end =
     let q : (4 * n + 3) / 4 ≡ n = omega arith in
-    stored tags slots t id (4 * n + 3) (Work t (Claimed n)) (Work t (Finished ((4 * n + 3) / 4) y)) y (done n y) Finishes within (λ found. refl)
+    stored counts slots t id (4 * n + 3) (Work t (Claimed n)) (Work t (Finished ((4 * n + 3) / 4) y)) y (done n y) Finishes within (λ found. refl)
     (refl, refl, end) (λ b know. (
       know.0,
       (know.0, know.1, subst (WorkKnows (Finished ((4 * n + 3) / 4) y)) (sym (updated_here b.stage t t (done n y) refl)) (sym q, refl)),
@@ -120,38 +121,39 @@ finish_allowed tags slots t id n y within end =
     ))
 
 -- what a compare-exchange of a seat may come to
-abbrev Comes : ℕ → State (Option Slip) View → ℕ → ℕ → Sat → (Sat → Type 0) → ℕ → Type 0
-Comes tags s t id me told n = (v : View) × (a : Act (Option Slip)) × Valid s.homes me.1 a × IsDesk tags (stepped s t n id me.1 v a)
+abbrev Comes : TagCounts → State (Option Slip) View → ℕ → ℕ → Sat → (Sat → Type 0) → ℕ → Type 0
+Comes counts s t id me told n = (v : View) × (a : Act (Option Slip)) × Valid s.homes me.1 a × IsDesk counts (stepped s t n id me.1 v a)
     × told (v, carried_after me.1 a)
 
-pub take_allowed : (tags slots t id n : ℕ) (w : WorkView) → t < tags
-    → Allows (IsDesk tags) slots id (Work t w, []) t (λ k. either (k == (4 * n + 1)) (4 * n + 2) k) (Takes (step slots t (4 * n + 1)
+-- a pump's seat takes such a slip of the ticket, where each ask of the tag is such a slip
+pub take_allowed : (Such : ℕ → Slip → Type 0) (counts : TagCounts) (slots t id n : ℕ) (w : WorkView) → t < counts.all
+    → ((x : Slip) → IsAsk counts.each (t + 1) n x → Such n x)
+    → Allows (IsDesk counts) slots id (Work t w, []) t (λ k. either (k == (4 * n + 1)) (4 * n + 2) k) (TakesOne Such (step slots t (4 * n + 1)
     (4 * n + 2) maybe.none) (Work t w, []))
 unfolding IsPosted
-take_allowed tags slots t id n w within s held homes at fits =
+take_allowed Such counts slots t id n w within such s held homes at fits =
     let me : Sat = (Work t w, []) in
     let found : ℕ = slice_index s.words t in
     let know = held.each_seat id (Work t w) at in
     let q : (4 * n + 1) / 4 ≡ n = omega arith in
     let b = held.books in
-    let Won : Sat → Type 0 = λ v. (x : Slip) × IsAsk (t + 1) ((4 * n + 1) / 4) x × IsAbove w ((4 * n + 1) / 4) × (v ≡ (Work t (Claimed ((4 * n + 1) / 4)), (t, Some x) ∷ [])) in
-    exchanged found (4 * n + 1) (4 * n + 2) (Comes tags s t id me (Takes (step slots t (4 * n + 1) (4 * n + 2) maybe.none) me found))
+    let Won : Sat → Type 0 = λ v. (x : Slip) × Such ((4 * n + 1) / 4) x × IsAbove w ((4 * n + 1) / 4) × (v ≡ (Work t (Claimed ((4 * n + 1) / 4)), (t, Some x) ∷ [])) in
+    exchanged found (4 * n + 1) (4 * n + 2) (Comes counts s t id me (TakesOne Such (step slots t (4 * n + 1) (4 * n + 2) maybe.none) me found))
     (λ (hit : found ≡ 4 * n + 1).
-    let is : IsPosted t n (get_elem? s.homes t) (b.stage t) = posted_by_word t found n (get_elem? s.homes t) (b.stage t) hit (held.each_tag t within) in
+    let is : IsPosted counts.each t n (get_elem? s.homes t) (b.stage t) = posted_by_word counts.each t found n (get_elem? s.homes t) (b.stage t) hit (held.each_tag t within) in
     let x : Slip = is.0 in
     let view : View = Work t (Claimed ((4 * n + 1) / 4)) in (
       view,
       takes t (Some x),
       is.2,
-      moved tags s held t id (4 * n + 2) maybe.none (taken n) view within know.0
+      moved counts s held t id (4 * n + 2) maybe.none (taken n) view within know.0
           (refl, refl)
           (know.0, know.1, updated_here b.stage t t (taken n) refl ∙ ap taken (sym q))
           (λ k other v own h. client_at_posted v (b.stage t) n x is.1 h)
           (λ k other v own _. absurd (other (sym own ∙ know.1))),
       subst (λ c. MatchBool c (Won (view, (t, Some x) ∷ [])) ((view, (t, Some x) ∷ []) ≡ me)) (sym (eq-eqb found (4 * n + 1) hit)) (
         x,
-        subst (λ k. IsAsk
-            (t + 1) k x) (sym q) is.3,
+        subst (λ k. Such k x) (sym q) (such x is.3),
         subst (IsAbove w) (sym q) (above_at_posted w (b.stage t) n x is.1 know.2),
         refl,
       ),
@@ -160,30 +162,30 @@ take_allowed tags slots t id n w within s held homes at fits =
       Work t w,
       keeps,
       tt,
-      unmoved tags s t id (Work t w) held at,
+      unmoved counts s t id (Work t w) held at,
       subst (λ c. MatchBool c (Won me) (me ≡ me)) (sym (ne_eqb found (4 * n + 1) miss)) refl,
     ))
 
-pub look_allowed : (tags slots t id n : ℕ) (mine : Slip) → t < tags
-    → Allows (IsDesk tags) slots id (Client t (Open n mine), []) t (λ k. either (k == (4 * n + 3)) (4 * n) k) (Looks (step slots t (4 * n + 3)
+pub look_allowed : (counts : TagCounts) (slots t id n : ℕ) (mine : Slip) → t < counts.all
+    → Allows (IsDesk counts) slots id (Client t (Open n mine), []) t (λ k. either (k == (4 * n + 3)) (4 * n) k) (Looks (step slots t (4 * n + 3)
     (4 * n) maybe.none) (Client t (Open n mine), []))
 unfolding IsDone
-look_allowed tags slots t id n mine within s held homes at fits =
+look_allowed counts slots t id n mine within s held homes at fits =
     let me : Sat = (Client t (Open n mine), []) in
     let found : ℕ = slice_index s.words t in
     let know = held.each_seat id (Client t (Open n mine)) at in
     let q : (4 * n + 3) / 4 ≡ n = omega arith in
     let b = held.books in
     let Won : Sat → Type 0 = λ v. (y : Slip) × IsEnd (t + 1) ((4 * n + 3) / 4) y × (v ≡ (Client t (Free ((4 * n + 3) / 4 + 1)), (t, Some y) ∷ [])) in
-    exchanged found (4 * n + 3) (4 * n) (Comes tags s t id me (Looks (step slots t (4 * n + 3) (4 * n) maybe.none) me found))
+    exchanged found (4 * n + 3) (4 * n) (Comes counts s t id me (Looks (step slots t (4 * n + 3) (4 * n) maybe.none) me found))
     (λ (hit : found ≡ 4 * n + 3).
-    let is : IsDone t n (get_elem? s.homes t) (b.stage t) = done_by_word t found n (get_elem? s.homes t) (b.stage t) hit (held.each_tag t within) in
+    let is : IsDone t n (get_elem? s.homes t) (b.stage t) = done_by_word counts.each t found n (get_elem? s.homes t) (b.stage t) hit (held.each_tag t within) in
     let y : Slip = is.0 in
     let view : View = Client t (Free ((4 * n + 3) / 4 + 1)) in (
       view,
       takes t (Some y),
       is.2,
-      moved tags s held t id (4 * n) maybe.none (free (n + 1)) view within know.0
+      moved counts s held t id (4 * n) maybe.none (free (n + 1)) view within know.0
           (omega arith, refl)
           (know.0, know.1, updated_here b.stage t t (free (n + 1)) refl ∙ ap (λ k. free (k + 1)) (sym q))
           (λ k other v own _. absurd (other (sym own ∙ know.1)))
@@ -199,23 +201,23 @@ look_allowed tags slots t id n mine within s held homes at fits =
       Client t (Open n mine),
       keeps,
       tt,
-      unmoved tags s t id (Client t (Open n mine)) held at,
+      unmoved counts s t id (Client t (Open n mine)) held at,
       subst (λ c. MatchBool c (Won me) (me ≡ me)) (sym (ne_eqb found (4 * n + 3) miss)) refl,
     ))
 
 -- the slot of a tag that is dealt whole
-pub lift_allowed : (tags slots t id : ℕ) → t < tags
-    → Allows (IsDesk tags) slots id (Both t Waiting Idle, []) t (λ k. k) (Lifts (step slots t 0 0 maybe.none) (Both t Waiting Idle, []))
-lift_allowed tags slots t id within s held homes at fits =
+pub lift_allowed : (counts : TagCounts) (slots t id : ℕ) → t < counts.all
+    → Allows (IsDesk counts) slots id (Both t Waiting Idle, []) t (λ k. k) (Lifts (step slots t 0 0 maybe.none) (Both t Waiting Idle, []))
+lift_allowed counts slots t id within s held homes at fits =
     let know = held.each_seat id (Both t Waiting Idle) at in
     let b = held.books in
-    let is = subst (IsAt t (slice_index s.words t) (get_elem? s.homes t)) know.3 (held.each_tag t within) in
+    let is = subst (IsAt counts.each t (slice_index s.words t) (get_elem? s.homes t)) know.3 (held.each_tag t within) in
     let view : View = Both t (Free 0) Idle in
     let none = is.0 in (
       view,
       takes t None,
       is.1,
-      moved tags s held t id (slice_index s.words t) maybe.none (free 0) view within know.0
+      moved counts s held t id (slice_index s.words t) maybe.none (free 0) view within know.0
           (omega arith, refl)
           (know.0, know.1, know.2, updated_here b.stage t t (free 0) refl, subst (WorkKnows Idle) (sym (updated_here b.stage t t (free 0) refl)) tt)
           (λ k other v own _. absurd (other (sym own ∙ know.1)))
@@ -227,14 +229,14 @@ lift_allowed tags slots t id within s held homes at fits =
 IsHeld : ℕ → ClientView → WorkView → ℕ → Place → Type 0
 IsHeld t v w word slot = (z : Slip) × (slot ≡ some (some (Some z))) × IsSettled v w word z
 
-held_open : (t word n : ℕ) (x : Slip) (w : WorkView) (slot : Place) (stage : Stage) → IsHome w → ClientKnows (Open n x) stage → WorkKnows w stage
-    → IsAt t word slot stage → IsHeld t (Open n x) w word slot
+held_open : (tags t word n : ℕ) (x : Slip) (w : WorkView) (slot : Place) (stage : Stage) → IsHome w → ClientKnows (Open n x) stage → WorkKnows w stage
+    → IsAt tags t word slot stage → IsHeld t (Open n x) w word slot
 unfolding IsHeld
-held_open t word n x w slot undealt idle client work at = absurd client
-held_open t word n x w slot (free m) idle client work at = absurd client
-held_open t word n x Idle slot (posted m y) idle client work at = let e = client.0 in (y, at.1, (omega (arith, at.0), client.1))
-held_open t word n x (Claimed k) slot (posted m y) idle client work at = absurd idle
-held_open t word n x (Finished k z) slot (posted m y) idle client work at = let e = client.0 in (
+held_open tags t word n x w slot undealt idle client work at = absurd client
+held_open tags t word n x w slot (free m) idle client work at = absurd client
+held_open tags t word n x Idle slot (posted m y) idle client work at = let e = client.0 in (y, at.1, (omega (arith, at.0), client.1))
+held_open tags t word n x (Claimed k) slot (posted m y) idle client work at = absurd idle
+held_open tags t word n x (Finished k z) slot (posted m y) idle client work at = let e = client.0 in (
   y,
   at.1,
   inl (
@@ -244,25 +246,25 @@ held_open t word n x (Finished k z) slot (posted m y) idle client work at = let 
     client.1,
   ),
 )
-held_open t word n x Idle slot (taken m) idle client work at = absurd work
-held_open t word n x (Claimed k) slot (taken m) idle client work at = absurd idle
-held_open t word n x (Finished k z) slot (taken m) idle client work at = absurd work
-held_open t word n x Idle slot (done m y) idle client work at = absurd work
-held_open t word n x (Claimed k) slot (done m y) idle client work at = absurd idle
-held_open t word n x (Finished k z) slot (done m y) idle client work at = let e = client in (y, at.1, inr (omega (arith, at.0), sym work.0 ∙ client, work.1))
+held_open tags t word n x Idle slot (taken m) idle client work at = absurd work
+held_open tags t word n x (Claimed k) slot (taken m) idle client work at = absurd idle
+held_open tags t word n x (Finished k z) slot (taken m) idle client work at = absurd work
+held_open tags t word n x Idle slot (done m y) idle client work at = absurd work
+held_open tags t word n x (Claimed k) slot (done m y) idle client work at = absurd idle
+held_open tags t word n x (Finished k z) slot (done m y) idle client work at = let e = client in (y, at.1, inr (omega (arith, at.0), sym work.0 ∙ client, work.1))
 
-pub settle_allowed : (tags slots t id n : ℕ) (x : Slip) (w : WorkView) → t < tags → IsHome w
-    → Allows (IsDesk tags) slots id (Both t (Open n x) w, []) t (λ k. 0) (Settles (step slots t 0 0 maybe.none) (Both t (Open n x) w, []))
+pub settle_allowed : (counts : TagCounts) (slots t id n : ℕ) (x : Slip) (w : WorkView) → t < counts.all → IsHome w
+    → Allows (IsDesk counts) slots id (Both t (Open n x) w, []) t (λ k. 0) (Settles (step slots t 0 0 maybe.none) (Both t (Open n x) w, []))
 unfolding IsHeld
-settle_allowed tags slots t id n x w within idle s held homes at fits =
+settle_allowed counts slots t id n x w within idle s held homes at fits =
     let know = held.each_seat id (Both t (Open n x) w) at in
     let b = held.books in
-    let is : IsHeld t (Open n x) w (slice_index s.words t) (get_elem? s.homes t) = held_open t (slice_index s.words t) n x w (get_elem? s.homes t)
+    let is : IsHeld t (Open n x) w (slice_index s.words t) (get_elem? s.homes t) = held_open counts.each t (slice_index s.words t) n x w (get_elem? s.homes t)
     (b.stage t) idle know.3 know.4 (held.each_tag t within) in (
       Spent,
       takes t (Some is.0),
       is.1,
-      moved tags s held t id 0 maybe.none (free 0) Spent within know.0
+      moved counts s held t id 0 maybe.none (free 0) Spent within know.0
           (refl, refl)
           tt
           (λ k other v own _. absurd (other (sym own ∙ know.1)))

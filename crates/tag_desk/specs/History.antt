@@ -15,17 +15,17 @@ pub data Deed : Type 0 where
 
 -- a post, as it is asked for and done
 pub record PostsAt (old new : Customer) (tag : ℕ) (x : Slip) : Type 0 where
-  pub own : IsTagOf old.client tag
+  pub own : IsTagOf old.tags old.client tag
   pub free : IsFreeAt old tag
   pub later : old.least_ticket ≤ ticket_in x
-  pub ask : IsAsk tag (ticket_in x) x
+  pub ask : IsAsk old.tags tag (ticket_in x) x
   pub is : new ≡ posting old tag (ticket_in x) x
 
--- client c's seat of a new desk came to this one by these deeds, of which the last stands first
-abbrev pub CameBy : TableId → ℕ → List Deed → Customer → Type 0
-CameBy table c [] seat = IsNewCustomer table c seat
-CameBy table c (posts tag x ∷ before) seat = (old : Customer) × CameBy table c before old × PostsAt old seat tag x
-CameBy table c (reaps tag y ∷ before) seat = (old : Customer) × CameBy table c before old × IsTagOf c tag × ReapsAt old seat tag y
+-- client c's seat of a new desk, with so many tags, came to this one by these deeds, of which the last stands first
+abbrev pub CameBy : TableId → ℕ → ℕ → List Deed → Customer → Type 0
+CameBy table tags c [] seat = IsNewCustomer table tags c seat
+CameBy table tags c (posts tag x ∷ before) seat = (old : Customer) × CameBy table tags c before old × PostsAt old seat tag x
+CameBy table tags c (reaps tag y ∷ before) seat = (old : Customer) × CameBy table tags c before old × IsTagOf tags c tag × ReapsAt old seat tag y
 
 -- one where the tag and the ticket are those that are counted: with tag 3 and ticket 7 counted, one for 3 and 7, none for 3 and 8
 abbrev pub one_of : ℕ → ℕ → ℕ → ℕ → ℕ
@@ -56,7 +56,7 @@ left_count tag ticket left = slip_count tag ticket left.posted + slip_count tag 
 -- Whatever a client's seat did since its desk was new: a ticket that it posted was looked up or stands in one of the three lists, once, and
 -- no ticket that it didn't post.
 pub record KeepsTickets (table : TableId) (seat : Customer) (left : Left) : Type 0 where
-  pub once : (deeds : List Deed) → CameBy table seat.client deeds seat → (tag ticket : ℕ) → IsTagOf seat.client tag
+  pub once : (deeds : List Deed) → CameBy table seat.tags seat.client deeds seat → (tag ticket : ℕ) → IsTagOf seat.tags seat.client tag
       → posted_count tag ticket deeds ≤ 1
-  pub kept : (deeds : List Deed) → CameBy table seat.client deeds seat → (tag ticket : ℕ) → IsTagOf seat.client tag
+  pub kept : (deeds : List Deed) → CameBy table seat.tags seat.client deeds seat → (tag ticket : ℕ) → IsTagOf seat.tags seat.client tag
       → posted_count tag ticket deeds ≡ reaped_count tag ticket deeds + left_count tag ticket left

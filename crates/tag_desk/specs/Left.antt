@@ -1,5 +1,5 @@
 -- What a desk has on it when it is closed.
-use Rattle.std.specs.Prelude.{◌≡◌, ◌≢◌, ◌⊎◌, All, ℕ, ◌+◌, ◌*◌, ◌/◌, ◌%◌, ◌<◌, ◌≤◌, ◌==◌, List, [], ◌∷◌, ◌++◌, Option, Some, None, length, slice_get, slice_index_or}
+use Rattle.std.specs.Prelude.{◌≡◌, ◌≢◌, ◌⊎◌, All, ℕ, ◌+◌, ◌*◌, ◌%◌, ◌<◌, ◌≤◌, ◌==◌, List, [], ◌∷◌, ◌++◌, Option, Some, None, length, slice_get, slice_index_or}
 use Rattle.std.specs.Prelude.{if◌then◌else◌, vec_len, vec_capacity}
 use Rattle.std.proofs.Common.{zero, suc}
 use Rattle.tag_desk.specs.declared.Slip.{Slip}
@@ -14,7 +14,7 @@ use Rattle.tag_desk.specs.declared.remains.Lists.{Lists}
 use Rattle.tag_desk.specs.declared.remains.Standing.{Standing}
 use Rattle.tag_desk.specs.declared.remains.Standing.TheVariants.{Nothing, Posted, Done, Held}
 use Rattle.tag_desk.specs.Seats.{MadeDesk, ClientLine, WorkLine, Customer, Server, IsClientOf, IsPumpOf}
-use Rattle.uas_profile.specs.declared.TheConstants.{TAGS}
+use Rattle.uas_profile.specs.Tags.{client_of, slot_of}
 
 -- a ticket that the client has open: the pump's slip stands where the pump finished that very ticket, and else the client's
 abbrev pub unclaimed : ℕ → Slip → WorkView → Standing
@@ -53,7 +53,7 @@ abbrev pub pump_number : Server → ℕ
 pump_number seat = seat.pump
 
 abbrev pub no_customer : Customer
-no_customer = record { client = 0; least_ticket = 0; lines = [] }
+no_customer = record { client = 0; tags = 0; least_ticket = 0; lines = [] }
 
 abbrev pub no_server : Server
 no_server = record { pump = 0; lines = [] }
@@ -66,13 +66,13 @@ seat_of seats c = numbered client_number seats c no_customer
 abbrev pub server_of : List Server → ℕ → Server
 server_of seats p = numbered pump_number seats p no_server
 
--- what the clients' seats know of the tag at index t: line t mod TAGS of client t div TAGS
-abbrev pub client_view : List Customer → ℕ → ClientView
-client_view seats t = line_view (seat_of seats (t / TAGS)).lines (t % TAGS)
+-- what the clients' seats know of tag t + 1 of so many of a client: its client's line of its slot
+abbrev pub client_view : ℕ → List Customer → ℕ → ClientView
+client_view tags seats t = line_view (seat_of seats (client_of tags (suc t))).lines (slot_of tags (suc t))
 
 -- the line of index t of the pump that serves its client
 abbrev pub work_line : MadeDesk → List Server → ℕ → Option WorkLine
-work_line desk seats t = slice_index_or (server_of seats (t / TAGS % desk.pumps)).lines t None
+work_line desk seats t = slice_index_or (server_of seats (client_of desk.tags (suc t) % desk.pumps)).lines t None
 
 abbrev pub posted_at : ℕ → Standing → List TagSlip
 posted_at tag Nothing = []
@@ -107,7 +107,7 @@ left_below at n = record {
 
 -- what is left on a desk, by rising tag: each ticket that a client has open is in one of the three lists, once
 abbrev pub left_of : MadeDesk → List Customer → List Server → Left
-left_of desk clients pumps = left_below (λ t. standing (client_view clients t) (work_line desk pumps t)) (TAGS * desk.clients)
+left_of desk clients pumps = left_below (λ t. standing (client_view desk.tags clients t) (work_line desk pumps t)) (desk.tags * desk.clients)
 
 -- all clients' seats of the desk, in order
 pub record IsAllClientsOf (desk : MadeDesk) (seats : List Customer) : Type 0 where
@@ -155,9 +155,10 @@ pub record HasRoom (n : ℕ) (lists : Lists) : Type 0 where
 
 -- at says of each tag of a client what stands there, by the client's lines and the pumps'
 abbrev pub Says : MadeDesk → Customer → List Server → (ℕ → Standing) → Type 0
-Says desk seat pumps at = (k : ℕ) → k < TAGS → at (TAGS * seat.client + k) ≡ standing (line_view seat.lines k) (work_line desk pumps (TAGS * seat.client + k))
+Says desk seat pumps at =
+    (k : ℕ) → k < desk.tags → at (desk.tags * seat.client + k) ≡ standing (line_view seat.lines k) (work_line desk pumps (desk.tags * seat.client + k))
 
 -- the lists of what stands below a client's tags become those of what stands below the next client's
 abbrev pub Gathers : MadeDesk → Customer → List Server → Left → Left → Type 0
-Gathers desk seat pumps old new = (at : ℕ → Standing) → Says desk seat pumps at → old ≡ left_below at (TAGS * seat.client)
-    → new ≡ left_below at (TAGS * seat.client + TAGS)
+Gathers desk seat pumps old new = (at : ℕ → Standing) → Says desk seat pumps at → old ≡ left_below at (desk.tags * seat.client)
+    → new ≡ left_below at (desk.tags * seat.client + desk.tags)

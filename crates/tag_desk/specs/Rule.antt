@@ -11,7 +11,8 @@ use Rattle.tag_desk.specs.declared.rule.WorkView.{WorkView}
 use Rattle.tag_desk.specs.declared.rule.WorkView.TheVariants.{Idle, Claimed, Finished}
 use Rattle.tag_desk.specs.declared.rule.View.{View}
 use Rattle.tag_desk.specs.declared.rule.View.TheVariants.{Dealer, Client, Work, Both, Spent}
-use Rattle.tag_desk.specs.Slips.{IsAsk, IsEnd}
+use Rattle.tag_desk.specs.declared.rule.TagCounts.{TagCounts}
+use Rattle.tag_desk.specs.Slips.{IsAsk, IsCommand, IsEnd, IsTask}
 
 -- The word of a tag is 4 x ticket + state: 0 free (with the last ticket, 0 at first), 1 posted, 2 taken, 3 done. Ticket 5 posted is 21.
 -- A free tag is told by the least number above all its tickets: by 0 at first, and by 6 after ticket 5
@@ -38,13 +39,13 @@ pub data Stage : Type 0 where
 abbrev pub Place : Type 0
 Place = maybe.Option (maybe.Option (Option Slip))
 
--- the word and the slot of tag t + 1 at its stage: the slot is at home with the slip where it is posted or done, and else out
-abbrev pub IsAt : ℕ → ℕ → Place → Stage → Type 0
-IsAt t word slot undealt = (word ≡ 0) × (slot ≡ some (some None))
-IsAt t word slot (free next) = (word ≡ free_word next) × (slot ≡ some maybe.none)
-IsAt t word slot (posted n x) = (word ≡ posted_word n) × (slot ≡ some (some (Some x))) × IsAsk (t + 1) n x
-IsAt t word slot (taken n) = (word ≡ taken_word n) × (slot ≡ some maybe.none)
-IsAt t word slot (done n y) = (word ≡ done_word n) × (slot ≡ some (some (Some y))) × IsEnd (t + 1) n y
+-- the word and the slot of tag t + 1 at its stage, of clients of so many tags: the slot is at home with the slip where it is posted or done, and else out
+abbrev pub IsAt : ℕ → ℕ → ℕ → Place → Stage → Type 0
+IsAt tags t word slot undealt = (word ≡ 0) × (slot ≡ some (some None))
+IsAt tags t word slot (free next) = (word ≡ free_word next) × (slot ≡ some maybe.none)
+IsAt tags t word slot (posted n x) = (word ≡ posted_word n) × (slot ≡ some (some (Some x))) × IsAsk tags (t + 1) n x
+IsAt tags t word slot (taken n) = (word ≡ taken_word n) × (slot ≡ some maybe.none)
+IsAt tags t word slot (done n y) = (word ≡ done_word n) × (slot ≡ some (some (Some y))) × IsEnd (t + 1) n y
 
 -- what a client has open stands in the word, and at posted its slip is at home
 abbrev pub IsOpen : ℕ → Slip → Stage → Type 0
@@ -95,16 +96,16 @@ Knows b k (Work t w) = (t < b.dealt) × (b.work t ≡ k) × WorkKnows w (b.stage
 Knows b k (Both t v w) = (t < b.dealt) × (b.client t ≡ k) × (b.work t ≡ k) × ClientKnows v (b.stage t) × WorkKnows w (b.stage t)
 Knows b k Spent = Unit {0}
 
-pub record IsDesk (tags : ℕ) (s : State (Option Slip) View) : Type 0 where
+pub record IsDesk (counts : TagCounts) (s : State (Option Slip) View) : Type 0 where
   pub books : Books
-  pub width : length s.words ≡ tags
-  pub depth : length s.homes ≡ tags
+  pub width : length s.words ≡ counts.all
+  pub depth : length s.homes ≡ counts.all
   pub fresh : (t : ℕ) → books.dealt ≤ t → books.stage t ≡ undealt
-  pub each_tag : (t : ℕ) → t < tags → IsAt t (slice_index s.words t) (get_elem? s.homes t) (books.stage t)
+  pub each_tag : (t : ℕ) → t < counts.all → IsAt counts.each t (slice_index s.words t) (get_elem? s.homes t) (books.stage t)
   pub each_seat : (k : ℕ) (v : View) → get_elem? s.views k ≡ some v → Knows books k v
 
-abbrev pub dealing : ℕ → View
-dealing tags = Dealer 0
+abbrev pub dealing : TagCounts → View
+dealing counts = Dealer 0
 
 abbrev pub Sat : Type 0
 Sat = Me (Option Slip) View
@@ -147,11 +148,22 @@ IsAbove Idle n = Unit {0}
 IsAbove (Claimed m) n = ⊥
 IsAbove (Finished m y) n = m < n
 
--- the slot comes with an ask of the ticket, which is above what the pump finished, where the word was posted with it
-abbrev pub Takes : Step (Option Slip) → Sat → ℕ → Sat → Type 0
-Takes s me found w = MatchBool (found == s.first)
-    ((x : Slip) × IsAsk (s.word + 1) (s.first / 4) x × IsAbove (work_in me.0) (s.first / 4) × (w ≡ (Work s.word (Claimed (s.first / 4)), (s.word, Some x) ∷ [])))
+-- the slot comes with such a slip of the ticket, which is above what the pump finished, where the word was posted with it
+abbrev pub TakesOne : (ℕ → Slip → Type 0) → Step (Option Slip) → Sat → ℕ → Sat → Type 0
+TakesOne Such s me found w = MatchBool (found == s.first)
+    ((x : Slip) × Such (s.first / 4) x × IsAbove (work_in me.0) (s.first / 4) × (w ≡ (Work s.word (Claimed (s.first / 4)), (s.word, Some x) ∷ [])))
     (w ≡ me)
+
+-- A step doesn't know how many tags a client has, and so not whether its tag is for task management: there is a step for either kind.
+abbrev pub Takes : Step (Option Slip) → Sat → ℕ → Sat → Type 0
+Takes s me found w = TakesOne IsCommand s me found w
+
+abbrev pub TakesTask : Step (Option Slip) → Sat → ℕ → Sat → Type 0
+TakesTask s me found w = TakesOne IsTask s me found w
+
+-- the pump's seat came to hold an ask of the ticket, which is above what it had finished, and has the claim
+abbrev pub Took : ℕ → ℕ → WorkView → ℕ → Sat → Type 0
+Took tags t v n w = (x : Slip) × IsAsk tags (t + 1) n x × IsAbove v n × (w ≡ (Work t (Claimed n), (t, Some x) ∷ []))
 
 -- the slot comes with an end of the ticket, where the word was done with it
 abbrev pub Looks : Step (Option Slip) → Sat → ℕ → Sat → Type 0

@@ -1,5 +1,5 @@
 -- The desk, its seats and its claims as their calls see them.
-use Rattle.std.specs.Prelude.{◌≡◌, ℕ, ◌+◌, ◌*◌, ◌-◌, ◌/◌, ◌%◌, ◌^◌, ◌<◌, ◌≤◌, List, [], ◌∷◌, Option, Some, None, length, slice_get, slice_set}
+use Rattle.std.specs.Prelude.{◌≡◌, ℕ, ◌+◌, ◌*◌, ◌-◌, ◌%◌, ◌^◌, ◌<◌, ◌≤◌, List, [], ◌∷◌, Option, Some, None, length, slice_get, slice_set}
 use Rattle.std.specs.Prelude.{slice_index_or, if◌then◌else◌, nat_lt, ◌==◌}
 use Rattle.std.proofs.Common.{zero, suc}
 use Rattle.atomic_table.specs.Seated.{TableId}
@@ -9,20 +9,24 @@ use Rattle.tag_desk.specs.declared.rule.ClientView.TheVariants.{Waiting, Free, O
 use Rattle.tag_desk.specs.declared.rule.WorkView.{WorkView}
 use Rattle.tag_desk.specs.declared.rule.WorkView.TheVariants.{Idle, Claimed, Finished}
 use Rattle.tag_desk.specs.declared.rule.View.TheVariants.{Client, Work}
+use Rattle.tag_desk.specs.declared.rule.TagCounts.{TagCounts}
 use Rattle.tag_desk.specs.Rule.{Sat, IsAbove}
 use Rattle.tag_desk.specs.Slips.{IsAsk, IsEnd, ticket_in}
-use Rattle.uas_profile.specs.declared.TheConstants.{MAX_CLIENTS, TAGS}
+use Rattle.uas_profile.specs.declared.TheConstants.{MAX_CLIENTS, STREAMS}
+use Rattle.uas_profile.specs.Tags.{AreTags, client_of, slot_of}
 
--- Which desk it is, and for how many clients and pumps it was made
+-- Which desk it is, and for how many tags of a client, clients and pumps it was made
 pub record MadeDesk : Type 0 where
+  pub tags : ℕ
   pub table : TableId
   pub clients : ℕ
   pub pumps : ℕ
 
--- a desk's table has a word and a slot for each tag, and its key is their number
-abbrev pub IsMade : MadeDesk → ℕ → Type 0
-IsMade desk key = (desk.table.words ≡ TAGS * desk.clients) × (desk.table.slots ≡ TAGS * desk.clients) × (key ≡ TAGS * desk.clients)
-    × (0 < desk.clients) × (desk.clients ≤ MAX_CLIENTS) × (0 < desk.pumps)
+-- a desk's table has a word and a slot for each tag, and its key says how many they are
+abbrev pub IsMade : MadeDesk → TagCounts → Type 0
+IsMade desk key = (desk.table.words ≡ desk.tags * desk.clients) × (desk.table.slots ≡ desk.tags * desk.clients) × (key.all ≡ desk.tags * desk.clients)
+    × (0 < desk.clients) × (desk.clients ≤ MAX_CLIENTS) × (0 < desk.pumps) × (key.each ≡ desk.tags) × AreTags desk.tags
+    × (desk.tags * desk.clients ≤ STREAMS)
 
 -- What a client knows of the tag at an index, which is the tag less 1
 pub record ClientLine : Type 0 where
@@ -91,13 +95,14 @@ IsHome (Finished n y) = Unit {0}
 abbrev pub Reaps : ClientLine → ClientLine → Slip → Type 0
 Reaps old new y = (n : ℕ) × (x : Slip) × (old.view ≡ Open n x) × IsEnd (old.index + 1) n y × (new ≡ record old { view = Free (n + 1) })
 
-abbrev pub IsClaimOf : WorkLine → ℕ → HeldClaim → Type 0
-IsClaimOf line ticket claim = (x : Slip) × IsAsk (line.index + 1) ticket x
+abbrev pub IsClaimOf : ℕ → WorkLine → ℕ → HeldClaim → Type 0
+IsClaimOf tags line ticket claim = (x : Slip) × IsAsk tags (line.index + 1) ticket x
     × (claim ≡ record { table = line.table; tag = line.index + 1; ticket = ticket; slip = Some x })
 
--- What a client has: the least ticket that it may post next, and a line for each of its tags
+-- What a client has: how many tags, the least ticket that it may post next, and a line for each of its tags
 pub record Customer : Type 0 where
   pub client : ℕ
+  pub tags : ℕ
   pub least_ticket : ℕ
   pub lines : List ClientLine
 
@@ -106,11 +111,13 @@ pub record Server : Type 0 where
   pub pump : ℕ
   pub lines : List (Option WorkLine)
 
--- line k of client c is that of tag TAGS c + k + 1, and no ticket on it is above the seat's least
+-- line k of client c is that of tag tags c + k + 1, and no ticket on it is above the seat's least
 abbrev pub IsCustomer : Customer → Type 0
-IsCustomer seat = (length seat.lines ≡ TAGS) × ((k : ℕ) (d : ClientLine) → k < TAGS → (slice_index_or seat.lines k d).index ≡ TAGS * seat.client + k)
+IsCustomer seat = (length seat.lines ≡ seat.tags)
+    × ((k : ℕ) (d : ClientLine) → k < seat.tags → (slice_index_or seat.lines k d).index ≡ seat.tags * seat.client + k)
     × (seat.client < MAX_CLIENTS)
-    × ((k : ℕ) (d : ClientLine) → k < TAGS → next_ticket (slice_index_or seat.lines k d).view ≤ seat.least_ticket)
+    × ((k : ℕ) (d : ClientLine) → k < seat.tags → next_ticket (slice_index_or seat.lines k d).view ≤ seat.least_ticket)
+    × AreTags seat.tags
 
 abbrev pub HasIndex : ℕ → Option WorkLine → Type 0
 HasIndex k None = Unit {0}
@@ -128,7 +135,9 @@ abbrev pub IsServer : Server → Type 0
 IsServer seat = (k : ℕ) (d : Option WorkLine) → k < length seat.lines → HasIndex k (slice_index_or seat.lines k d)
 
 abbrev pub IsClientOf : MadeDesk → Customer → Type 0
-IsClientOf desk seat = (seat.client < desk.clients) × ((k : ℕ) (d : ClientLine) → k < TAGS → (slice_index_or seat.lines k d).table ≡ desk.table)
+IsClientOf desk seat = (seat.client < desk.clients)
+    × ((k : ℕ) (d : ClientLine) → k < seat.tags → (slice_index_or seat.lines k d).table ≡ desk.table)
+    × (seat.tags ≡ desk.tags)
 
 -- the ticket that a pump finished last on a tag, 0 where it finished none or its line is out
 abbrev pub finished_in : WorkView → ℕ
@@ -152,20 +161,24 @@ ended_ticket (Some line) = ended_in line.view
 
 -- a pump's seat of the desk: its lines are of the desk's table, and what it finished it finished with an end of that ticket
 abbrev pub IsPumpOf : MadeDesk → Server → Type 0
-IsPumpOf desk seat = (length seat.lines ≡ TAGS * desk.clients) × ((k : ℕ) (d : Option WorkLine) → k < length seat.lines
+IsPumpOf desk seat = (length seat.lines ≡ desk.tags * desk.clients) × ((k : ℕ) (d : Option WorkLine) → k < length seat.lines
     → IsOnTable desk.table (slice_index_or seat.lines k d))
     × ((k : ℕ) (d : Option WorkLine) → k < length seat.lines → ended_ticket (slice_index_or seat.lines k d) ≡ finished_ticket (slice_index_or seat.lines k d))
 
--- tags TAGS c + 1 to TAGS c + TAGS are those of client c: with 16, tag 33 is the first of client 2
-abbrev pub IsTagOf : ℕ → ℕ → Type 0
-IsTagOf client tag = (1 ≤ tag) × ((tag - 1) / TAGS ≡ client)
+-- the tags of client c begin at c times `tags`, plus 1: tag 33 is the first of client 2 with 16, and of client 4 with 8
+abbrev pub IsTagOf : ℕ → ℕ → ℕ → Type 0
+IsTagOf tags client tag = (1 ≤ tag) × (client_of tags tag ≡ client)
 
 -- client c is served by pump c mod the number of pumps
 abbrev pub IsServed : MadeDesk → Server → ℕ → Type 0
-IsServed desk seat tag = (1 ≤ tag) × (tag ≤ TAGS * desk.clients) × ((tag - 1) / TAGS % desk.pumps ≡ seat.pump)
+IsServed desk seat tag = (1 ≤ tag) × (tag ≤ desk.tags * desk.clients) × (client_of desk.tags tag % desk.pumps ≡ seat.pump)
 
 abbrev pub IsFreeAt : Customer → ℕ → Type 0
-IsFreeAt seat tag = (line : ClientLine) × (slice_get seat.lines ((tag - 1) % TAGS) ≡ Some line) × IsFree line.view
+IsFreeAt seat tag = (line : ClientLine) × (slice_get seat.lines (slot_of seat.tags tag) ≡ Some line) × IsFree line.view
+
+-- all tags of the client are free
+abbrev pub IsAllFree : Customer → Type 0
+IsAllFree seat = (tag : ℕ) → IsTagOf seat.tags seat.client tag → IsFreeAt seat tag
 
 abbrev pub with_view : List ClientLine → ℕ → ClientView → List ClientLine
 with_view [] k v = []
@@ -174,17 +187,17 @@ with_view (line ∷ lines) (suc k) v = line ∷ with_view lines k v
 
 -- the seat after a post
 abbrev pub posting : Customer → ℕ → ℕ → Slip → Customer
-posting seat tag ticket x = record { client = seat.client; least_ticket = ticket + 1; lines = with_view seat.lines ((tag - 1) % TAGS) (Open ticket x) }
+posting seat tag ticket x = record seat { least_ticket = ticket + 1; lines = with_view seat.lines (slot_of seat.tags tag) (Open ticket x) }
 
 -- a look that gave a slip: it ends the ticket that was open on the tag, and the tag is free after it
 abbrev pub ReapsAt : Customer → Customer → ℕ → Slip → Type 0
-ReapsAt old new tag y = (line : ClientLine) × (n : ℕ) × (x : Slip) × (slice_get old.lines ((tag - 1) % TAGS) ≡ Some line) × (line.view ≡ Open n x)
+ReapsAt old new tag y = (line : ClientLine) × (n : ℕ) × (x : Slip) × (slice_get old.lines (slot_of old.tags tag) ≡ Some line) × (line.view ≡ Open n x)
     × IsEnd tag n y
-    × (new ≡ record old { lines = with_view old.lines ((tag - 1) % TAGS) (Free (n + 1)) })
+    × (new ≡ record old { lines = with_view old.lines (slot_of old.tags tag) (Free (n + 1)) })
 
 -- a claim that was given: it holds an ask of the ticket, and the pump's line is out with it
-abbrev pub ClaimsAt : Server → Server → ℕ → ℕ → HeldClaim → Type 0
-ClaimsAt old new tag ticket claim = (x : Slip) × IsAsk tag ticket x × (claim.slip ≡ Some x) × (claim.tag ≡ tag) × (claim.ticket ≡ ticket)
+abbrev pub ClaimsAt : ℕ → Server → Server → ℕ → ℕ → HeldClaim → Type 0
+ClaimsAt tags old new tag ticket claim = (x : Slip) × IsAsk tags tag ticket x × (claim.slip ≡ Some x) × (claim.tag ≡ tag) × (claim.ticket ≡ ticket)
     × (new ≡ record old { lines = slice_set old.lines (tag - 1) None })
 
 -- the pump's line of a tag is at home, and the ticket is above the one that it finished there last
@@ -208,16 +221,17 @@ finishing seat claim y = record seat {
 abbrev pub new_line : TableId → ℕ → ClientLine
 new_line table t = record { table = table; index = t; view = Free 0 }
 
--- a client's seat on a new desk: it posted nothing, and all its tags are free
-pub record IsNewCustomer (table : TableId) (c : ℕ) (seat : Customer) : Type 0 where
+-- client c's seat of n tags on a new desk: it posted nothing, and all its tags are free
+pub record IsNewCustomer (table : TableId) (n c : ℕ) (seat : Customer) : Type 0 where
   pub client : seat.client ≡ c
+  pub tags : seat.tags ≡ n
   pub least_ticket : seat.least_ticket ≡ 0
-  pub count : length seat.lines ≡ TAGS
-  pub lines : (k : ℕ) (d : ClientLine) → k < TAGS → slice_index_or seat.lines k d ≡ new_line table (TAGS * c + k)
+  pub count : length seat.lines ≡ n
+  pub lines : (k : ℕ) (d : ClientLine) → k < n → slice_index_or seat.lines k d ≡ new_line table (n * c + k)
 
 -- what pump p has of the tag at index t once the tags below an index are dealt: a line that claimed nothing yet, where it serves the tag
 abbrev pub server_line : MadeDesk → ℕ → ℕ → ℕ → Option WorkLine
-server_line desk p below t = if nat_lt t below then (if t / TAGS % desk.pumps == p then Some record {
+server_line desk p below t = if nat_lt t below then (if client_of desk.tags (suc t) % desk.pumps == p then Some record {
   table = desk.table;
   index = t;
   view =
@@ -226,8 +240,8 @@ server_line desk p below t = if nat_lt t below then (if t / TAGS % desk.pumps ==
 
 pub record IsServerBelow (desk : MadeDesk) (below p : ℕ) (seat : Server) : Type 0 where
   pub pump : seat.pump ≡ p
-  pub count : length seat.lines ≡ TAGS * desk.clients
-  pub lines : (t : ℕ) (d : Option WorkLine) → t < TAGS * desk.clients → slice_index_or seat.lines t d ≡ server_line desk p below t
+  pub count : length seat.lines ≡ desk.tags * desk.clients
+  pub lines : (t : ℕ) (d : Option WorkLine) → t < desk.tags * desk.clients → slice_index_or seat.lines t d ≡ server_line desk p below t
 
 -- a pump's seat before any tag is dealt
 abbrev pub ServesNone : ℕ → ℕ → Server → Type 0
@@ -235,13 +249,13 @@ ServesNone p tags seat = (seat.pump ≡ p) × (length seat.lines ≡ tags) × ((
 
 -- a pump's seat on a new desk
 abbrev pub IsNewServer : MadeDesk → ℕ → Server → Type 0
-IsNewServer desk p seat = IsServerBelow desk (TAGS * desk.clients) p seat
+IsNewServer desk p seat = IsServerBelow desk (desk.tags * desk.clients) p seat
 
 -- the pumps' seats once the tags below an index are dealt
 pub record AreServersBelow (desk : MadeDesk) (below : ℕ) (seats : List Server) : Type 0 where
   pub count : length seats ≡ desk.pumps
   pub each : (p : ℕ) (d : Server) → p < desk.pumps → IsServerBelow desk below p (slice_index_or seats p d)
 
-pub record AreNewCustomers (table : TableId) (clients : ℕ) (seats : List Customer) : Type 0 where
+pub record AreNewCustomers (table : TableId) (tags clients : ℕ) (seats : List Customer) : Type 0 where
   pub count : length seats ≡ clients
-  pub each : (c : ℕ) (d : Customer) → c < clients → IsNewCustomer table c (slice_index_or seats c d)
+  pub each : (c : ℕ) (d : Customer) → c < clients → IsNewCustomer table tags c (slice_index_or seats c d)

@@ -10,8 +10,8 @@
 //! is      client       the ask           claim       the end             client
 //! ```
 //!
-//! Tags `TAGS` c + 1 to `TAGS` c + `TAGS` are those of client c, the last of them for task management; pump c mod the number of pumps
-//! serves them. Each tag has two seats at the table of words, its client's and its pump's, and a seat knows what it did
+//! Tags `tags` c + 1 to `tags` c + `tags` are those of client c, the last of them for task management, where `tags` is a number of
+//! the desk; pump c mod the number of pumps serves them. Each tag has two seats at the table of words, its client's and its pump's, and a seat knows what it did
 //! there last. The rule, for each tag at all times:
 //!
 //! 1. Where the word is free, the client's seat has nothing open on the tag. Where it is posted, taken or done, its
@@ -25,7 +25,7 @@
 //! specs/Seats.antt). What `look` gives is an end of the ticket that the client posted, once. `close` tells what stands at each
 //! tag, and of a claim that is out the ticket alone. Whatever a client did, each ticket that it posted was looked up or stands
 //! in one of the lists that `close` gives, once (`KeepsTickets` in specs/History.antt). A `Slip` is neither `Copy` nor `Clone`:
-//! it is moved from one hand to the next. No call waits or scans, and `new` and `close` alone take memory. That `claim` and
+//! it is moved from one hand to the next. No call waits or scans, and `with_tags` and `close` alone take memory. That `claim` and
 //! `look` find a slip at all is no clause: a body that never gives one is refused by a test.
 //!
 //! It stands on `scsi_cmd` for requests and replies, and on `atomic_table`.
@@ -33,11 +33,12 @@
 
 ghost use Rattle.std.specs.Prelude.{◌≡◌, ℕ, ◌+◌, ◌-◌, ◌*◌, ◌/◌, ◌%◌, ◌^◌, ◌<◌, ◌≤◌, length, IfOk, IfSome, MatchOption, MatchResult, ◌⊎◌, All, IsTrue, ◌↔◌};
 ghost use Rattle.tag_desk.specs.Slips.{ticket_in, IsAsk, IsEnd};
-ghost use Rattle.tag_desk.specs.Seats.{IsClientOf, IsPumpOf, IsTagOf, IsServed, IsFreeAt, IsAway};
+ghost use Rattle.tag_desk.specs.Seats.{IsClientOf, IsPumpOf, IsTagOf, IsServed, IsAllFree, IsFreeAt, IsAway};
 ghost use Rattle.tag_desk.specs.Seats.{posting, finishing, ReapsAt, ClaimsAt, IsAboveLast, AreNewCustomers, AreServersBelow};
 ghost use Rattle.tag_desk.specs.Left.{HasEachClientOf, HasEachPumpOf, IsAllClientsOf, IsAllPumpsOf, left_of, seat_of};
 ghost use Rattle.tag_desk.specs.History.{KeepsTickets};
-ghost use Rattle.uas_profile.specs.declared.TheConstants.{MAX_CLIENTS};
+ghost use Rattle.uas_profile.specs.declared.TheConstants.{MAX_CLIENTS, STREAMS, USUAL_CLIENTS};
+ghost use Rattle.uas_profile.specs.Tags.{AreTags};
 
 mod closing;
 mod lines;
@@ -51,7 +52,7 @@ pub use remains::{Left, TagList, TagSlip, TagSlips, TagTicket, TagTickets};
 use scsi_cmd::{Buffer, Command, Reply, SubmitFault, Task};
 use std::alloc::{AllocError, Global};
 use std::marker::Model;
-use uas_profile::TAGS;
+use uas_profile::{TAGS, slot_of};
 
 /// Want of memory.
 pub type NoMemory = AllocError;
@@ -103,6 +104,7 @@ impl Slip {
 /// The desk, which threads share by reference.
 #[derive(Drop)]
 pub struct Desk {
+    tags: usize,
     table: rule::Words,
     clients: usize,
     pumps: usize,
@@ -113,9 +115,9 @@ impl Model for Desk {
 
     ghost Value = { MadeDesk };
 
-    ghost view = { λ d. record { table = d.table.shared.table_id; clients = d.clients; pumps = d.pumps } };
+    ghost view = { λ d. record { tags = d.tags; table = d.table.shared.table_id; clients = d.clients; pumps = d.pumps } };
 
-    ghost invariant = { λ d. IsMade record { table = d.table.shared.table_id; clients = d.clients; pumps = d.pumps } d.table.shared.key };
+    ghost invariant = { λ d. IsMade record { tags = d.tags; table = d.table.shared.table_id; clients = d.clients; pumps = d.pumps } d.table.shared.key };
 }
 
 /// A slip that was claimed: its tag and its ticket, and the slip itself until it is taken out. It holds the tag's seat
@@ -167,6 +169,7 @@ impl Claim {
 #[derive(Drop)]
 pub struct ClientSeat {
     client: usize,
+    tags: usize,
     least_ticket: u64,
     lines: Vec<Line>,
 }
@@ -176,19 +179,18 @@ impl Model for ClientSeat {
 
     ghost Value = { Customer };
 
-    ghost view = { λ s. record { client = s.client; least_ticket = s.least_ticket; lines = s.lines.items } };
+    ghost view = { λ s. record { client = s.client; tags = s.tags; least_ticket = s.least_ticket; lines = s.lines.items } };
 
-    ghost invariant = { λ s. IsCustomer record { client = s.client; least_ticket = s.least_ticket; lines = s.lines.items } };
+    ghost invariant = { λ s. IsCustomer record { client = s.client; tags = s.tags; least_ticket = s.least_ticket; lines = s.lines.items } };
 }
 
 impl ClientSeat {
     /// Whether the seat knows a tag of its client to be free.
     pub fn is_free(&self, tag: u16) -> bool
-        requires { IsTagOf self.now.client tag }
+        requires { IsTagOf self.now.tags self.now.client tag }
         ensures { IsTrue result ↔ IsFreeAt self.now tag }
     {
-        let index = usize::from(tag) - 1;
-        self.lines[index % TAGS].is_free()
+        self.lines[slot_of(self.tags, tag)].is_free()
     }
 }
 
@@ -217,20 +219,43 @@ pub struct Seats {
 }
 
 impl Desk {
-    /// A desk of free tags for 1 to 15 (`MAX_CLIENTS`) clients and 1, 2 or 4 pumps, and its seats.
+    /// A desk of `TAGS` free tags for each of 1 to 15 (`USUAL_CLIENTS`) clients and 1, 2 or 4 pumps, and its seats.
     pub fn new(alloc: Global, clients: usize, pumps: usize) -> Result<(Desk, Seats), NoMemory>
         requires some { 0 < clients }
-        requires most { clients ≤ MAX_CLIENTS }
+        requires most { clients ≤ USUAL_CLIENTS }
         requires pumps { (pumps ≡ 1) ⊎ (pumps ≡ 2) ⊎ (pumps ≡ 4) }
-        ensures desk { IfOk result (λ made. (made.0.clients ≡ clients) × (made.0.pumps ≡ pumps)) }
-        ensures clients { IfOk result (λ made. AreNewCustomers made.0.table clients made.1.clients.items) }
+        ensures desk { IfOk result (λ made. (made.0.clients ≡ clients) × (made.0.pumps ≡ pumps) × (made.0.tags ≡ TAGS)) }
+        ensures clients { IfOk result (λ made. AreNewCustomers made.0.table TAGS clients made.1.clients.items) }
         ensures pumps { IfOk result (λ made. AreServersBelow made.0 (TAGS * clients) made.1.pumps.items) }
         ensures client_own { IfOk result (λ made. All (IsClientOf made.0) made.1.clients.items) }
-        ensures client_free { IfOk result (λ made. All (λ seat. (tag : ℕ) → IsTagOf seat.client tag → IsFreeAt seat tag) made.1.clients.items) }
+        ensures client_free { IfOk result (λ made. All IsAllFree made.1.clients.items) }
         ensures pump_own { IfOk result (λ made. All (IsPumpOf made.0) made.1.pumps.items) }
         ensures all { IfOk result (λ made. IsAllClientsOf made.0 made.1.clients.items × IsAllPumpsOf made.0 made.1.pumps.items) }
     {
-        let (desk, mut dealer) = Desk::undealt(alloc, clients, pumps)?;
+        Desk::with_tags(alloc, clients, pumps, TAGS)
+    }
+
+    /// A desk of so many free tags, 2 to 16, for each of 1 to 31 (`MAX_CLIENTS`) clients, with 248 (`STREAMS`) tags at most, and its seats.
+    pub fn with_tags(
+        alloc: Global,
+        clients: usize,
+        pumps: usize,
+        tags: usize,
+    ) -> Result<(Desk, Seats), NoMemory>
+        requires some { 0 < clients }
+        requires most { clients ≤ MAX_CLIENTS }
+        requires pumps { (pumps ≡ 1) ⊎ (pumps ≡ 2) ⊎ (pumps ≡ 4) }
+        requires tags { AreTags tags }
+        requires streams { tags * clients ≤ STREAMS }
+        ensures desk { IfOk result (λ made. (made.0.clients ≡ clients) × (made.0.pumps ≡ pumps) × (made.0.tags ≡ tags)) }
+        ensures clients { IfOk result (λ made. AreNewCustomers made.0.table tags clients made.1.clients.items) }
+        ensures pumps { IfOk result (λ made. AreServersBelow made.0 (tags * clients) made.1.pumps.items) }
+        ensures client_own { IfOk result (λ made. All (IsClientOf made.0) made.1.clients.items) }
+        ensures client_free { IfOk result (λ made. All IsAllFree made.1.clients.items) }
+        ensures pump_own { IfOk result (λ made. All (IsPumpOf made.0) made.1.pumps.items) }
+        ensures all { IfOk result (λ made. IsAllClientsOf made.0 made.1.clients.items × IsAllPumpsOf made.0 made.1.pumps.items) }
+    {
+        let (desk, mut dealer) = Desk::undealt(alloc, clients, pumps, tags)?;
         let mut servers = desk.bare_servers(alloc)?;
         let customers = desk.deal_all(alloc, &mut dealer, &mut servers)?;
         let seats = Seats {
@@ -240,21 +265,28 @@ impl Desk {
         Ok((desk, seats))
     }
 
+    /// How many tags each client has.
+    pub fn tags(&self) -> usize
+        ensures { result ≡ self.now.tags }
+    {
+        self.tags
+    }
+
     /// Posts a slip on a tag of the client that its seat knows to be free: a task management on the last of its tags,
     /// a command on another one. The ticket is below `2^60` and above all that the seat posted.
     pub fn post(&self, seat: &mut ClientSeat, tag: u16, slip: Slip)
         requires own { IsClientOf self.now seat.old }
-        requires tag { IsTagOf seat.old.client tag }
+        requires tag { IsTagOf seat.old.tags seat.old.client tag }
         requires free { IsFreeAt seat.old tag }
         requires ticket { ticket_in slip < 2 ^ 60 }
         requires later { seat.old.least_ticket ≤ ticket_in slip }
-        requires ask { IsAsk tag (ticket_in slip) slip }
+        requires ask { IsAsk seat.old.tags tag (ticket_in slip) slip }
         ensures seat { seat.new ≡ posting seat.old tag (ticket_in slip) slip }
         ensures own { IsClientOf self.now seat.new }
     {
         let index = usize::from(tag) - 1;
         let ticket = slip.ticket();
-        seat.lines[index % TAGS].post(self, index, ticket, slip);
+        seat.lines[slot_of(seat.tags, tag)].post(self, index, ticket, slip);
         seat.least_ticket = ticket + 1;
     }
 
@@ -262,13 +294,13 @@ impl Desk {
     /// free; nothing where it didn't finish yet, or the tag is free.
     pub fn look(&self, seat: &mut ClientSeat, tag: u16) -> Option<Slip>
         requires own { IsClientOf self.now seat.old }
-        requires tag { IsTagOf seat.old.client tag }
+        requires tag { IsTagOf seat.old.tags seat.old.client tag }
         ensures slip { MatchOption result (seat.new ≡ seat.old) (ReapsAt seat.old seat.new tag) }
         ensures own { IsClientOf self.now seat.new }
         ensures free { IfSome result (λ slip. IsFreeAt seat.new tag) }
     {
         let index = usize::from(tag) - 1;
-        seat.lines[index % TAGS].look(self, index)
+        seat.lines[slot_of(seat.tags, tag)].look(self, index)
     }
 
     /// The claim of a ticket on a tag that the pump serves, where the client has it posted; nothing where it hasn't, or
@@ -278,7 +310,7 @@ impl Desk {
         requires served { IsServed self.now seat.old tag }
         requires ticket { ticket < 2 ^ 60 }
         ensures same { IfSome result (λ claim. claim.table ≡ self.now.table) }
-        ensures claim { MatchOption result (seat.new ≡ seat.old) (ClaimsAt seat.old seat.new tag ticket) }
+        ensures claim { MatchOption result (seat.new ≡ seat.old) (ClaimsAt self.now.tags seat.old seat.new tag ticket) }
         // It is above the ticket that the seat finished there last, so that none is claimed twice.
         ensures above { IfSome result (λ claim. IsAboveLast seat.old tag ticket) }
         ensures own { IsPumpOf self.now seat.new }
@@ -320,7 +352,7 @@ impl Desk {
         ensures left { MatchResult result (λ left. left ≡ left_of self seats.clients.items seats.pumps.items) (λ back. (back.1 ≡ self) × (back.2 ≡ seats)) }
         ensures kept { IfOk result (λ left. (c : ℕ) → c < self.clients → KeepsTickets self.table (seat_of seats.clients.items c) left) }
     {
-        match Lists::with_room(alloc, TAGS * self.clients) {
+        match Lists::with_room(alloc, self.all_tags()) {
             Err(fault) => Err((fault, self, seats)),
             Ok(mut lists) => {
                 self.settle_all(seats, &mut lists);

@@ -1,20 +1,20 @@
 //! What a client and a pump have of one tag, and the steps of each on its word.
-ghost use Rattle.std.specs.Prelude.{◌≡◌, ℕ, ◌+◌, ◌-◌, ◌*◌, ◌^◌, ◌<◌, ◌≤◌, Some, IfOk, IfSome, MatchOption, MatchResult, IsTrue, ◌↔◌};
+ghost use Rattle.std.specs.Prelude.{◌≡◌, ℕ, ◌+◌, ◌-◌, ◌*◌, ◌^◌, ◌<◌, ◌≤◌, Some, IfOk, IfSome, MatchBool, MatchOption, MatchResult, IsTrue, ◌↔◌};
 ghost use Rattle.tag_desk.specs.declared.rule.ClientView.TheVariants.{Open};
 ghost use Rattle.tag_desk.specs.declared.rule.WorkView.TheVariants.{Finished};
 ghost use Rattle.tag_desk.specs.Slips.{IsAsk, IsEnd};
 ghost use Rattle.tag_desk.specs.declared.rule.WorkView.TheVariants.{Idle};
 ghost use Rattle.tag_desk.specs.declared.rule.View.TheVariants.{Dealer};
 ghost use Rattle.tag_desk.specs.declared.Slip.{Slip};
-ghost use Rattle.tag_desk.specs.Rule.{client_in, IsAbove};
-ghost use Rattle.tag_desk.specs.Seats.{IsFree, Reaps, IsClaimOf, client_sat, new_line, next_ticket};
+ghost use Rattle.tag_desk.specs.Rule.{client_in, work_in, IsAbove, Took};
+ghost use Rattle.tag_desk.specs.Seats.{IsFree, Reaps, IsClaimOf, client_sat, work_sat, new_line, next_ticket};
 ghost use Rattle.tag_desk.specs.Left.{standing};
-ghost use Rattle.uas_profile.specs.declared.TheConstants.{TAGS};
 
 use crate::remains::Standing;
-use crate::rule::{Deal, Finish, Lift, Look, Part, Post, Settle, TableSeat, Take, Unite};
+use crate::rule::{Deal, Finish, Lift, Look, Part, Post, Settle, TableSeat, Take, TakeTask, Unite};
 use crate::{Claim, Desk, Slip};
 use std::marker::Model;
+use uas_profile::{slot_of, task_slot};
 
 /// A tag's word is `STATES` times its ticket, plus its state: 0 where it is free.
 pub(crate) const STATES: u64 = 4;
@@ -77,11 +77,11 @@ impl Line {
     pub(crate) fn post(&mut self, desk: &Desk, index: usize, ticket: u64, slip: Slip)
         requires table { self.old.table ≡ desk.now.table }
         requires index { self.old.index ≡ index }
-        requires within { index < TAGS * desk.now.clients }
+        requires within { index < desk.now.tags * desk.now.clients }
         requires free { IsFree self.old.view }
         requires ticket { ticket < 2 ^ 60 }
         requires later { next_ticket self.old.view ≤ ticket }
-        requires ask { IsAsk (index + 1) ticket slip }
+        requires ask { IsAsk desk.now.tags (index + 1) ticket slip }
         ensures { self.new ≡ record self.old { view = Open ticket slip } }
     {
         let shared = &desk.table.shared;
@@ -100,7 +100,7 @@ impl Line {
     pub(crate) fn look(&mut self, desk: &Desk, index: usize) -> Option<Slip>
         requires table { self.old.table ≡ desk.now.table }
         requires index { self.old.index ≡ index }
-        requires within { index < TAGS * desk.now.clients }
+        requires within { index < desk.now.tags * desk.now.clients }
         ensures { MatchOption result (self.new ≡ self.old) (λ slip. Reaps self.old self.new slip) }
     {
         let ticket = self.posted?;
@@ -118,7 +118,7 @@ impl Line {
     pub(crate) fn settle(self, desk: &Desk, index: usize, work: Option<Work>) -> Standing
         requires table { self.table ≡ desk.now.table }
         requires index { self.index ≡ index }
-        requires within { index < TAGS * desk.now.clients }
+        requires within { index < desk.now.tags * desk.now.clients }
         requires work { IfSome work (λ line. (line.table ≡ desk.now.table) × (line.index ≡ index)) }
         ensures { result ≡ standing self.view work }
     {
@@ -138,25 +138,17 @@ impl Work {
     pub(crate) fn claim(self, desk: &Desk, tag: u16, ticket: u64) -> Result<Claim, Work>
         requires table { self.table ≡ desk.now.table }
         requires tag { tag ≡ self.index + 1 }
-        requires within { tag ≤ TAGS * desk.now.clients }
+        requires within { tag ≤ desk.now.tags * desk.now.clients }
         requires ticket { ticket < 2 ^ 60 }
-        ensures claim { MatchResult result (λ claim. IsClaimOf self ticket claim) (λ work. work ≡ self) }
+        ensures claim { MatchResult result (λ claim. IsClaimOf desk.now.tags self ticket claim) (λ work. work ≡ self) }
         ensures above { IfOk result (λ claim. IsAbove self.view ticket) }
     {
         let Work { mut seat } = self;
-        let index = usize::from(tag) - 1;
-        let shared = &desk.table.shared;
-        let asked = STATES * ticket + POSTED;
-        let found = shared.compare_exchange::<Take>(
-            &mut seat,
-            index,
-            asked,
-            STATES * ticket + TAKEN,
-        );
-        if found != asked {
+        if !takes(desk, &mut seat, tag, ticket) {
             return Err(Work { seat });
         }
-        let slip = shared.exchange(&mut seat, index, None);
+        let index = usize::from(tag) - 1;
+        let slip = desk.table.shared.exchange(&mut seat, index, None);
         Ok(Claim {
             seat,
             tag,
@@ -169,7 +161,7 @@ impl Work {
     pub(crate) fn finish(claim: Claim, desk: &Desk, slip: Slip) -> Work
         requires table { claim.table ≡ desk.now.table }
         requires low { 1 ≤ claim.tag }
-        requires within { claim.tag ≤ TAGS * desk.now.clients }
+        requires within { claim.tag ≤ desk.now.tags * desk.now.clients }
         requires end { IsEnd claim.tag claim.ticket slip }
         ensures { result ≡ record { table = claim.table; index = claim.tag - 1; view = Finished claim.ticket slip } }
     {
@@ -191,7 +183,7 @@ impl Work {
     fn settle(self, desk: &Desk, index: usize, ticket: u64, mut seat: TableSeat) -> Standing
         requires table { (self.table ≡ desk.now.table) × (seat.table_id ≡ desk.now.table) }
         requires index { self.index ≡ index }
-        requires within { index < TAGS * desk.now.clients }
+        requires within { index < desk.now.tags * desk.now.clients }
         requires client { (x : Slip) × (seat.me ≡ client_sat index (Open ticket x)) }
         requires ticket { ticket < 2 ^ 60 }
         ensures { result ≡ standing (client_in seat.me.0) (Some self) }
@@ -211,9 +203,30 @@ impl Work {
     }
 }
 
+/// Whether the ticket is posted on the tag; then it is taken. What is posted there is told by the tag's kind.
+fn takes(desk: &Desk, seat: &mut TableSeat, tag: u16, ticket: u64) -> bool
+    requires table { seat.old.table_id ≡ desk.now.table }
+    requires low { 1 ≤ tag }
+    requires within { tag ≤ desk.now.tags * desk.now.clients }
+    requires pump { seat.old.me ≡ work_sat (tag - 1) (work_in seat.old.me.0) }
+    requires ticket { ticket < 2 ^ 60 }
+    ensures table { seat.new.table_id ≡ desk.now.table }
+    ensures took { MatchBool result (Took desk.now.tags (tag - 1) (work_in seat.old.me.0) ticket seat.new.me) (seat.new.me ≡ seat.old.me) }
+{
+    let index = usize::from(tag) - 1;
+    let shared = &desk.table.shared;
+    let asked = STATES * ticket + POSTED;
+    let taken = STATES * ticket + TAKEN;
+    if slot_of(desk.tags, tag) == task_slot(desk.tags) {
+        shared.compare_exchange::<TakeTask>(seat, index, asked, taken) == asked
+    } else {
+        shared.compare_exchange::<Take>(seat, index, asked, taken) == asked
+    }
+}
+
 /// The next tag of the dealer: the client's line and the pump's, and the slot with the client's.
 pub(crate) fn deal(desk: &Desk, dealer: &mut TableSeat, index: usize) -> (Line, Work)
-    requires within { index < TAGS * desk.now.clients }
+    requires within { index < desk.now.tags * desk.now.clients }
     requires table { dealer.old.table_id ≡ desk.now.table }
     requires next { dealer.old.me.0 ≡ Dealer index }
     ensures line { result.0 ≡ new_line desk.now.table index }

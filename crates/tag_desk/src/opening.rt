@@ -1,15 +1,16 @@
 //! How a new desk's tags are dealt: each tag is cut off the dealer's seat, and then into its client's and its pump's.
 
-ghost use Rattle.std.specs.Prelude.{◌≡◌, ◌+◌, ◌*◌, ◌<◌, ◌≤◌, length, slice_set, IfOk, Some};
+ghost use Rattle.std.specs.Prelude.{◌≡◌, suc, ◌+◌, ◌*◌, ◌<◌, ◌≤◌, length, slice_set, IfOk, Some};
 ghost use Rattle.tag_desk.specs.Seats.{ServesNone, new_line, IsNewCustomer, AreNewCustomers, AreServersBelow};
 ghost use Rattle.tag_desk.specs.declared.rule.View.TheVariants.{Dealer};
-ghost use Rattle.uas_profile.specs.declared.TheConstants.{MAX_CLIENTS};
+ghost use Rattle.uas_profile.specs.declared.TheConstants.{MAX_CLIENTS, STREAMS};
+ghost use Rattle.uas_profile.specs.Tags.{AreTags, client_of};
 
 use crate::lines::{self, Line, Work};
+use crate::rule::TagCounts;
 use crate::{ClientSeat, Desk, NoMemory, WorkSeat, rule};
 use atomic_table::Table;
 use std::alloc::Global;
-use uas_profile::TAGS;
 
 impl WorkSeat {
     /// A pump's seat that serves no tag yet.
@@ -38,22 +39,36 @@ impl Desk {
         alloc: Global,
         clients: usize,
         pumps: usize,
+        tags: usize,
     ) -> Result<(Desk, rule::TableSeat), NoMemory>
         requires some { 0 < clients }
         requires most { clients ≤ MAX_CLIENTS }
         requires pumps { 0 < pumps }
-        ensures desk { IfOk result (λ made. (made.0.clients ≡ clients) × (made.0.pumps ≡ pumps)) }
+        requires tags { AreTags tags }
+        requires streams { tags * clients ≤ STREAMS }
+        ensures desk { IfOk result (λ made. (made.0.clients ≡ clients) × (made.0.pumps ≡ pumps) × (made.0.tags ≡ tags)) }
         ensures dealer { IfOk result (λ made. (made.1.table_id ≡ made.0.table) × (made.1.me.0 ≡ Dealer 0)) }
     {
-        let tags = TAGS * clients;
-        let words = Vec::from_elem(alloc, 0, tags)?;
-        let (table, dealer) = Table::vacant(alloc, words.as_slice(), tags, &tags)?;
+        let counts = TagCounts {
+            each: tags,
+            all: tags * clients,
+        };
+        let words = Vec::from_elem(alloc, 0, counts.all)?;
+        let (table, dealer) = Table::vacant(alloc, words.as_slice(), counts.all, &counts)?;
         let desk = Desk {
+            tags,
             table,
             clients,
             pumps,
         };
         Ok((desk, dealer))
+    }
+
+    /// How many tags all clients have.
+    pub(crate) fn all_tags(&self) -> usize
+        ensures { result ≡ self.now.tags * self.now.clients }
+    {
+        self.tags * self.clients
     }
 
     /// A seat for each pump that serves no tag yet.
@@ -62,7 +77,7 @@ impl Desk {
     {
         let mut servers = Vec::with_capacity(alloc, self.pumps)?;
         for pump in 0..self.pumps {
-            let seat = WorkSeat::serving_none(alloc, pump, TAGS * self.clients)?;
+            let seat = WorkSeat::serving_none(alloc, pump, self.all_tags())?;
             servers.push(seat)?;
         }
         Ok(servers)
@@ -76,8 +91,8 @@ impl Desk {
     ) -> Result<Vec<ClientSeat>, NoMemory>
         requires dealer { (dealer.old.table_id ≡ self.now.table) × (dealer.old.me.0 ≡ Dealer 0) }
         requires servers { AreServersBelow self.now 0 servers.old.items }
-        ensures clients { IfOk result (λ seats. AreNewCustomers self.now.table self.now.clients seats.items) }
-        ensures pumps { IfOk result (λ seats. AreServersBelow self.now (TAGS * self.now.clients) servers.new.items) }
+        ensures clients { IfOk result (λ seats. AreNewCustomers self.now.table self.now.tags self.now.clients seats.items) }
+        ensures pumps { IfOk result (λ seats. AreServersBelow self.now (self.now.tags * self.now.clients) servers.new.items) }
     {
         let mut customers = Vec::with_capacity(alloc, self.clients)?;
         for client in 0..self.clients {
@@ -95,26 +110,34 @@ impl Desk {
         client: usize,
     ) -> Result<ClientSeat, NoMemory>
         requires client { (client < self.now.clients) × (client < MAX_CLIENTS) }
-        requires dealer { (dealer.old.table_id ≡ self.now.table) × (dealer.old.me.0 ≡ Dealer (TAGS * client)) }
-        requires servers { AreServersBelow self.now (TAGS * client) servers.old.items }
-        ensures seat { IfOk result (IsNewCustomer self.now.table client) }
-        ensures dealer { IfOk result (λ seat. (dealer.new.table_id ≡ self.now.table) × (dealer.new.me.0 ≡ Dealer (TAGS * client + TAGS))) }
-        ensures servers { IfOk result (λ seat. AreServersBelow self.now (TAGS * client + TAGS) servers.new.items) }
+        requires dealer { (dealer.old.table_id ≡ self.now.table) × (dealer.old.me.0 ≡ Dealer (self.now.tags * client)) }
+        requires servers { AreServersBelow self.now (self.now.tags * client) servers.old.items }
+        ensures seat { IfOk result (IsNewCustomer self.now.table self.now.tags client) }
+        ensures dealer { IfOk result (λ seat. (dealer.new.table_id ≡ self.now.table) × (dealer.new.me.0 ≡ Dealer (self.now.tags * client + self.now.tags))) }
+        ensures servers { IfOk result (λ seat. AreServersBelow self.now (self.now.tags * client + self.now.tags) servers.new.items) }
     {
-        let mut lines = Vec::with_capacity(alloc, TAGS)?;
-        let first = TAGS * client;
-        for k in 0..TAGS {
-            lines.push(self.deal(dealer, servers, first + k))?;
+        let mut lines = Vec::with_capacity(alloc, self.tags)?;
+        let first = self.tags * client;
+        for k in 0..self.tags {
+            lines.push(self.deal(dealer, servers, client, first + k))?;
         }
         Ok(ClientSeat {
             client,
+            tags: self.tags,
             least_ticket: 0,
             lines,
         })
     }
 
-    fn deal(&self, dealer: &mut rule::TableSeat, servers: &mut Vec<WorkSeat>, index: usize) -> Line
-        requires within { index < TAGS * self.now.clients }
+    fn deal(
+        &self,
+        dealer: &mut rule::TableSeat,
+        servers: &mut Vec<WorkSeat>,
+        client: usize,
+        index: usize,
+    ) -> Line
+        requires within { index < self.now.tags * self.now.clients }
+        requires client { client_of self.now.tags (suc index) ≡ client }
         requires dealer { (dealer.old.table_id ≡ self.now.table) × (dealer.old.me.0 ≡ Dealer index) }
         requires servers { AreServersBelow self.now index servers.old.items }
         ensures line { result ≡ new_line self.now.table index }
@@ -122,7 +145,7 @@ impl Desk {
         ensures servers { AreServersBelow self.now (index + 1) servers.new.items }
     {
         let (line, work) = lines::deal(self, dealer, index);
-        let pump = index / TAGS % self.pumps;
+        let pump = client % self.pumps;
         servers[pump].serve(index, work);
         line
     }

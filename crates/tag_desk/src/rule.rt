@@ -1,6 +1,6 @@
 //! The table of words and slots under the desk, what its seats know, and what each step tells.
 ghost use Rattle.tag_desk.specs.declared.rule.View.TheVariants.{Spent};
-ghost use Rattle.tag_desk.specs.Rule.{Lifts, Posts, Takes, Finishes, Looks, Settles, dealt_less, dealt, clients_part, pumps_part, united};
+ghost use Rattle.tag_desk.specs.Rule.{Lifts, Posts, Takes, TakesTask, Finishes, Looks, Settles, dealt_less, dealt, clients_part, pumps_part, united};
 
 use crate::Slip;
 use atomic_table::{Join, Play, Split, Table, TableRule};
@@ -31,11 +31,17 @@ pub enum View {
     Spent,
 }
 
+/// The numbers that a table is made for: the tags of each client, and the tags of all clients.
+#[derive(Drop)]
+pub struct TagCounts {
+    pub each: usize,
+    pub all: usize,
+}
+
 /// What holds of all words, slots and seats, at all times.
 pub struct Desked;
 
-impl TableRule<Option<Slip>, View, usize> for Desked {
-    ghost use Rattle.std.specs.Prelude.{ℕ};
+impl TableRule<Option<Slip>, View, TagCounts> for Desked {
     ghost use Rattle.tag_desk.specs.Rule.{IsDesk, dealing};
 
     ghost holds = { IsDesk };
@@ -47,7 +53,11 @@ pub(crate) struct Lift;
 
 pub(crate) struct Post;
 
+/// A command is taken.
 pub(crate) struct Take;
+
+/// A task management is taken.
+pub(crate) struct TakeTask;
 
 pub(crate) struct Finish;
 
@@ -65,6 +75,10 @@ impl Play<Option<Slip>, View> for Post {
 
 impl Play<Option<Slip>, View> for Take {
     ghost then = { Takes };
+}
+
+impl Play<Option<Slip>, View> for TakeTask {
+    ghost then = { TakesTask };
 }
 
 impl Play<Option<Slip>, View> for Finish {
@@ -105,6 +119,6 @@ impl Play<Option<Slip>, View> for Settle {
     ghost then = { Settles };
 }
 
-pub(crate) type Words = Table<Option<Slip>, View, usize, Desked, Global>;
+pub(crate) type Words = Table<Option<Slip>, View, TagCounts, Desked, Global>;
 
 pub(crate) type TableSeat = atomic_table::Seat<Option<Slip>, View>;

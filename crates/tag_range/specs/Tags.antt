@@ -80,6 +80,33 @@ free per tags tag =
     if tag == task_tag per tags.client then record tags { task_out = false } else
     record tags { out = slice_set tags.out (entry_of per tags tag) false }
 
+-- A client's tags, with how many it has. Each of the calls above is also one of these.
+pub record CountedTags : Type 0 where
+  pub tags : ℕ
+  pub held : ClientTags
+
+-- what a call left and answered, of as many tags
+abbrev pub counted : ℕ → ClientTags × Result (ℕ × ℕ) Refused → CountedTags × Result (ℕ × ℕ) Refused
+counted tags after = (record { tags = tags; held = after.0 }, after.1)
+
+-- By hand: client 1 of 8 tags begins with none of its tags 9 to 16 out.
+abbrev pub opening_counted : ℕ → ℕ → CountedTags
+opening_counted tags client = record { tags = tags; held = opening tags client }
+
+-- By hand: client 1 of 8 tags is given tag 9 first, and the eighth call is NoTag.
+abbrev pub issue_counted : CountedTags → CountedTags × Result (ℕ × ℕ) Refused
+issue_counted range = counted range.tags (issue range.tags range.held)
+
+-- By hand: client 1 of 8 tags has tag 16 for task management.
+abbrev pub issue_task_counted : CountedTags → CountedTags × Result (ℕ × ℕ) Refused
+issue_task_counted range = counted range.tags (issue_task range.tags range.held)
+
+abbrev pub free_counted : CountedTags → ℕ → CountedTags
+free_counted range tag = record { tags = range.tags; held = free range.tags range.held tag }
+
+abbrev pub is_issued_counted : CountedTags → ℕ → Bool
+is_issued_counted range tag = is_issued range.tags range.held tag
+
 -- A tag is the client's least free command tag: it is one of its command tags, it isn't out, and each one below it is.
 pub record IsLeastFree (per : ℕ) (tags : ClientTags) (tag : ℕ) : Type 0 where
   pub above : per * tags.client < tag

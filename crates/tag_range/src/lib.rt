@@ -1,9 +1,11 @@
 //! Tags and tickets of one client.
 //!
 //! In INCITS 471 (UAS) a command or a task management request carries a tag, which no other request that is outstanding may
-//! have, and which is the stream identifier of its data and its status. Here each client has `PER` tags of its own: client c
-//! has `PER * c + 1` to `PER * c + PER - 1` for commands and `PER * c + PER` for task management. Clients share no count and no
-//! tag, so a client is refused by what it has out itself and never by what another has out.
+//! have, and which is the stream identifier of its data and its status. Here each client has a number of tags of its own, 2 to
+//! 16: with `PER` of them, client c has `PER * c + 1` to `PER * c + PER - 1` for commands and `PER * c + PER` for task management.
+//! Clients share no count and no tag, so a client is refused by what it has out itself and never by what another has out.
+//!
+//! A [`ClientRange`] is given that number when it is made. A [`TagRange`] is a `ClientRange` whose number is a part of its type.
 //!
 //! ```text
 //! PER = 16   client 0              client 1                     client 14
@@ -21,12 +23,15 @@
 #![tactic(auto)]
 
 ghost use Rattle.std.specs.Prelude.{◌≡◌, ◌≢◌, ℕ, ◌+◌, ◌-◌, ◌*◌, ◌<◌, ◌≤◌, ◌^◌, ◌↔◌, IsTrue, Result, Ok, Err, IfOk, IfErr, OnOk, OnErr};
-ghost use Rattle.std.specs.Prelude.{IsNone, IfSome, Option, None, Some, true, not, count_by, position};
-ghost use Rattle.tag_range.specs.Tags.{flags, tickets};
+ghost use Rattle.std.specs.Prelude.{true, count_by};
+ghost use Rattle.tag_range.specs.Tags.{tickets};
 ghost use Rattle.tag_range.specs.declared.Refused.{Refused};
 ghost use Rattle.tag_range.specs.declared.Refused.TheVariants.{NoTag, TaskBusy, Worn};
 ghost use Rattle.uas_profile.specs.declared.TheConstants.{MAX_CLIENTS};
 
+mod client_range;
+
+pub use client_range::ClientRange;
 use std::marker::Model;
 use thiserror::Error;
 
@@ -52,32 +57,27 @@ pub enum Refused {
     Worn,
 }
 
-/// The tags and the tickets of one client that has `PER` tags, the last of them for task management.
+/// The tags and the tickets of one client that has `PER` tags, the last of them for task management: a [`ClientRange`] of that number.
 #[derive(Debug, Drop)]
 pub struct TagRange<const PER: usize> {
-    client: u8,
-    next: Ticket,
-    // Bit k is 1 where the command tag of index k + 1 is out.
-    out: u16,
-    task_out: bool,
+    range: ClientRange,
 }
 
 impl<const PER: usize> Model for TagRange<PER> {
-    ghost use Rattle.std.specs.Prelude.{◌<◌, ◌≤◌, ◌-◌, ◌^◌};
-    ghost use Rattle.tag_range.specs.Tags.{ClientTags, flags, tickets};
-    ghost use Rattle.uas_profile.specs.declared.TheConstants.{MAX_CLIENTS};
+    ghost use Rattle.std.specs.Prelude.{◌≡◌};
+    ghost use Rattle.tag_range.specs.Tags.{ClientTags};
 
     ghost Value = { ClientTags };
 
-    ghost view = { λ r. record { client = r.client; next = r.next; out = flags (PER - 1) r.out; task_out = r.task_out } };
+    ghost view = { λ r. r.range.held };
 
-    ghost invariant = { λ r. (2 ≤ PER) × (PER ≤ 16) × (r.client < MAX_CLIENTS) × (r.next ≤ tickets) × (r.out < 2 ^ (PER - 1)) };
+    ghost invariant = { λ r. r.range.tags ≡ PER };
 }
 
 impl<const PER: usize> TagRange<PER> {
     ghost use Rattle.tag_range.specs.Tags.{ClientTags, opening, issue, issue_task, free, is_issued, outstanding, commands_out, tickets, task_tag, IsLeastFree};
 
-    /// The range of a client below 15 (`MAX_CLIENTS`), with no tag out. `PER`, from 2 to 16, counts its tags.
+    /// The range of a client below 31 (`MAX_CLIENTS`), with no tag out. `PER`, from 2 to 16, counts its tags.
     pub fn new(client: u8) -> Self
         requires least_tags { 2 ≤ PER }
         requires most_tags { PER ≤ 16 }
@@ -85,10 +85,7 @@ impl<const PER: usize> TagRange<PER> {
         ensures { result ≡ opening PER client }
     {
         TagRange {
-            client,
-            next: 0,
-            out: 0,
-            task_out: false,
+            range: ClientRange::new(PER, client),
         }
     }
 
@@ -102,12 +99,7 @@ impl<const PER: usize> TagRange<PER> {
         ensures rising { OnOk result (self.new.next ≡ self.old.next + 1) }
         ensures refused { OnErr result (self.new ≡ self.old) }
     {
-        let Some(entry) = least_clear(self.out, PER - 1) else {
-            return Err(Refused::NoTag);
-        };
-        let ticket = next_ticket(&mut self.next)?;
-        self.out |= 1 << entry;
-        Ok((tag_at(PER, self.client, entry + 1), ticket))
+        self.range.issue()
     }
 
     /// Gives the task management tag and the next ticket, or refuses: `TaskBusy` where that tag is out, else `Worn`.
@@ -120,12 +112,7 @@ impl<const PER: usize> TagRange<PER> {
         ensures rising { OnOk result (self.new.next ≡ self.old.next + 1) }
         ensures refused { OnErr result (self.new ≡ self.old) }
     {
-        if self.task_out {
-            return Err(Refused::TaskBusy);
-        }
-        let ticket = next_ticket(&mut self.next)?;
-        self.task_out = true;
-        Ok((tag_at(PER, self.client, PER), ticket))
+        self.range.issue_task()
     }
 
     /// Takes back an issued tag, of either kind.
@@ -133,68 +120,20 @@ impl<const PER: usize> TagRange<PER> {
         requires { IsTrue (is_issued PER self.old tag) }
         ensures { self.new ≡ free PER self.old tag }
     {
-        let index = tag - tag_at(PER, self.client, 0);
-        if index as usize == PER {
-            self.task_out = false;
-        } else {
-            self.out &= !(1 << (index - 1));
-        }
+        self.range.free(tag)
     }
 
     /// Whether a tag is one of this client's that is out, so that `free` takes it back.
     pub fn is_issued(&self, tag: Tag) -> bool
         ensures { result ≡ is_issued PER self.now tag }
     {
-        let before = tag_at(PER, self.client, 0);
-        if tag <= before {
-            return false;
-        }
-        let index = (tag - before) as usize;
-        if index == PER {
-            self.task_out
-        } else {
-            index < PER && (self.out >> (index - 1)) & 1 == 1
-        }
+        self.range.is_issued(tag)
     }
 
     /// How many tags are out, of commands and of task management together.
     pub fn outstanding(&self) -> usize
         ensures { result ≡ outstanding self.now }
     {
-        self.out.count_ones() as usize + usize::from(self.task_out)
+        self.range.outstanding()
     }
-}
-
-fn tag_at(per: usize, client: u8, index: usize) -> Tag
-    requires most_tags { per ≤ 16 }
-    requires client_known { client < MAX_CLIENTS }
-    requires within { index ≤ per }
-    ensures { result ≡ per * client + index }
-{
-    (per * client as usize + index) as Tag
-}
-
-/// The least of the `count` lowest bits that is 0.
-fn least_clear(mask: u16, count: usize) -> Option<usize>
-    requires few { count < 16 }
-    requires within { mask < 2 ^ count }
-    ensures value { result ≡ position not (flags count mask) }
-    ensures none { IsNone result ↔ (count_by (λ is_set. is_set) (flags count mask) ≡ count) }
-    ensures bound { IfSome result (λ place. place < count) }
-{
-    let place = mask.trailing_ones() as usize;
-    if place < count { Some(place) } else { None }
-}
-
-fn next_ticket(next: &mut Ticket) -> Result<Ticket, Refused>
-    requires { next.old ≤ tickets }
-    ensures given { IfOk result (λ ticket. (ticket ≡ next.old) × (next.old < tickets) × (next.new ≡ next.old + 1)) }
-    ensures worn { IfErr result (λ why. (why ≡ Worn) × (next.old ≡ tickets) × (next.new ≡ next.old)) }
-{
-    if *next == TICKETS {
-        return Err(Refused::Worn);
-    }
-    let ticket = *next;
-    *next += 1;
-    Ok(ticket)
 }

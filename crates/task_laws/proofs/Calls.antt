@@ -1,5 +1,6 @@
 -- Each call leaves both devices the same and shows the same, and so does a list of calls. Cited by the laws.
 use Rattle.std.proofs.Common.{List, [], ◌∷◌, None, refl, ap, ap₂}
+use Rattle.uas_profile.specs.declared.TheConstants.{GREATEST_TAG}
 use Rattle.uas_target.specs.Device.{Receive, Give, Take, Send, called, opening}
 use Rattle.uas_tasks.specs.Machine.{slot_of}
 use Rattle.uas_tasks.specs.Slots.{with_task}
@@ -34,7 +35,7 @@ run_alike device backed (call ∷ calls) same wants =
     (ap₂ (λ (one : Seen) (others : List Seen). one ∷ others) first.1 rest.0, rest.1)
 
 pub one_device : OneDevice
-one_device units shapes calls new wants = (run_alike (opening units) _ calls (openings_same units shapes new) wants).0
+one_device units shapes calls new wants = (run_alike (opening GREATEST_TAG units) _ calls (openings_same units shapes new) wants).0
 
 pub stays_one : StaysOneDevice
-stays_one units shapes calls new wants = (run_alike (opening units) _ calls (openings_same units shapes new) wants).1
+stays_one units shapes calls new wants = (run_alike (opening GREATEST_TAG units) _ calls (openings_same units shapes new) wants).1

@@ -55,6 +55,14 @@ slots_at counts (task ∷ tasks) (slot ∷ slots) (suc place) same within = slot
 slots_at counts [] (slot ∷ slots) place same within = absurd same
 slots_at counts (task ∷ tasks) [] place same within = absurd same
 
+-- as many tasks as slots
+pub same_long : (counts : List ℕ) (tasks : List (Option DeviceTask)) (slots : List SlotState) → SameTasks counts tasks slots →
+    length tasks ≡ length slots
+same_long counts [] [] same = refl
+same_long counts (task ∷ tasks) (slot ∷ slots) same = ap suc (same_long counts tasks slots same.1)
+same_long counts [] (slot ∷ slots) same = absurd same
+same_long counts (task ∷ tasks) [] same = absurd same
+
 -- a tag that a task may have
 abbrev pub IsThere : ℕ → List SlotState → Type 0
 IsThere tag slots = (1 ≤ tag) × (tag ≤ length slots)

@@ -6,7 +6,6 @@ use Rattle.std.specs.Option.{option_map_or}
 use Rattle.std.proofs.lemmas.List.{length-map}
 use Rattle.block_unit.specs.BlockMaps.{BlockMaps, with_attention}
 use Rattle.host_commands.specs.declared.UnitAttention.TheVariants.{Reset}
-use Rattle.uas_profile.specs.declared.TheConstants.{GREATEST_TAG}
 use Rattle.uas_target.specs.declared.DeviceAnswer.{DeviceAnswer}
 use Rattle.uas_target.specs.declared.DeviceAnswer.TheVariants.{Status, Response}
 use Rattle.uas_target.specs.declared.DeviceTask.{DeviceTask}
@@ -28,7 +27,7 @@ use Rattle.task_laws.specs.Same.{Same, SameSlot, SameTasks, SameUnit, SameUnits}
 use Rattle.task_laws.proofs.Cases.{SameUnit-with, SlotCases, UnitCases, slot_cases, unit_cases, unit_with}
 use Rattle.task_laws.proofs.Devices.{Found, addressed_cases, counts_kept, same_tag}
 use Rattle.task_laws.proofs.Free.{completed_free, same_free}
-use Rattle.task_laws.proofs.Lists.{set_found, slot_so, slots_map, units_set}
+use Rattle.task_laws.proofs.Lists.{same_long, set_found, slot_so, slots_map, units_set}
 
 -- ONE TASK
 
@@ -242,4 +241,5 @@ reset_by device backed many same is =
     }
 
 pub resets_alike : ResetsAreSame
-resets_alike device backed same = reset_by device backed GREATEST_TAG same same.places
+resets_alike device backed same =
+    reset_by device backed (length device.tasks) same (sym (same_long (counts_of device.units) device.tasks backed.machine.slots same.tasks))

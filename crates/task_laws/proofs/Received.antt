@@ -1,7 +1,7 @@
 -- Whatever bytes are received leave both devices the same, and are answered the same. Cited by the law of calls.
 use Rattle.std.proofs.Common.{◌≡◌, ℕ, ◌^◌, ◌≤◌, Bool, true, false, not, ◌&&◌, cond, List, length, Option, Some, None, IfSome, is_some, Result, Ok, Err}
-use Rattle.std.proofs.Common.{refl, arith, ap, sym, subst, inl, inr}
-use Rattle.std.specs.Prelude.{◌==◌, nat_le, slice_get, slice_index}
+use Rattle.std.proofs.Common.{refl, arith, ap, sym, subst, inl, inr, ◌∙◌}
+use Rattle.std.specs.Prelude.{◌==◌, nat_lt, nat_le, slice_get, slice_index}
 use Rattle.std.proofs.lemmas.Bool.{and_right, cases_Bool}
 use Rattle.block_unit.specs.BlockMaps.{BlockMaps, with_attention}
 use Rattle.block_unit.specs.Laws.{IsSized}
@@ -30,9 +30,9 @@ use Rattle.uas_target.specs.declared.DeviceTask.TheVariants.{Ended as TargetEnde
 use Rattle.uas_target.specs.declared.Overlap.{Overlap}
 use Rattle.uas_target.specs.declared.Took.{Took}
 use Rattle.uas_target.specs.declared.Took.TheVariants.{Began}
-use Rattle.uas_target.specs.Device.{Device, dropped, executed, executed_on, managed, on_its_tag, received, received_unit, received_unreadable, task_of, with_code, with_response}
+use Rattle.uas_target.specs.Device.{Device, dropped, executed, executed_on, has_place, managed, on_its_tag, received, received_unit, received_unreadable, task_of, with_code, with_response}
 use Rattle.uas_target.specs.Device.{with_units_and_task}
-use Rattle.uas_target.specs.Fields.{is_tag, tag_in, lun_in, cdb_in, function_in, task_tag_in}
+use Rattle.uas_target.specs.Fields.{tag_in, lun_in, cdb_in, function_in, task_tag_in}
 use Rattle.uas_target.specs.Soundness.{IsSoundTask, counts_of}
 use Rattle.uas_target.specs.Tasks.{begun_by, task_in}
 use Rattle.uas_target.proofs.Counts.{slice_get-counts_of}
@@ -42,7 +42,7 @@ use Rattle.uas_tasks.specs.declared.Task.{Task}
 use Rattle.uas_tasks.specs.declared.Task.TheVariants.{Ended}
 use Rattle.uas_tasks.specs.Machine.{Machine, has_task, no_slot, slot_of}
 use Rattle.uas_tasks.specs.Machine as tasks
-use Rattle.uas_tasks.specs.Slots.{SlotState, started, started_none, with_task}
+use Rattle.uas_tasks.specs.Slots.{SlotState, is_tag, started, started_none, with_task}
 use Rattle.uas_tasks.proofs.Machines.{tag_there}
 use Rattle.task_laws.specs.Backed.{Backed, backed_received, done_soon, with_machine}
 use Rattle.task_laws.specs.Same.{Same}
@@ -51,7 +51,7 @@ use Rattle.task_laws.proofs.Cases.{SlotCases, UnitCases, slot_cases, unit_cases,
 use Rattle.task_laws.proofs.Commanded.{Place, at_once, begins_same, free_slot}
 use Rattle.task_laws.proofs.Devices.{Found, addressed_cases, device_with, same_tag}
 use Rattle.task_laws.proofs.Soon.{backed_at, soon_too}
-use Rattle.task_laws.proofs.Lists.{IsThere, slot_so}
+use Rattle.task_laws.proofs.Lists.{IsThere, same_long, slot_so}
 use Rattle.task_laws.proofs.Managed.{answers_code, coded_alike, managed_alike}
 
 -- A COMMAND TO A LOGICAL UNIT
@@ -237,6 +237,11 @@ have_alike device backed tag same =
     slot_so HaveAlike (counts_of device.units) device.tasks backed.machine.slots tag refl
     (slot_cases (counts_of device.units) HaveAlike (have_cases (counts_of device.units))) same.tasks
 
+-- both have a place for the same tags
+places_alike : (device : Device) (backed : Backed) (tag : ℕ) → Same device backed → has_place device tag ≡ is_tag tag
+places_alike device backed tag same =
+    ap (λ many. nat_lt 0 tag && nat_le tag many) (same_long (counts_of device.units) device.tasks backed.machine.slots same.tasks ∙ same.places)
+
 -- both devices, and the answers of the call
 abbrev ReceivedAlike : Backed → ℕ → Device × Result Took Overlap → Machine × Result Took Overlap → Type 0
 ReceivedAlike backed tag one two = Same one.0 (done_soon (with_machine backed two.0) tag) × (two.1 ≡ one.1)
@@ -256,7 +261,9 @@ tag_alike : (device : Device) (backed : Backed) (tag : ℕ) (after : Device) (ne
 tag_alike device backed tag after next same so =
     let one : Bool → Bool → Device × Result Took Overlap = λ ok has. cond (not ok) (dropped device) (cond has (device, Err (record {})) (after, Ok (Began tag))) in
     let two : Bool → Bool → Machine × Result Took Overlap = λ ok has. cond (not ok) (tasks.dropped backed.machine) (cond has (backed.machine, Err (record {})) (next, Ok (Began tag))) in
-    subst (λ has. ReceivedAlike backed tag (one (is_tag tag) (is_some (task_of device tag))) (two (is_tag tag) has)) (sym (have_alike device backed tag same))
+    subst (λ ok. ReceivedAlike backed tag (one ok (is_some (task_of device tag))) (two (is_tag tag) (has_task backed.machine tag)))
+    (sym (places_alike device backed tag same))
+    (subst (λ has. ReceivedAlike backed tag (one (is_tag tag) (is_some (task_of device tag))) (two (is_tag tag) has)) (sym (have_alike device backed tag same))
     (elim (is_tag tag) as (λ ok. is_tag tag ≡ ok → ReceivedAlike backed tag (one ok (is_some (task_of device tag))) (two ok (is_some (task_of device tag)))) [
       | true ↦ λ is.
           let there = tag_there tag backed.machine.slots is same.places in
@@ -266,7 +273,7 @@ tag_alike device backed tag after next same so =
             | Some task ↦ λ busy. (soon_too device backed tag same, refl)
           ] refl
       | false ↦ λ is. (soon_too device backed tag same, refl)
-    ] refl)
+    ] refl))
 
 unreadable_alike : (device : Device) (backed : Backed) (bytes : List ℕ) (tag : ℕ) → Same device backed →
     ReceivedAlike backed tag (received_unreadable device bytes tag) (tasks.received_unreadable backed.machine bytes tag)
@@ -275,10 +282,13 @@ unreadable_alike device backed bytes tag same =
     let told_too : Machine × Result Took Overlap = (tasks.with_task_on backed.machine tag (tasks.responded 2), Ok (Began tag)) in
     let two : Bool → Machine × Result Took Overlap =
     λ has. cond (nat_le 4 (length bytes) && is_tag tag && not has) told_too (tasks.dropped backed.machine) in
-    subst (λ has. ReceivedAlike backed tag (received_unreadable device bytes tag) (two has)) (sym (have_alike device backed tag same))
+    let one : Bool → Device × Result Took Overlap =
+    λ ok. cond (nat_le 4 (length bytes) && ok && not (is_some (task_of device tag))) told (dropped device) in
+    subst (λ ok. ReceivedAlike backed tag (one ok) (two (has_task backed.machine tag))) (sym (places_alike device backed tag same))
+    (subst (λ has. ReceivedAlike backed tag (one (is_tag tag)) (two has)) (sym (have_alike device backed tag same))
     (either backed tag (nat_le 4 (length bytes) && is_tag tag && not (is_some (task_of device tag))) told (dropped device) told_too (tasks.dropped backed.machine)
     (soon_too (with_response device tag 2) (with_machine backed (tasks.with_task_on backed.machine tag (tasks.responded 2))) tag (answers_code device backed tag 2 same), refl)
-    (dropped_alike device backed tag same))
+    (dropped_alike device backed tag same)))
 
 unit_alike : (device : Device) (backed : Backed) (bytes : List ℕ) (tag : ℕ) → Same device backed →
     ReceivedAlike backed tag (received_unit device bytes tag) (tasks.received_unit backed.machine bytes tag)

@@ -9,6 +9,7 @@ use Rattle.scsi_cmd.specs.Sense.{sense_bytes, unrecovered_read_error}
 use Rattle.uas_iu.specs.declared.Iu.TheVariants.{Sense}
 use Rattle.uas_iu.specs.Faults.{first_fault}
 use Rattle.uas_target.specs.declared.Took.TheVariants.{Began}
+use Rattle.uas_profile.specs.declared.TheConstants.{GREATEST_TAG}
 use Rattle.uas_target.specs.Device.{Call, Receive, Give, Send, opening}
 use Rattle.task_laws.specs.Backed.{backed_opening}
 use Rattle.task_laws.specs.Laws.{AreWanted, Given, Received, Seen, Sent, all_backed_seen, all_seen}
@@ -25,11 +26,11 @@ shape = plain_shape 1 Bytes512 0
 calls : List Call
 calls = Receive ((1 ∷ 0 ∷ 0 ∷ 1 ∷ []) ++ zeros 12 ++ (0x28 ∷ 0 ∷ 0 ∷ 0 ∷ 0 ∷ 0 ∷ 0 ∷ 0 ∷ 1 ∷ []) ++ zeros 7) ∷ Give 1 ∷ Send 1 ∷ []
 
-wanted_good : AreWanted (opening (seven [] ∷ [])) calls
+wanted_good : AreWanted (opening GREATEST_TAG (seven [] ∷ [])) calls
 unfolding asked calls seven meets_bad first_fault
 wanted_good = (tt, (tt, (tt, tt)))
 
-wanted_bad : AreWanted (opening (seven (0 ∷ []) ∷ [])) calls
+wanted_bad : AreWanted (opening GREATEST_TAG (seven (0 ∷ []) ∷ [])) calls
 unfolding asked calls seven meets_bad first_fault
 wanted_bad = (tt, (tt, (tt, tt)))
 
@@ -41,11 +42,11 @@ seen_good = Received (Ok (Began 1)) ∷ Given (Some (replicate 512 7)) ∷ Sent 
 seen_bad : List Seen
 seen_bad = Received (Ok (Began 1)) ∷ Given None ∷ Sent (Some (Sense 1 2 (record { items = sense_bytes unrecovered_read_error }))) ∷ []
 
-good_row : all_seen (opening (seven [] ∷ [])) calls ≡ seen_good
+good_row : all_seen (opening GREATEST_TAG (seven [] ∷ [])) calls ≡ seen_good
 unfolding asked calls seven meets_bad first_fault blocks_read bytes_from seen_good
 good_row = refl
 
-bad_row : all_seen (opening (seven (0 ∷ []) ∷ [])) calls ≡ seen_bad
+bad_row : all_seen (opening GREATEST_TAG (seven (0 ∷ []) ∷ [])) calls ≡ seen_bad
 unfolding asked calls seven meets_bad covers first_fault seen_bad
 bad_row = refl
 

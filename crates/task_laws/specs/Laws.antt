@@ -8,6 +8,7 @@ use Rattle.uas_target.specs.declared.Overlap.{Overlap}
 use Rattle.uas_target.specs.declared.Phase.{Phase}
 use Rattle.uas_target.specs.declared.Phase.TheVariants.{Absent, Gives, Takes, Ends}
 use Rattle.uas_target.specs.declared.Took.{Took}
+use Rattle.uas_profile.specs.declared.TheConstants.{GREATEST_TAG}
 use Rattle.uas_target.specs.Device.{Device, Call, Receive, Give, Take, Send, answered, called, device_after, fits, given, opening, received, reset_device, wanted}
 use Rattle.uas_tasks.specs.declared.Wants.TheVariants.{Gives as GivesBytes}
 use Rattle.uas_tasks.specs.Machine as tasks
@@ -73,7 +74,7 @@ AreWanted device (call ∷ calls) = IsWanted device call × AreWanted (called de
 
 -- new devices are the same
 abbrev pub OpeningsAreSame : Type 0
-OpeningsAreSame = (units : List BlockMaps) (shapes : List Shape) → AreNew units shapes → Same (opening units) (backed_opening shapes units)
+OpeningsAreSame = (units : List BlockMaps) (shapes : List Shape) → AreNew units shapes → Same (opening GREATEST_TAG units) (backed_opening shapes units)
 
 -- each call leaves them the same, and shows the same
 abbrev pub CallsAreSame : Type 0
@@ -127,11 +128,11 @@ TakesInParts =
 -- Whatever a transport does, a host sees the same of both devices.
 abbrev pub OneDevice : Type 0
 OneDevice =
-    (units : List BlockMaps) (shapes : List Shape) (calls : List Call) → AreNew units shapes → AreWanted (opening units) calls
-    → all_backed_seen (backed_opening shapes units) calls ≡ all_seen (opening units) calls
+    (units : List BlockMaps) (shapes : List Shape) (calls : List Call) → AreNew units shapes → AreWanted (opening GREATEST_TAG units) calls
+    → all_backed_seen (backed_opening shapes units) calls ≡ all_seen (opening GREATEST_TAG units) calls
 
 -- and the two are the same afterwards, block by block and tag by tag
 abbrev pub StaysOneDevice : Type 0
 StaysOneDevice =
-    (units : List BlockMaps) (shapes : List Shape) (calls : List Call) → AreNew units shapes → AreWanted (opening units) calls
-    → Same (device_after (opening units) calls) (backed_after (backed_opening shapes units) calls)
+    (units : List BlockMaps) (shapes : List Shape) (calls : List Call) → AreNew units shapes → AreWanted (opening GREATEST_TAG units) calls
+    → Same (device_after (opening GREATEST_TAG units) calls) (backed_after (backed_opening shapes units) calls)

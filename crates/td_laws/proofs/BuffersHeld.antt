@@ -6,8 +6,8 @@ use Rattle.std.proofs.lemmas.Bool.{false≢true}
 use Rattle.std.proofs.lemmas.List.{map-append}
 use Rattle.std.proofs.lemmas.Option.{none-some, same_Some}
 use Rattle.guest_memory.specs.Bytes.{Memory, bytes_from, ◌>>=◌}
-use Rattle.guest_rings.specs.declared.context.Home.{Home}
-use Rattle.guest_rings.specs.declared.wanting.Range.{Range}
+use Rattle.guest_memory.specs.declared.rings.context.Home.{Home}
+use Rattle.guest_memory.specs.declared.rings.wanting.Range.{Range}
 use Rattle.guest_tags.specs.Devices.{Kind}
 use Rattle.guest_tags.specs.Tags.{TagWorld}
 use Rattle.td_laws.specs.Noting.{Noted, noting}

@@ -5,12 +5,12 @@ use Rattle.std.proofs.lemmas.Option.{none-some, same_Some}
 use Rattle.byteorder.specs.Endian.{little_number}
 use Rattle.guest_memory.specs.Bytes.{Memory, bytes_from, ◌>>=◌}
 use Rattle.guest_memory.specs.Ranges.{same_from}
-use Rattle.guest_rings.specs.declared.context.Home.{Home}
-use Rattle.guest_rings.specs.declared.context.Front.{Front}
-use Rattle.guest_rings.specs.declared.context.Found.{Found}
-use Rattle.guest_rings.specs.declared.context.Found.TheVariants.{WrongKind}
-use Rattle.guest_rings.specs.declared.wanting.Range.{Range}
-use Rattle.guest_rings.specs.Ends.{cursor_in, fetched, found_at, found_of, front_of, home_at, home_size, is_ring, looked, owned}
+use Rattle.guest_memory.specs.declared.rings.context.Home.{Home}
+use Rattle.guest_memory.specs.declared.rings.context.Front.{Front}
+use Rattle.guest_memory.specs.declared.rings.context.Found.{Found}
+use Rattle.guest_memory.specs.declared.rings.context.Found.TheVariants.{WrongKind}
+use Rattle.guest_memory.specs.declared.rings.wanting.Range.{Range}
+use Rattle.guest_memory.specs.rings.Ends.{cursor_in, fetched, found_at, found_of, front_of, home_at, home_size, is_ring, looked, owned}
 use Rattle.td_laws.specs.Places.{AreApart, IsOutside}
 
 found_same : (m w : Memory) (home : Home) (number : ℕ) → bytes_from m (cursor_in number).place 16 ≡ bytes_from w (cursor_in number).place 16

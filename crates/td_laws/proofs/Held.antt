@@ -4,7 +4,7 @@ use Rattle.std.specs.Prelude.{not, if◌then◌else◌}
 use Rattle.std.proofs.Math.Nat.{add-mod_left, mod-eq_of_lt}
 use Rattle.std.proofs.lemmas.Bool.{cases_lt, eq-eqb, leb-true, ne_eqb}
 use Rattle.guest_memory.specs.Ranges.{out_before, out_behind}
-use Rattle.guest_rings.specs.Events.{EventEnd, enqueued, free_by}
+use Rattle.guest_memory.specs.rings.Events.{EventEnd, enqueued, free_by}
 use Rattle.td_laws.specs.Unfreed.{IsFreedTo, IsUnfreed, Between, ToTheEnd, FromTheStart}
 use Rattle.td_laws.specs.NotOvertaken.{NewRingIsFreed, NextIsFreed, PostsKeepUnfreed}
 

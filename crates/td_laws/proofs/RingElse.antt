@@ -3,19 +3,19 @@ use Rattle.std.proofs.Common.{◌≡◌, ℕ, Bool, true, false, List, length, r
 use Rattle.std.specs.Prelude.{not}
 use Rattle.guest_memory.specs.Bytes.{Memory, is_in}
 use Rattle.guest_memory.specs.Ranges.{written_beside}
-use Rattle.guest_rings.specs.declared.cursor.Cursor.{Cursor}
-use Rattle.guest_rings.specs.declared.context.Home.{Home}
-use Rattle.guest_rings.specs.declared.context.Home.TheVariants.{Stream, Endpoint}
-use Rattle.guest_rings.specs.declared.context.Front.{Front}
-use Rattle.guest_rings.specs.declared.trb.Flags.{Flags}
-use Rattle.guest_rings.specs.declared.trb.PipeTrb.{PipeTrb}
-use Rattle.guest_rings.specs.declared.trb.PipeTrb.TheVariants.{Normal, Link, NoOp, EventData, Foreign}
-use Rattle.guest_rings.specs.declared.event.Event.{Event}
-use Rattle.guest_rings.specs.declared.event.Event.TheVariants.{Transfer}
-use Rattle.guest_rings.specs.declared.wanting.Range.{Range}
-use Rattle.guest_rings.specs.Ends.{behind, followed, home_at, home_bytes, home_size, pointer_bytes, stream_bytes}
-use Rattle.guest_rings.specs.Events.{EventEnd, bytes_of, enqueue_pointer, event_bytes, has_room}
-use Rattle.guest_rings.specs.Wanted.{home_range}
+use Rattle.guest_memory.specs.declared.rings.cursor.Cursor.{Cursor}
+use Rattle.guest_memory.specs.declared.rings.context.Home.{Home}
+use Rattle.guest_memory.specs.declared.rings.context.Home.TheVariants.{Stream, Endpoint}
+use Rattle.guest_memory.specs.declared.rings.context.Front.{Front}
+use Rattle.guest_memory.specs.declared.rings.trb.Flags.{Flags}
+use Rattle.guest_memory.specs.declared.rings.trb.PipeTrb.{PipeTrb}
+use Rattle.guest_memory.specs.declared.rings.trb.PipeTrb.TheVariants.{Normal, Link, NoOp, EventData, Foreign}
+use Rattle.guest_memory.specs.declared.rings.event.Event.{Event}
+use Rattle.guest_memory.specs.declared.rings.event.Event.TheVariants.{Transfer}
+use Rattle.guest_memory.specs.declared.rings.wanting.Range.{Range}
+use Rattle.guest_memory.specs.rings.Ends.{behind, followed, home_at, home_bytes, home_size, pointer_bytes, stream_bytes}
+use Rattle.guest_memory.specs.rings.Events.{EventEnd, bytes_of, enqueue_pointer, event_bytes, has_room}
+use Rattle.guest_memory.specs.rings.Wanted.{home_range}
 use Rattle.guest_pipes.specs.declared.progress.Ending.{Ending}
 use Rattle.guest_pipes.specs.declared.progress.Ending.TheVariants.{Runs, Told, Owed}
 use Rattle.guest_pipes.specs.Gate.{took_other}

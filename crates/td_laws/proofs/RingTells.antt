@@ -3,15 +3,15 @@ use Rattle.std.proofs.Common.{◌≡◌, ℕ, ◌+◌, ◌%◌, ◌^◌, Bool, t
 use Rattle.std.specs.Prelude.{not, if◌then◌else◌}
 use Rattle.guest_memory.specs.Bytes.{Memory, bytes_from}
 use Rattle.guest_memory.specs.Ranges.{from_each, written_ahead}
-use Rattle.guest_rings.specs.declared.cursor.Cursor.{Cursor}
-use Rattle.guest_rings.specs.declared.context.Home.{Home}
-use Rattle.guest_rings.specs.declared.context.Front.{Front}
-use Rattle.guest_rings.specs.declared.trb.Flags.{Flags}
-use Rattle.guest_rings.specs.declared.event.Event.{Event}
-use Rattle.guest_rings.specs.declared.event.Event.TheVariants.{Transfer}
-use Rattle.guest_rings.specs.Ends.{behind, followed}
-use Rattle.guest_rings.specs.Events.{enqueue_pointer, enqueued, event_bytes}
-use Rattle.guest_rings.specs.Wanted.{home_range}
+use Rattle.guest_memory.specs.declared.rings.cursor.Cursor.{Cursor}
+use Rattle.guest_memory.specs.declared.rings.context.Home.{Home}
+use Rattle.guest_memory.specs.declared.rings.context.Front.{Front}
+use Rattle.guest_memory.specs.declared.rings.trb.Flags.{Flags}
+use Rattle.guest_memory.specs.declared.rings.event.Event.{Event}
+use Rattle.guest_memory.specs.declared.rings.event.Event.TheVariants.{Transfer}
+use Rattle.guest_memory.specs.rings.Ends.{behind, followed}
+use Rattle.guest_memory.specs.rings.Events.{enqueue_pointer, enqueued, event_bytes}
+use Rattle.guest_memory.specs.rings.Wanted.{home_range}
 use Rattle.guest_pipes.specs.declared.consumer.EndpointState.TheVariants.{Halted}
 use Rattle.guest_pipes.specs.declared.progress.Ending.{Ending}
 use Rattle.guest_pipes.specs.declared.progress.Ending.TheVariants.{Runs, Told, Owed}
@@ -19,9 +19,9 @@ use Rattle.guest_pipes.specs.declared.progress.Progress.{Progress}
 use Rattle.guest_pipes.specs.Progress.{code_of, owes, past, restarted, runs, short_ending}
 use Rattle.guest_pipes.specs.Step.{World, about, babbled, consumed, data_restarted, data_told, ended_as, erred, failed, filled, linked, passed, posted, posted_if, shortened, skipped, stood, with_progress, refused}
 use Rattle.td_laws.specs.Places.{AreApart, event_range}
-use Rattle.guest_rings.specs.declared.context.Found.TheVariants.{Item}
-use Rattle.guest_rings.specs.declared.trb.PipeTrb.{PipeTrb}
-use Rattle.guest_rings.specs.declared.trb.PipeTrb.TheVariants.{Normal, Link, NoOp, EventData, Foreign}
+use Rattle.guest_memory.specs.declared.rings.context.Found.TheVariants.{Item}
+use Rattle.guest_memory.specs.declared.rings.trb.PipeTrb.{PipeTrb}
+use Rattle.guest_memory.specs.declared.rings.trb.PipeTrb.TheVariants.{Normal, Link, NoOp, EventData, Foreign}
 use Rattle.guest_tags.specs.declared.buffer.Buffer.{Buffer}
 use Rattle.guest_tags.specs.Wanted.{buffer_of}
 use Rattle.guest_pipes.specs.Gate.{took_other}

@@ -1,6 +1,6 @@
 -- A device that notes does what it does without its notes.
 use Rattle.std.specs.Prelude.{◌≡◌, ℕ, option_map}
-use Rattle.guest_rings.specs.declared.context.Home.{Home}
+use Rattle.guest_memory.specs.declared.rings.context.Home.{Home}
 use Rattle.guest_pipes.specs.declared.acted.Acted.{Acted}
 use Rattle.guest_tags.specs.DataIn.{stepped_in}
 use Rattle.guest_tags.specs.Devices.{Kind}

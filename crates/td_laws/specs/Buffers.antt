@@ -1,10 +1,10 @@
 -- THE PARTS ARE THE BUFFERS: what steps of data-in fill part by part are the buffers of the ring's TRBs, in its order.
 use Rattle.std.specs.Prelude.{◌≡◌, ℕ, zero, suc, ◌+◌, ◌==◌, false, if◌then◌else◌, List, [], ◌∷◌, ◌++◌, Option, Some, None, IfSome}
 use Rattle.guest_memory.specs.Bytes.{◌>>=◌}
-use Rattle.guest_rings.specs.declared.context.Home.{Home}
-use Rattle.guest_rings.specs.declared.wanting.Range.{Range}
-use Rattle.guest_rings.specs.Ends.{looked}
-use Rattle.guest_rings.specs.Wanted.{home_range}
+use Rattle.guest_memory.specs.declared.rings.context.Home.{Home}
+use Rattle.guest_memory.specs.declared.rings.wanting.Range.{Range}
+use Rattle.guest_memory.specs.rings.Ends.{looked}
+use Rattle.guest_memory.specs.rings.Wanted.{home_range}
 use Rattle.guest_tags.specs.declared.buffer.Buffer.{Buffer}
 use Rattle.guest_tags.specs.Devices.{Kind}
 use Rattle.guest_tags.specs.Tags.{TagWorld}

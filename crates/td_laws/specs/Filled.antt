@@ -1,7 +1,7 @@
 -- THE BUFFERS HOLD WHAT WAS GIVEN: the buffers of a data-in TD, put together in the order of the ring.
 use Rattle.std.specs.Prelude.{◌≡◌, ℕ, false, List, [], ◌++◌, map, Option, Some}
 use Rattle.guest_memory.specs.Bytes.{Memory}
-use Rattle.guest_rings.specs.declared.context.Home.{Home}
+use Rattle.guest_memory.specs.declared.rings.context.Home.{Home}
 use Rattle.guest_tags.specs.Devices.{Kind}
 use Rattle.guest_tags.specs.Tags.{TagWorld}
 use Rattle.td_laws.specs.Noting.{Noted, noting}

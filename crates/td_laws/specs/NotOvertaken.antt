@@ -2,7 +2,7 @@
 use Rattle.std.specs.Prelude.{◌≡◌, ℕ, ◌-◌, ◌≤◌, false, ◌<◌, Bool, true, List, [], ◌∷◌}
 use Rattle.std.specs.List.{AllByRecursion}
 use Rattle.guest_memory.specs.Bytes.{bytes_from}
-use Rattle.guest_rings.specs.Events.{EventEnd, enqueued, has_room}
+use Rattle.guest_memory.specs.rings.Events.{EventEnd, enqueued, has_room}
 use Rattle.guest_tags.specs.Devices.{Kind}
 use Rattle.guest_transfers.specs.State.{TransfersWorld}
 use Rattle.td_laws.specs.Places.{AreApart, IsOutside, event_range}

@@ -1,10 +1,10 @@
 -- NOTHING ELSE is written: a step writes the part of the buffer that is moved, the next event's place, and where the ring's end is kept.
 use Rattle.std.specs.Prelude.{◌≡◌, ℕ, ◌⊎◌, Bool, true}
 use Rattle.guest_memory.specs.Bytes.{Memory}
-use Rattle.guest_rings.specs.declared.context.Home.{Home}
-use Rattle.guest_rings.specs.declared.wanting.Range.{Range}
-use Rattle.guest_rings.specs.Events.{EventEnd, enqueued, has_room}
-use Rattle.guest_rings.specs.Wanted.{home_range}
+use Rattle.guest_memory.specs.declared.rings.context.Home.{Home}
+use Rattle.guest_memory.specs.declared.rings.wanting.Range.{Range}
+use Rattle.guest_memory.specs.rings.Events.{EventEnd, enqueued, has_room}
+use Rattle.guest_memory.specs.rings.Wanted.{home_range}
 use Rattle.guest_pipes.specs.Gate.{after}
 use Rattle.guest_pipes.specs.Step.{World}
 use Rattle.guest_tags.specs.DataIn.{stepped_in}

@@ -1,6 +1,6 @@
 -- BYTES IN ORDER, OUT: a device takes the bytes of the buffers of a data-out TD in the order of the ring, whole.
 use Rattle.std.specs.Prelude.{◌≡◌, ℕ, List, [], ◌∷◌, ◌++◌, Option, Some, None, unwrap_or}
-use Rattle.guest_rings.specs.declared.context.Home.{Home}
+use Rattle.guest_memory.specs.declared.rings.context.Home.{Home}
 use Rattle.guest_pipes.specs.Gate.{after}
 use Rattle.guest_tags.specs.declared.buffer.Buffer.{Buffer}
 use Rattle.guest_tags.specs.declared.device.Phase.{Phase}

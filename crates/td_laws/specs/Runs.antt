@@ -1,7 +1,7 @@
 -- Steps of data-in for a tag, one behind another, with what others do meanwhile.
 use Rattle.std.specs.Prelude.{ℕ, List, [], ◌∷◌}
-use Rattle.guest_rings.specs.declared.context.Home.{Home}
-use Rattle.guest_rings.specs.declared.wanting.Range.{Range}
+use Rattle.guest_memory.specs.declared.rings.context.Home.{Home}
+use Rattle.guest_memory.specs.declared.rings.wanting.Range.{Range}
 use Rattle.guest_pipes.specs.Gate.{after}
 use Rattle.guest_tags.specs.DataIn.{stepped_in}
 use Rattle.guest_tags.specs.Devices.{Kind}

@@ -1,12 +1,12 @@
 -- WHAT IS TOLD of the TRBs of the status pipe.
 use Rattle.std.specs.Prelude.{◌≡◌, ℕ, ◌+◌, ◌<◌, ◌≤◌, ◌⊎◌, Bool, false, ◌||◌, Some, None}
-use Rattle.guest_rings.specs.declared.context.Home.{Home}
-use Rattle.guest_rings.specs.declared.context.Front.{Front}
-use Rattle.guest_rings.specs.declared.context.Found.TheVariants.{Item}
-use Rattle.guest_rings.specs.declared.event.Event.TheVariants.{Transfer}
-use Rattle.guest_rings.specs.declared.trb.PipeTrb.{PipeTrb}
-use Rattle.guest_rings.specs.Events.{EventEnd}
-use Rattle.guest_rings.specs.Wanted.{home_range}
+use Rattle.guest_memory.specs.declared.rings.context.Home.{Home}
+use Rattle.guest_memory.specs.declared.rings.context.Front.{Front}
+use Rattle.guest_memory.specs.declared.rings.context.Found.TheVariants.{Item}
+use Rattle.guest_memory.specs.declared.rings.event.Event.TheVariants.{Transfer}
+use Rattle.guest_memory.specs.declared.rings.trb.PipeTrb.{PipeTrb}
+use Rattle.guest_memory.specs.rings.Events.{EventEnd}
+use Rattle.guest_memory.specs.rings.Wanted.{home_range}
 use Rattle.guest_pipes.specs.declared.consumer.EndpointState.TheVariants.{Halted}
 use Rattle.guest_pipes.specs.Gate.{after}
 use Rattle.guest_pipes.specs.Step.{World, about}

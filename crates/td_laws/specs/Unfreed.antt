@@ -1,7 +1,7 @@
 -- The events that the driver hasn't freed: those from his dequeue pointer (ERDP) up to the enqueue pointer, round the segment's end.
 use Rattle.std.specs.Prelude.{◌≡◌, ℕ, ◌+◌, ◌*◌, ◌<◌, ◌≤◌}
-use Rattle.guest_rings.specs.declared.wanting.Range.{Range}
-use Rattle.guest_rings.specs.Events.{EventEnd, free_by}
+use Rattle.guest_memory.specs.declared.rings.wanting.Range.{Range}
+use Rattle.guest_memory.specs.rings.Events.{EventEnd, free_by}
 
 -- the free places are counted from the driver's dequeue place
 pub record IsFreedTo (ring : EventEnd) (dequeue : ℕ) : Type 0 where

@@ -18,7 +18,7 @@
 #![tactic(auto)]
 
 ghost use Rattle.std.specs.Prelude.{ℕ};
-ghost use Rattle.guest_rings.specs.declared.context.Home.{Home};
+ghost use Rattle.guest_memory.specs.declared.rings.context.Home.{Home};
 ghost use Rattle.guest_tags.specs.Devices.{Kind};
 ghost use Rattle.td_laws.specs.NothingElse.{CommandLeavesElse, DataInLeavesElse, DataOutLeavesElse, StatusLeavesElse};
 ghost use Rattle.td_laws.specs.NotOvertaken.{NewRingIsFreed, NextIsFreed, PostsKeepUnfreed, TurnsLeaveElse, UnfreedStand};

@@ -12,8 +12,8 @@ use Rattle.scsi_cmd.specs.declared.Op.{Op}
 use Rattle.scsi_cmd.specs.declared.Reply.{Reply}
 use Rattle.scsi_cmd.specs.declared.Task.{Task}
 use Rattle.uas_c.specs.ClientCall.{asked_operation, client_fault, not_ticket, pipe_numbered, task_numbered, told_of, with_buffer}
-use Rattle.c_faults.specs.declared.TheConstants.{BUS_CLIENT, BUS_RANGE, BUS_STEP, CLIENT_CALL, CLIENT_FUNCTION, CLIENT_LENGTH, CLIENT_TICKET}
-use Rattle.c_faults.specs.declared.TheConstants.{NO_MEMORY}
+use Rattle.c_common.specs.declared.faults.TheConstants.{BUS_CLIENT, BUS_RANGE, BUS_STEP, CLIENT_CALL, CLIENT_FUNCTION, CLIENT_LENGTH, CLIENT_TICKET}
+use Rattle.c_common.specs.declared.faults.TheConstants.{NO_MEMORY}
 use Rattle.c_common.specs.Shown.{data_shown}
 use Rattle.c_common.specs.declared.shown.ShownFaults.{ShownFaults}
 use Rattle.c_common.specs.Door.{After, DoorAfter, numbered, refused, with_bytes}

@@ -11,8 +11,8 @@ use Rattle.scsi_cmd.specs.declared.Task.{Task}
 use Rattle.scsi_cmd.specs.declared.Task.TheVariants as tasks
 use Rattle.uas_profile.specs.declared.Pipe.{Pipe}
 use Rattle.uas_profile.specs.declared.Pipe.TheVariants as pipes
-use Rattle.c_faults.specs.declared.TheConstants.{CLIENT_BAD_LENGTH, CLIENT_IN_USE, CLIENT_NOT_YOURS, CLIENT_NO_SUCH_TASK, CLIENT_OPERATION}
-use Rattle.c_faults.specs.declared.TheConstants.{CLIENT_OUT_OF_TURN, CLIENT_TICKET, CLIENT_TOO_LONG}
+use Rattle.c_common.specs.declared.faults.TheConstants.{CLIENT_BAD_LENGTH, CLIENT_IN_USE, CLIENT_NOT_YOURS, CLIENT_NO_SUCH_TASK, CLIENT_OPERATION}
+use Rattle.c_common.specs.declared.faults.TheConstants.{CLIENT_OUT_OF_TURN, CLIENT_TICKET, CLIENT_TOO_LONG}
 use Rattle.c_common.specs.Door.{numbered}
 use Rattle.c_common.specs.OperationRecord.{named_operation, operation_fault}
 use Rattle.c_common.specs.Bytes.{padded}

@@ -11,7 +11,7 @@ use Rattle.uas_host.specs.State.{HostState}
 use Rattle.uas_driver.specs.declared.Taken.{Taken}
 use Rattle.uas_driver.specs.declared.Taken.TheVariants.{Matched, Engine, Noted, Stray}
 use Rattle.uas_profile.specs.declared.Pipe.{Pipe}
-use Rattle.uas_profile.specs.declared.TheConstants.{MAX_CLIENTS, TAGS}
+use Rattle.uas_profile.specs.declared.TheConstants.{USUAL_CLIENTS}
 use Rattle.uas_driver.specs.Calls.{After as CallAfter, context_by, event_by, give_up_by, item_by, read_by, reply_by, retire_by, submit_by, task_by, write_by}
 use Rattle.uas_driver.specs.Telling.{stated, wanted_state}
 use Rattle.uas_driver.specs.Driver.{DriverState}
@@ -22,8 +22,8 @@ use Rattle.uas_driver.specs.declared.EndpointState.TheVariants as states
 use Rattle.uas_profile.specs.declared.Pipe.TheVariants as pipes
 use Rattle.uas_driver.specs.declared.Refusal.{Refusal}
 use Rattle.uas_driver.specs.declared.Refusal.TheVariants as refusals
-use Rattle.c_faults.specs.declared.TheConstants.{CLIENT_CALL, CLIENT_FUNCTION, CLIENT_LENGTH, CLIENT_TICKET, DRIVER_ADDRESS, DRIVER_CLIENTS}
-use Rattle.c_faults.specs.declared.TheConstants.{DRIVER_EVENT, DRIVER_RING, DRIVER_ROOM, DRIVER_STATE, NO_MEMORY}
+use Rattle.c_common.specs.declared.faults.TheConstants.{CLIENT_CALL, CLIENT_FUNCTION, CLIENT_LENGTH, CLIENT_TICKET, DRIVER_ADDRESS, DRIVER_CLIENTS}
+use Rattle.c_common.specs.declared.faults.TheConstants.{DRIVER_EVENT, DRIVER_RING, DRIVER_ROOM, DRIVER_STATE, NO_MEMORY}
 use Rattle.uas_c.specs.ClientCall.{asked_operation, client_fault, not_ticket, overlaid, pipe_numbered, task_numbered, told_length, told_status}
 use Rattle.uas_c.specs.ClientCall.{told_without_sense}
 use Rattle.c_common.specs.Door.{After, DoorAfter, numbered, refused, with_bytes}
@@ -37,7 +37,7 @@ use Rattle.uas_c.specs.declared.driver.door.UasDriverDoor.{UasDriverDoor}
 
 -- refused where there is no client or more than 15
 abbrev pub clients_fault : ℕ → ℕ
-clients_fault clients = if clients == 0 || nat_lt MAX_CLIENTS clients then DRIVER_CLIENTS else 0
+clients_fault clients = if clients == 0 || nat_lt USUAL_CLIENTS clients then DRIVER_CLIENTS else 0
 
 -- The number of an answer is right: the fault, or want of memory where there is none.
 abbrev pub clients_told : ℕ → ℕ → Bool
@@ -102,7 +102,7 @@ after_retire driver door =
 -- The least tag above this one whose TD on a pipe is left over. Worked: of two clients, whose greatest tag is 32, the tags above 30 that
 -- are looked at are 31 and 32.
 abbrev pub next_left_over : HostState → Pipe → ℕ → Option ℕ
-next_left_over host pipe tag = find (is_left_over_on host pipe) (range_with_len (tag + 1) (length host.clients * TAGS - tag))
+next_left_over host pipe tag = find (is_left_over_on host pipe) (range_with_len (tag + 1) (length host.clients * host.tags - tag))
 
 abbrev pub with_next : UasDriverDoor → Option ℕ → UasDriverDoor
 with_next door None = record door { acted = 0 }

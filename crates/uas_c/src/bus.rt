@@ -3,7 +3,8 @@ ghost use Rattle.std.specs.Prelude.{◌≡◌, ◌==◌, false, IfSome, option_m
 ghost use Rattle.shared_machine.specs.Bus.{HasTicket};
 ghost use Rattle.shared_machine.specs.Drain.{drained};
 ghost use Rattle.shared_machine.specs.Shared.{opening};
-ghost use Rattle.c_faults.specs.declared.TheConstants.{NO_MEMORY};
+ghost use Rattle.uas_profile.specs.declared.TheConstants.{TAGS};
+ghost use Rattle.c_common.specs.declared.faults.TheConstants.{NO_MEMORY};
 ghost use Rattle.uas_c.specs.BusCall.{after_due, after_reply, after_step, after_submit, after_task, bus_answer, bus_call_numbered};
 ghost use Rattle.uas_c.specs.BusCall.{refusal_told, step_numbered, unit_of, with_drain, with_owner, with_reply};
 
@@ -15,11 +16,11 @@ use crate::client::{
 };
 use block_unit::Unit;
 use bus_core::{Bus, Refusal, Step};
-use c_common::{OfUnits, ShownFaults, UasOperation, show};
-use c_faults::{
+use c_common::faults::{
     BUS_CLIENT, BUS_RANGE, BUS_STEP, CLIENT_CALL, CLIENT_FUNCTION, CLIENT_LENGTH, CLIENT_TICKET,
     NO_MEMORY,
 };
+use c_common::{OfUnits, ShownFaults, UasOperation, show};
 use scsi_cmd::{Buffer, Command};
 use std::alloc::{AllocError, Global};
 use std::marker::Model;
@@ -80,7 +81,7 @@ impl Model for KeptBus {
 }
 
 impl OfUnits for KeptBus {
-    ghost is_of = { λ units bus. bus ≡ opening units };
+    ghost is_of = { λ units bus. bus ≡ opening TAGS units };
 
     fn of_units(alloc: Global, units: Vec<Unit>) -> Result<KeptBus, AllocError> {
         let bus = Bus::new(alloc, units)?;

@@ -1,14 +1,14 @@
 //! What clients ask of a bus and of a driver, and what a reply tells, whatever the door.
 ghost use Rattle.std.specs.Prelude.{◌≡◌, ◌<◌, ◌≤◌, ◌-◌, ◌^◌, IfErr, OnOk, length, min};
-ghost use Rattle.c_faults.specs.declared.TheConstants.{NO_MEMORY};
+ghost use Rattle.c_common.specs.declared.faults.TheConstants.{NO_MEMORY};
 ghost use Rattle.uas_c.specs.ClientCall.{asked_operation, client_fault, overlaid, pipe_numbered, task_numbered, told_of};
 ghost use Rattle.uas_c.specs.ClientCall.{told_status, told_without_sense, with_buffer};
 
-use c_common::{UasOperation, padded, read_operation};
-use c_faults::{
+use c_common::faults::{
     CLIENT_BAD_LENGTH, CLIENT_IN_USE, CLIENT_NO_SUCH_TASK, CLIENT_NOT_YOURS, CLIENT_OPERATION,
     CLIENT_OUT_OF_TURN, CLIENT_TICKET, CLIENT_TOO_LONG,
 };
+use c_common::{UasOperation, padded, read_operation};
 use scsi_cmd::{Buffer, Op, Reply, SubmitFault, Task};
 use stream_array::Pipe;
 use uas_iu::MAX_SENSE_BYTES;

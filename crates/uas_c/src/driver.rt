@@ -1,5 +1,6 @@
 //! The driver for C: host, rings and buffers without a controller, over one call with a door.
 ghost use Rattle.std.specs.Prelude.{◌≡◌, ◌<◌, true, IfErr, IfOk};
+ghost use Rattle.uas_profile.specs.declared.TheConstants.{TAGS};
 ghost use Rattle.uas_driver.specs.Driver.{IsOpening};
 ghost use Rattle.uas_c.specs.DriverCall.{after_context, after_event, after_give_up, after_item, after_left_over, after_read, after_reply, after_retire};
 ghost use Rattle.c_common.specs.HandedOut.{made_number};
@@ -16,7 +17,7 @@ use crate::driver::door::{
     show_answer, show_doorbells, show_next, show_taken, show_wanted, state_numbered,
 };
 use arrayvec::ArrayVec;
-use c_faults::{
+use c_common::faults::{
     CLIENT_CALL, CLIENT_FUNCTION, CLIENT_LENGTH, CLIENT_TICKET, DRIVER_ADDRESS, DRIVER_CLIENTS,
     DRIVER_EVENT, DRIVER_RING, DRIVER_STATE, NO_MEMORY,
 };
@@ -25,7 +26,7 @@ use std::alloc::Global;
 use std::marker::Model;
 use stream_array::Pipe;
 use uas_driver::Driver;
-use uas_profile::MAX_CLIENTS;
+use uas_profile::USUAL_CLIENTS;
 
 /// A driver, and the memory that its submissions' buffers come from.
 #[derive(Drop)]
@@ -47,11 +48,11 @@ const ITEM_BYTES: usize = 16;
 
 /// A driver of so many clients; the error is the number of the fault.
 pub(crate) fn made(alloc: Global, clients: usize) -> Result<Box<KeptDriver, Global>, u8>
-    ensures made { IfOk result (λ made. IsOpening clients made.value) }
+    ensures made { IfOk result (λ made. IsOpening TAGS clients made.value) }
     ensures fault { clients_told (made_number result) clients ≡ true }
     ensures number { IfErr result (λ number. 0 < number) }
 {
-    if clients == 0 || clients > MAX_CLIENTS {
+    if clients == 0 || clients > USUAL_CLIENTS {
         return Err(DRIVER_CLIENTS);
     }
     let Ok(driver) = Driver::new(alloc, clients) else {

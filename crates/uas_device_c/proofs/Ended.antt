@@ -7,14 +7,13 @@ use Rattle.std.proofs.lemmas.List.Edits.{fill_by_more}
 use Rattle.std.proofs.lemmas.List.FromFn.{fill_by_all}
 use Rattle.std.proofs.lemmas.Bool.{cases_Bool, cases_eq, eq-eqb, ne_eqb}
 use Rattle.uas_iu.specs.Faults.{first_fault, identifier}
-use Rattle.uas_profile.specs.declared.TheConstants.{GREATEST_TAG}
 use Rattle.uas_target.specs.declared.DeviceTask.{DeviceTask}
 use Rattle.uas_target.specs.declared.Overlap.{Overlap}
 use Rattle.uas_target.specs.declared.Took.{Took}
 use Rattle.uas_target.specs.declared.Took.TheVariants.{Began}
-use Rattle.uas_target.specs.Device.{Device, Receive, dropped, executed, managed, on_its_tag, received, received_unit, received_unreadable, task_of}
+use Rattle.uas_target.specs.Device.{Device, Receive, dropped, executed, has_place, managed, on_its_tag, received, received_unit, received_unreadable, task_of}
 use Rattle.uas_target.specs.Device.{with_code, with_response, with_units_and_task}
-use Rattle.uas_target.specs.Fields.{is_tag, tag_in, lun_in, cdb_in, function_in, task_tag_in}
+use Rattle.uas_target.specs.Fields.{tag_in, lun_in, cdb_in, function_in, task_tag_in}
 use Rattle.uas_target.specs.Laws.{OtherTagsAreKept}
 use Rattle.c_common.proofs.Least.{find-least, find-none}
 use Rattle.uas_device_c.specs.DeviceCall.{byte_from, has_ended, mask_of, next_task}
@@ -23,20 +22,20 @@ use Rattle.uas_device_c.specs.DeviceCall.{byte_from, has_ended, mask_of, next_ta
 
 -- what a search for the next tag answers
 pub next-is : (device : Device) (tag : ℕ) (result : Option ℕ)
-    → IfSome result (λ next. (tag < next) × (next ≤ GREATEST_TAG) × IsSome (task_of device next)
+    → IfSome result (λ next. (tag < next) × (next ≤ length device.tasks) × IsSome (task_of device next)
     × ((other : ℕ) → tag < other → other < next → task_of device other ≡ None))
     → IfNone result ((other : ℕ) → tag < other → task_of device other ≡ None) → result ≡ next_task device tag
 next-is device tag (Some next) there none =
-    sym (find-least (λ other. is_some (task_of device other)) (GREATEST_TAG - tag) (tag + 1) next (omega (arith, there.0))
+    sym (find-least (λ other. is_some (task_of device other)) (length device.tasks - tag) (tag + 1) next (omega (arith, there.0))
     (omega (arith, there.0, there.1)) there.2
     (λ other above below. ap is_some (there.3 other (omega (arith, above)) below)))
 next-is device tag None there none =
-    sym (find-none (λ other. is_some (task_of device other)) (GREATEST_TAG - tag) (tag + 1)
+    sym (find-none (λ other. is_some (task_of device other)) (length device.tasks - tag) (tag + 1)
     (λ other above. ap is_some (none other (omega (arith, above)))))
 
 -- whether the next tag above the one before it is the tag itself
 pub found-is : (device : Device) (tag next : ℕ) → 1 ≤ tag
-    → (tag - 1 < next) × (next ≤ GREATEST_TAG) × IsSome (task_of device next)
+    → (tag - 1 < next) × (next ≤ length device.tasks) × IsSome (task_of device next)
     × ((other : ℕ) → tag - 1 < other → other < next → task_of device other ≡ None) → (next == tag) ≡ is_some (task_of device tag)
 found-is device tag next some there =
     elim (cases_eq next tag) as (λ _. (next == tag) ≡ is_some (task_of device tag)) [
@@ -65,7 +64,7 @@ right_holds false b holds = let it : ◌≡◌ {A = Bool} false true = holds in 
 busy_begins : (device after : Device) (tag : ℕ) → is_some (task_of device tag) ≡ true → (on_its_tag device tag after).0 ≡ device
 busy_begins device after tag busy =
     let P : Device → Type 0 = λ d. d ≡ device in
-    either P (not (is_tag tag)) (dropped device) (cond (is_some (task_of device tag)) (device, Err (record {})) (after, Ok (Began tag))) (λ is. refl)
+    either P (not (has_place device tag)) (dropped device) (cond (is_some (task_of device tag)) (device, Err (record {})) (after, Ok (Began tag))) (λ is. refl)
     (λ is.
     either P (is_some (task_of device tag)) (device, Err (record {})) (after, Ok (Began tag)) (λ there. refl)
     (λ empty. absurd (not_both (is_some (task_of device tag)) empty busy)))
@@ -80,8 +79,8 @@ busy_stays device bytes busy =
     let held = is_some (task_of device tag) in
     either P (is_some (first_fault bytes)) (received_unreadable device bytes tag) (received_unit device bytes tag)
     (λ fault.
-    either P (nat_le 4 (length bytes) && is_tag tag && not held) (with_response device tag 2, Ok (Began tag)) (dropped device)
-    (λ free. absurd (not_both (not held) (ap not busy) (right_holds (nat_le 4 (length bytes) && is_tag tag) (not held) free))) (λ is. refl))
+    either P (nat_le 4 (length bytes) && has_place device tag && not held) (with_response device tag 2, Ok (Began tag)) (dropped device)
+    (λ free. absurd (not_both (not held) (ap not busy) (right_holds (nat_le 4 (length bytes) && has_place device tag) (not held) free))) (λ is. refl))
     (λ readable.
     either P (identifier bytes == 1) (on_its_tag device tag commanded) (cond (identifier bytes == 5) (on_its_tag device tag after) (dropped device))
     (λ is. busy_begins device commanded tag busy)

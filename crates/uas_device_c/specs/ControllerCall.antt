@@ -16,9 +16,9 @@ use Rattle.uas_controller.specs.Machine.{MachineState}
 use Rattle.uas_controller.specs.Steps.{command_by, data_by, engine_by, event_by, rung, status_by}
 use Rattle.uas_controller.specs.declared.Refusal.{Refusal}
 use Rattle.uas_controller.specs.declared.Refusal.TheVariants as refusals
-use Rattle.c_faults.specs.declared.TheConstants.{CONTROLLER_ADDRESS, CONTROLLER_CALL, CONTROLLER_FULL, CONTROLLER_LENGTH, CONTROLLER_LENT}
-use Rattle.c_faults.specs.declared.TheConstants.{CONTROLLER_NOT_CONSUMED, CONTROLLER_NOT_LENT, CONTROLLER_RANGE, CONTROLLER_RING, CONTROLLER_STEP}
-use Rattle.c_faults.specs.declared.TheConstants.{CONTROLLER_TAG, CONTROLLER_UNIT, NO_MEMORY}
+use Rattle.c_common.specs.declared.faults.TheConstants.{CONTROLLER_ADDRESS, CONTROLLER_CALL, CONTROLLER_FULL, CONTROLLER_LENGTH, CONTROLLER_LENT}
+use Rattle.c_common.specs.declared.faults.TheConstants.{CONTROLLER_NOT_CONSUMED, CONTROLLER_NOT_LENT, CONTROLLER_RANGE, CONTROLLER_RING, CONTROLLER_STEP}
+use Rattle.c_common.specs.declared.faults.TheConstants.{CONTROLLER_TAG, CONTROLLER_UNIT, NO_MEMORY}
 use Rattle.c_common.specs.Shown.{data_shown}
 use Rattle.c_common.specs.declared.shown.ShownFaults.{ShownFaults}
 use Rattle.uas_device_c.specs.DeviceCall.{unit_numbered}

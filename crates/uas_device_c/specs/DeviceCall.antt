@@ -18,8 +18,7 @@ use Rattle.c_common.specs.Door.{After, DoorAfter, numbered, refused, with_bytes}
 use Rattle.c_common.specs.Bytes.{yes}
 use Rattle.c_common.specs.Shown.{data_shown}
 use Rattle.c_common.specs.declared.shown.ShownFaults.{ShownFaults}
-use Rattle.c_faults.specs.declared.TheConstants.{DEVICE_CALL, DEVICE_LENGTH, DEVICE_OVERLAP, DEVICE_PHASE, DEVICE_RANGE, DEVICE_UNIT}
-use Rattle.uas_profile.specs.declared.TheConstants.{GREATEST_TAG}
+use Rattle.c_common.specs.declared.faults.TheConstants.{DEVICE_CALL, DEVICE_LENGTH, DEVICE_OVERLAP, DEVICE_PHASE, DEVICE_RANGE, DEVICE_UNIT}
 use Rattle.uas_device_c.specs.declared.device.UasDeviceDoor.{UasDeviceDoor}
 use Rattle.uas_device_c.specs.declared.device.Call.{Call}
 use Rattle.uas_device_c.specs.declared.device.Call.TheVariants as calls
@@ -124,7 +123,7 @@ after_shown blocks device door bytes =
 
 -- NEXT (10): the least tag above the door's that has a task
 abbrev pub next_task : Device → ℕ → Option ℕ
-next_task device tag = find (λ next. is_some (task_of device next)) (range_with_len (tag + 1) (GREATEST_TAG - tag))
+next_task device tag = find (λ next. is_some (task_of device next)) (range_with_len (tag + 1) (length device.tasks - tag))
 
 abbrev pub with_next : UasDeviceDoor → Option ℕ → UasDeviceDoor
 with_next door None = record door { good = 0 }

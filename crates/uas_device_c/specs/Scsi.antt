@@ -2,7 +2,7 @@
 use Rattle.std.specs.Prelude.{◌≡◌, ℕ, if◌then◌else◌, ◌==◌, Result, Ok, Err}
 use Rattle.scsi_cmd.specs.declared.Op.{Op}
 use Rattle.scsi_cmd.specs.declared.Sense.{Sense}
-use Rattle.c_faults.specs.declared.TheConstants.{CAPACITY_NO_BLOCKS, CDB_CHECK}
+use Rattle.c_common.specs.declared.faults.TheConstants.{CAPACITY_NO_BLOCKS, CDB_CHECK}
 use Rattle.c_common.specs.OperationRecord.{operation_record}
 use Rattle.c_common.specs.declared.operation.UasOperation.{UasOperation}
 use Rattle.uas_device_c.specs.declared.scsi.UasSense.{UasSense}

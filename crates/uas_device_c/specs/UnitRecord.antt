@@ -5,8 +5,8 @@ use Rattle.uas_iu.specs.declared.Iu.{Iu}
 use Rattle.uas_iu.specs.declared.Iu.TheVariants.{Command, Sense, Response, Task}
 use Rattle.uas_iu.specs.declared.IuFault.{IuFault}
 use Rattle.uas_iu.specs.declared.IuFault.TheVariants.{UnknownId, Short, Long, ReservedSet, LengthField}
-use Rattle.trb_record.specs.RecordFault.{fault_of}
-use Rattle.c_faults.specs.declared.TheConstants.{UNIT_LENGTH_FIELD, UNIT_LONG, UNIT_NO_ROOM, UNIT_RESERVED_SET, UNIT_SHORT, UNIT_UNFIT, UNIT_UNKNOWN_ID}
+use Rattle.c_common.specs.trb.RecordFault.{fault_of}
+use Rattle.c_common.specs.declared.faults.TheConstants.{UNIT_LENGTH_FIELD, UNIT_LONG, UNIT_NO_ROOM, UNIT_RESERVED_SET, UNIT_SHORT, UNIT_UNFIT, UNIT_UNKNOWN_ID}
 use Rattle.c_common.specs.Bytes.{padded}
 use Rattle.uas_device_c.specs.declared.unit.UasUnit.{UasUnit}
 

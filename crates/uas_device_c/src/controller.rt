@@ -14,10 +14,10 @@ use crate::controller::door::{
 };
 use crate::device::{contents_of, medium_of};
 use block_unit::Unit;
-use c_common::{OfUnits, show};
-use c_faults::{
+use c_common::faults::{
     CONTROLLER_CALL, CONTROLLER_LENGTH, CONTROLLER_RING, CONTROLLER_STEP, CONTROLLER_TAG, NO_MEMORY,
 };
+use c_common::{OfUnits, show};
 use event_ring::Event;
 use std::alloc::{AllocError, Global};
 use std::marker::Model;

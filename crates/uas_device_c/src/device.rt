@@ -1,6 +1,7 @@
 //! The device for C: units in, units and data out, over one call with a door.
 ghost use Rattle.std.specs.Prelude.{◌≡◌, option_map};
 ghost use Rattle.block_unit.specs.BlockMaps.{BlockMaps};
+ghost use Rattle.uas_profile.specs.declared.TheConstants.{GREATEST_TAG};
 ghost use Rattle.uas_target.specs.Device.{Device, opening, wanted};
 ghost use Rattle.uas_device_c.specs.DeviceCall.{after_call, after_give, after_next, after_receive, after_sent, after_size, after_status, after_take};
 ghost use Rattle.uas_device_c.specs.DeviceCall.{call_numbered, unit_numbered, with_phase, with_took};
@@ -10,10 +11,10 @@ mod handle;
 
 use crate::device::ended::{ENDED_BYTES, next_task, receive_bytes};
 use block_unit::Unit;
-use c_common::{OfUnits, ShownFaults, put_unit, show};
-use c_faults::{
+use c_common::faults::{
     DEVICE_CALL, DEVICE_LENGTH, DEVICE_OVERLAP, DEVICE_PHASE, DEVICE_RANGE, DEVICE_UNIT,
 };
+use c_common::{OfUnits, ShownFaults, put_unit, show};
 use std::alloc::{AllocError, Global};
 use std::marker::Model;
 use uas_iu::lun_bytes;
@@ -57,7 +58,7 @@ impl Model for KeptDevice {
 }
 
 impl OfUnits for KeptDevice {
-    ghost is_of = { λ units device. device ≡ opening units };
+    ghost is_of = { λ units device. device ≡ opening GREATEST_TAG units };
 
     fn of_units(alloc: Global, units: Vec<Unit>) -> Result<KeptDevice, AllocError> {
         let target = Target::new(alloc, units)?;

@@ -9,8 +9,8 @@
 //! | controller/handle.rt | `uas_controller_new`, `uas_controller_open`, `uas_controller_call`, `uas_controller_close` |
 //!
 //! What is promised: each export does what the crate below it does, and its contract says so again, over records in place of
-//! enums and numbers in place of faults (specs/; of TRBs in `trb_record`, of operations and units in `c_common`). A fault is a number of
-//! `c_faults`, 0 for none, and a refused call changes nothing. What can be tested of a caller's promises is tested: types, fields and
+//! enums and numbers in place of faults (specs/; of TRBs, operations and units in `c_common`). A fault is a number of
+//! `c_common::faults`, 0 for none, and a refused call changes nothing. What can be tested of a caller's promises is tested: types, fields and
 //! lengths, the kind of a call, its phase, tag and blocks. A call of a handle goes through a *door*, a record with the call's number, its
 //! arguments and its answers: `after_call` (specs/DeviceCall.antt) and `controller_answer` (specs/ControllerCall.antt) say what it makes of
 //! the device or the controller, of the door and of the bytes, exactly. A received information unit is told with the tags whose tasks it
@@ -18,9 +18,9 @@
 //!
 //! What a caller upholds stands in the head of include/uas.h; nothing here tests it.
 //!
-//! It takes memory in `new` and `open` and for each loan to a controller. It stands on `c_common`, `trb_record`, `xhci_trb`, `uas_iu`,
-//! `scsi_cmd`, `uas_target` and `uas_controller`, by their contracts alone, and needs the C library's memory functions. The library `uas_c` has
-//! the driver and the bus; the two are linked together or this one alone.
+//! It takes memory in `new` and `open` and for each loan to a controller. It stands on `c_common`, `xhci_trb`, `uas_iu`, `scsi_cmd`,
+//! `uas_target` and `uas_controller`, by their contracts alone, and needs the C library's memory functions. The library `uas_c` has the
+//! driver and the bus; the two are linked together or this one alone.
 #![tactic(auto)]
 
 mod controller;

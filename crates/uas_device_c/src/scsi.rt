@@ -7,8 +7,8 @@ ghost use Rattle.scsi_cmd.specs.Data.{inquiry_bytes, capacity_bytes, long_capaci
 ghost use Rattle.c_common.specs.OperationRecord.{named_operation, operation_fault};
 ghost use Rattle.uas_device_c.specs.Scsi.{Parsed, capacity_fault, sense_in};
 
+use c_common::faults::{CAPACITY_NO_BLOCKS, CDB_CHECK, CDB_UNFIT, CDB_UNKNOWN_OPCODE};
 use c_common::{UasOperation, read_operation, record_of};
-use c_faults::{CAPACITY_NO_BLOCKS, CDB_CHECK, CDB_UNFIT, CDB_UNKNOWN_OPCODE};
 use scsi_cmd::{INQUIRY_BYTES, LONG_CAPACITY_BYTES, SENSE_BYTES, Sense};
 
 /// Sense data as C has it.

@@ -1,12 +1,12 @@
-//! TRBs for C (xHCI 1.2, 6.4): a record in place of the enum, which is `trb_record`'s.
+//! TRBs for C (xHCI 1.2, 6.4): a record in place of the enum, which is `c_common::trb`'s.
 ghost use Rattle.std.specs.Prelude.{◌≡◌, ◌<◌, ◌==◌, IfSome, Some};
 ghost use Rattle.xhci_trb.specs.Words.{words_in};
 ghost use Rattle.xhci_trb.specs.Text.{HasText, text, fault_in};
 ghost use Rattle.xhci_trb.specs.Reader.{trb_in, cycle_in};
-ghost use Rattle.trb_record.specs.TrbRecord.{named_trb, read_fault, trb_record, write_fault};
+ghost use Rattle.c_common.specs.trb.TrbRecord.{named_trb, read_fault, trb_record, write_fault};
 
-use c_faults::{TRB_UNFIT, TRB_UNKNOWN_TYPE};
-use trb_record::{UasTrb, fault_number, read_record, record_of};
+use c_common::faults::{TRB_UNFIT, TRB_UNKNOWN_TYPE};
+use c_common::trb::{UasTrb, fault_number, read_record, record_of};
 
 /// Writes the 16 bytes of a TRB with its Cycle bit. `TRB_UNKNOWN_TYPE` another type, `TRB_UNFIT` a field that doesn't fit its bits:
 /// then `bytes` are as they were.

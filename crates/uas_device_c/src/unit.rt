@@ -4,17 +4,17 @@ ghost use Rattle.arrayvec.specs.ArrayVec.{array_vec_len};
 ghost use Rattle.uas_iu.specs.Faults.{first_fault};
 ghost use Rattle.uas_iu.specs.Units.{Fits, IsTextOf, unit_size, unit_text};
 ghost use Rattle.uas_iu.specs.declared.Iu.{Iu};
-ghost use Rattle.c_faults.specs.declared.TheConstants.{UNIT_UNFIT, UNIT_UNKNOWN_ID};
-ghost use Rattle.trb_record.specs.RecordFault.{record_fault};
+ghost use Rattle.c_common.specs.declared.faults.TheConstants.{UNIT_UNFIT, UNIT_UNKNOWN_ID};
+ghost use Rattle.c_common.specs.trb.RecordFault.{record_fault};
 ghost use Rattle.uas_device_c.specs.UnitRecord.{has_too_much_sense, named_unit, record_size, unit_read_fault, unit_record, unit_write_fault};
 
 use arrayvec::ArrayVec;
-use c_common::{padded, put_unit};
-use c_faults::{
+use c_common::faults::{
     UNIT_LENGTH_FIELD, UNIT_LONG, UNIT_NO_ROOM, UNIT_RESERVED_SET, UNIT_SHORT, UNIT_UNFIT,
     UNIT_UNKNOWN_ID,
 };
-use trb_record::RecordFault;
+use c_common::trb::RecordFault;
+use c_common::{padded, put_unit};
 use uas_iu::{
     CDB_BYTES, COMMAND_ID, Iu, IuFault, LUN_BYTES, MAX_SENSE_BYTES, RESPONSE_ID, SENSE_ID, TASK_ID,
 };

@@ -1,8 +1,8 @@
 -- The room that the driver tests is the room that the host asks for.
-use Rattle.std.proofs.Common.{◌≡◌, ℕ, zero, suc, ◌+◌, ◌-◌, ◌/◌, ◌%◌, ◌<◌, ◌≤◌, ◌==◌, ◌&&◌, Bool, true, false, not, nat_lt, nat_le, List, length, Option, Some, None, is_none, is_some, refl, arith, inl, inr, sym}
+use Rattle.std.proofs.Common.{◌≡◌, ℕ, ◌+◌, ◌*◌, ◌-◌, ◌≤◌, ◌==◌, ◌&&◌, Bool, true, false, not, nat_lt, nat_le, List, length, Option, Some, None, is_none, is_some, refl, arith, inl, inr, sym}
 use Rattle.std.specs.Prelude.{if◌then◌else◌}
-use Rattle.std.proofs.lemmas.Bool.{and_from, and_parts, cases_Bool, le-leb, leb-true, lt-ltb, ltb-false, ltb-true}
-use Rattle.std.proofs.lemmas.Option.{cond_some, none-some, option_and_then_some}
+use Rattle.std.proofs.lemmas.Bool.{and_from, and_parts, cases_Bool, le-leb, leb-true, lt-ltb, ltb-false}
+use Rattle.std.proofs.lemmas.Option.{none-some, option_and_then_some}
 use Rattle.frame_store.specs.declared.TagBuffers.{TagBuffers}
 use Rattle.frame_store.specs.Buffers.{held_for}
 use Rattle.scsi_cmd.specs.declared.Command.{Command}
@@ -20,8 +20,9 @@ use Rattle.uas_profile.specs.declared.Direction.{Direction}
 use Rattle.uas_profile.specs.declared.Direction.TheVariants.{Nothing, ToHost, ToDevice}
 use Rattle.uas_profile.specs.declared.Pipe.{Pipe}
 use Rattle.uas_profile.specs.declared.Pipe.TheVariants.{Command as CommandPipe, Status, DataIn, DataOut}
-use Rattle.uas_profile.specs.declared.TheConstants.{MAX_CLIENTS, MOST_DATA_TRBS, STREAMS, TAGS, WINDOW_BYTES}
-use Rattle.uas_profile.specs.Places.{command_slot, own_slot, place_of}
+use Rattle.uas_profile.specs.declared.TheConstants.{MOST_DATA_TRBS, STREAMS, WINDOW_BYTES}
+use Rattle.uas_profile.specs.Tags.{command_slot, own_slot, place_of}
+use Rattle.uas_profile.proofs.TagLaws.{named-is_place, tags-within}
 use Rattle.uas_host.specs.declared.HostClient.{HostClient}
 use Rattle.uas_host.specs.State.{HostState, IsHost, client_of}
 use Rattle.uas_host.specs.Submit.{HasRoomFor, fault_at, host_fault}
@@ -106,19 +107,21 @@ pub record IsFaultless (tag : ℕ) (op : Op) : Type 0 where
   pub stream : has_stream tag ≡ true
   pub most : moved_bytes op ≤ WINDOW_BYTES
 
-own-stream : (clients client tag slot : ℕ) → clients ≤ MAX_CLIENTS → command_slot clients client tag ≡ Some slot → has_stream tag ≡ true
-own-stream clients client zero slot most is = absurd (none-some slot is)
-own-stream clients client (suc before) slot most is =
-    option_and_then_some (own_slot client) (place_of clients (suc before)) slot is (λ place at own_at.
-    let here = cond_some (nat_lt (before / TAGS) clients) (record { client = before / TAGS; slot = before % TAGS }) place at in
-    let there : before / TAGS < clients = ltb-true (before / TAGS) clients here.0 in
-    and_from (nat_lt 0 (suc before)) (nat_le (suc before) STREAMS) (lt-ltb 0 (suc before) (omega arith)) (le-leb (suc before) STREAMS (omega (arith, there, most))))
+own-stream : (host : HostState) (client tag slot : ℕ) → IsHost host → command_slot host.tags (length host.clients) client tag ≡ Some slot →
+    has_stream tag ≡ true
+own-stream host client tag slot sound is =
+    option_and_then_some (own_slot host.tags client) (place_of host.tags (length host.clients) tag) slot is (λ place at own_at.
+    let named = named-is_place host.tags (length host.clients) tag place (omega (arith, sound.number.least)) at in
+    let within = tags-within host.tags (length host.clients) place named.client named.slot in
+    let turned : host.tags * length host.clients ≡ length host.clients * host.tags = omega arith in
+    and_from (nat_lt 0 tag) (nat_le tag STREAMS) (lt-ltb 0 tag (omega (arith, named.is)))
+    (le-leb tag STREAMS (omega (arith, named.is, within.1, turned, sound.streams))))
 
-slot-faultless : (held : HostClient) (clients client tag ticket : ℕ) (command : Command) (slot : Option ℕ) → clients ≤ MAX_CLIENTS
-    → command_slot clients client tag ≡ slot → fault_at held ticket command slot ≡ None → IsFaultless tag command.op
-slot-faultless held clients client tag ticket command None most is none = absurd (none-some NotYours (sym none))
-slot-faultless held clients client tag ticket command (Some slot) most is none = record {
-  stream = own-stream clients client tag slot most is;
+slot-faultless : (host : HostState) (held : HostClient) (client tag ticket : ℕ) (command : Command) (slot : Option ℕ) → IsHost host
+    → command_slot host.tags (length host.clients) client tag ≡ slot → fault_at held ticket command slot ≡ None → IsFaultless tag command.op
+slot-faultless host held client tag ticket command None sound is none = absurd (none-some NotYours (sym none))
+slot-faultless host held client tag ticket command (Some slot) sound is none = record {
+  stream = own-stream host client tag slot sound is;
   most = short command.op (not_long (is_some (held_at held.entries slot)) (not (length command.buffer == moved_bytes command.op))
       (is_too_long command.op) (nat_lt ticket held.least_ticket) held.least_ticket none);
 }
@@ -127,17 +130,17 @@ slot-faultless held clients client tag ticket command (Some slot) most is none =
 pub room-for : (host : HostState) (lines : LinesState) (frames : List TagBuffers) (client tag ticket : ℕ) (command : Command) → IsHost host
     → lacks_room lines frames tag ≡ false → host_fault host client tag ticket command ≡ None → HasRoomFor lines frames tag command.op
 room-for host lines frames client tag ticket command sound lacks none =
-    let faultless = slot-faultless (client_of host client) (length host.clients) client tag ticket command
-    (command_slot (length host.clients) client tag) sound.most refl none in
+    let faultless = slot-faultless host (client_of host client) client tag ticket command
+    (command_slot host.tags (length host.clients) client tag) sound refl none in
     has_room-is lines frames tag command.op faultless.most
     (has-not_lacks (has_stream tag) (has_room lines frames tag) lacks faultless.stream)
 
 pub task-room-for : (host : HostState) (lines : LinesState) (client ticket : ℕ) (task : Task) → lacks_task_room host lines client ≡ false
-    → task_fault host client ticket task ≡ None → HasTaskRoom lines (task_tag client)
+    → task_fault host client ticket task ≡ None → HasTaskRoom lines (task_tag host.tags client)
 task-room-for host lines client ticket task lacks none =
-    elim (cases_Bool (nat_lt client (length host.clients))) as (λ _. HasTaskRoom lines (task_tag client)) [
+    elim (cases_Bool (nat_lt client (length host.clients))) as (λ _. HasTaskRoom lines (task_tag host.tags client)) [
       | inl there ↦
-          has_task_room-is lines (task_tag client)
-          (has-not_lacks (nat_lt client (length host.clients)) (has_task_room lines (task_tag client)) lacks there)
+          has_task_room-is lines (task_tag host.tags client)
+          (has-not_lacks (nat_lt client (length host.clients)) (has_task_room lines (task_tag host.tags client)) lacks there)
       | inr other ↦ absurd (none-some NotYours (sym (rw other at none)))
     ]

@@ -1,6 +1,6 @@
 -- What the calls make of the driver, what they answer, and the doorbells that are to be written. A refused call leaves the driver as it
 -- was and gives no doorbell; of several refusals it answers the first that holds.
-use Rattle.std.specs.Prelude.{ℕ, ◌+◌, ◌*◌, ◌^◌, ◌++◌, ◌&&◌, Bool, true, false, not, nat_lt, nat_le, if◌then◌else◌, List, [], ◌∷◌, length, Option, Some, None, Result, Ok, Err, is_none, is_some, slice_index_or, slice_set}
+use Rattle.std.specs.Prelude.{ℕ, ◌^◌, ◌++◌, Bool, true, false, not, nat_lt, nat_le, if◌then◌else◌, List, [], ◌∷◌, length, Option, Some, None, Result, Ok, Err, is_none, is_some, slice_index_or, slice_set}
 use Rattle.std.specs.Option.{option_map_or}
 use Rattle.scsi_cmd.specs.declared.Command.{Command}
 use Rattle.scsi_cmd.specs.declared.Reply.{Reply}
@@ -9,7 +9,8 @@ use Rattle.scsi_cmd.specs.Op.{direction_of}
 use Rattle.uas_profile.specs.Doors.{data_doors, door_unless}
 use Rattle.uas_profile.specs.declared.Direction.{Direction}
 use Rattle.uas_profile.specs.declared.Pipe.{Pipe}
-use Rattle.uas_profile.specs.declared.TheConstants.{ENGINE_RING_PLACES, TAGS}
+use Rattle.uas_profile.specs.declared.TheConstants.{ENGINE_RING_PLACES}
+use Rattle.uas_profile.specs.Tags.{command_slot}
 use Rattle.uas_profile.specs.declared.Pipe.TheVariants.{Command as CommandPipe, Status, DataIn, DataOut}
 use Rattle.stream_array.specs.Contexts.{context_text, has_stream}
 use Rattle.stream_array.specs.Map.{places_of, spot_at}
@@ -111,14 +112,14 @@ submit_by driver client tag ticket command =
 
 -- the task tag of a client that is there
 abbrev pub task_tag_in : HostState → ℕ → ℕ
-task_tag_in host client = if nat_lt client (length host.clients) then task_tag client else 0
+task_tag_in host client = if nat_lt client (length host.clients) then task_tag host.tags client else 0
 
 abbrev pub managed_to : DriverState → ℕ → ℕ → Task → After (Result (Unit {0}) Refusal)
 managed_to driver client ticket task = (
   record driver {
     host = managed driver.host client ticket task;
-    lines = pushed_task driver.lines (task_tag client);
-    frames = with_task_unit driver.frames client task;
+    lines = pushed_task driver.lines (task_tag driver.host.tags client);
+    frames = with_task_unit driver.host.tags driver.frames client task;
     endpoints = all_rung driver.recovery driver.endpoints;
   },
   Ok tt,
@@ -172,7 +173,7 @@ reply_by driver client =
 
 -- the tag is one of a client's for commands
 abbrev pub is_own : HostState → ℕ → ℕ → Bool
-is_own host client tag = nat_lt client (length host.clients) && (nat_lt (TAGS * client) tag && nat_lt tag (TAGS * client + TAGS))
+is_own host client tag = is_some (command_slot host.tags (length host.clients) client tag)
 
 abbrev pub with_done : Told → After (Result (Unit {0}) Refusal)
 with_done (driver, doors) = (driver, Ok tt, doors)

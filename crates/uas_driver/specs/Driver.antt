@@ -31,8 +31,8 @@ all_run = record { command = Running; status = Running; data_in = Running; data_
 
 -- At the start no client has submitted anything, every ring is empty at its address with cycle state 1, all buffers are zeros and
 -- nothing is lent.
-pub record IsOpening (clients : ℕ) (driver : DriverState) : Type 0 where
-  pub host : driver.host ≡ opening_host clients
+pub record IsOpening (tags clients : ℕ) (driver : DriverState) : Type 0 where
+  pub host : driver.host ≡ opening_host tags clients
   pub lines : IsOpeningLines driver.lines
   pub frames : driver.frames ≡ opening_frames
   pub moved : driver.moved ≡ replicate STREAM_ENTRIES 0

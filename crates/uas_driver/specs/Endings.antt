@@ -1,5 +1,5 @@
 -- Commands that the driver ends itself: one of whose TDs failed, or that its client gave up; and what their clients are told.
-use Rattle.std.specs.Prelude.{ℕ, ◌+◌, ◌-◌, ◌*◌, ◌%◌, ◌==◌, ◌&&◌, ◌||◌, not, Bool, false, if◌then◌else◌, List, [], length, is_none, is_some}
+use Rattle.std.specs.Prelude.{ℕ, ◌+◌, ◌-◌, ◌*◌, ◌==◌, ◌&&◌, ◌||◌, not, Bool, false, if◌then◌else◌, List, [], length, is_none, is_some}
 use Rattle.std.specs.Prelude.{slice_set, slice_index_or, Option, Some, None}
 use Rattle.std.specs.List.{find, range_with_len}
 use Rattle.std.specs.Option.{option_map_or}
@@ -15,7 +15,8 @@ use Rattle.uas_iu.specs.declared.Iu.TheVariants.{Sense as SenseUnit, Response as
 use Rattle.uas_iu.specs.Units.{unit_text}
 use Rattle.uas_profile.specs.declared.Pipe.{Pipe}
 use Rattle.uas_profile.specs.declared.Pipe.TheVariants.{Command, Status, DataIn, DataOut}
-use Rattle.uas_profile.specs.declared.TheConstants.{BUFFER_SPAN, COMMAND_BUFFERS, STREAMS, TAGS, TASK_SLOT}
+use Rattle.uas_profile.specs.declared.TheConstants.{BUFFER_SPAN, COMMAND_BUFFERS, STREAMS}
+use Rattle.uas_profile.specs.Tags.{slot_of, task_slot}
 use Rattle.uas_host.specs.Retirement.{has_pending, is_left_over_on}
 use Rattle.uas_host.specs.State.{HostState}
 use Rattle.uas_driver.specs.Driver.{DriverState}
@@ -72,9 +73,9 @@ due_tag driver pipe = if driver.ending == 0 then None else find (is_due driver p
 -- WHAT CLIENTS ARE TOLD
 
 -- the answer that stands in for the device's: of a command GOOD without sense data, of a task management the response FUNCTION FAILED, 05h
-abbrev pub stand_in : ℕ → List ℕ
-stand_in tag =
-    if (tag - 1) % TAGS == TASK_SLOT then unit_text (ResponseUnit tag 5) else unit_text (SenseUnit tag 0 (record { items = [] }))
+abbrev pub stand_in : ℕ → ℕ → List ℕ
+stand_in tags tag =
+    if slot_of tags tag == task_slot tags then unit_text (ResponseUnit tag 5) else unit_text (SenseUnit tag 0 (record { items = [] }))
 
 -- the answer of a command's client, where the driver told its status itself
 abbrev pub ended_answer : ℕ → ℕ → ℕ → List ℕ → Cause → Answer

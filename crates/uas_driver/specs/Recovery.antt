@@ -13,7 +13,7 @@ use Rattle.stream_array.specs.Map.{has_ring, places_of}
 use Rattle.stream_array.specs.Rings.{LinesState, stream_ring, with_engine}
 use Rattle.uas_profile.specs.Doors.{door}
 use Rattle.uas_profile.specs.Pipes.{same_pipe, target_of}
-use Rattle.uas_profile.specs.Places.{tag_of}
+use Rattle.uas_profile.specs.Tags.{tag_of}
 use Rattle.uas_profile.specs.declared.Pipe.{Pipe}
 use Rattle.uas_profile.specs.declared.Pipe.TheVariants.{Command, Status, DataIn, DataOut}
 use Rattle.uas_profile.specs.declared.TheConstants.{BUFFER_SPAN, ENGINE_RING_PLACES, SHORT_PACKET, SLOT, STATUS_BUFFERS, STATUS_BYTES, STREAM_ENTRIES, STREAM_RING_PLACES, STREAMS, SUCCESS}
@@ -184,8 +184,8 @@ with_told_end tag made = if is_matched made.1 then record made.0 { ends = told_i
 abbrev pub taken_off : DriverState → Pipe → ℕ → ℕ → DriverState
 taken_off driver Command tag last = (handed driver (Some (record { pointer = last; residual = 0; code = SUCCESS }))).0
 taken_off driver Status tag last =
-    with_told_end tag (handed (wrote driver (STATUS_BUFFERS + BUFFER_SPAN * tag) (stand_in tag))
-    (Some (record { pointer = last; residual = STATUS_BYTES - length (stand_in tag); code = SHORT_PACKET })))
+    with_told_end tag (handed (wrote driver (STATUS_BUFFERS + BUFFER_SPAN * tag) (stand_in driver.host.tags tag))
+    (Some (record { pointer = last; residual = STATUS_BYTES - length (stand_in driver.host.tags tag); code = SHORT_PACKET })))
 taken_off driver DataIn tag last = (handed driver (Some (record { pointer = last; residual = 0; code = SUCCESS }))).0
 taken_off driver DataOut tag last = (handed driver (Some (record { pointer = last; residual = 0; code = SUCCESS }))).0
 
@@ -253,7 +253,7 @@ host_goes_on driver recovery retirement doors = by_stage retirement.stage
     by_stage : RetirementStage → Told
     by_stage hosts.Stopping =
         if is_resetting recovery.stage then put driver (record recovery { stage = Stopping }) doors else host_moves driver recovery doors
-    by_stage hosts.Moving = host_moves_again driver recovery (tag_of retirement.place) doors
+    by_stage hosts.Moving = host_moves_again driver recovery (tag_of driver.host.tags retirement.place) doors
 
 -- the doorbells of all streams of a pipe with pending TRBs, in rising order; of the command pipe its own
 abbrev pub restart_doors : LinesState → Pipe → List ℕ
@@ -376,7 +376,7 @@ host_move_of driver recovery =
 -- the command that was done last is put once more
 abbrev pub put_again : DriverState → Recovery → List ℕ → Told
 put_again driver recovery doors =
-    option_map_or (λ retirement. host_moves_again driver recovery (tag_of retirement.place) doors) (host_move_of driver recovery)
+    option_map_or (λ retirement. host_moves_again driver recovery (tag_of driver.host.tags retirement.place) doors) (host_move_of driver recovery)
     (put driver recovery doors)
 
 abbrev pub by_next : DriverState → Recovery → ℕ → Next → List ℕ → Told

@@ -33,7 +33,7 @@ abbrev pub lacks_room : LinesState → List TagBuffers → ℕ → Bool
 lacks_room lines frames tag = has_stream tag && not (has_room lines frames tag)
 
 abbrev pub lacks_task_room : HostState → LinesState → ℕ → Bool
-lacks_task_room host lines client = nat_lt client (length host.clients) && not (has_task_room lines (task_tag client))
+lacks_task_room host lines client = nat_lt client (length host.clients) && not (has_task_room lines (task_tag host.tags client))
 
 -- for a command on the controller's command ring
 abbrev pub has_engine_room : LinesState → Bool

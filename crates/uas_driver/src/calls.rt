@@ -11,7 +11,9 @@ ghost use Rattle.arrayvec.specs.ArrayVec.{array_vec_len};
 ghost use Rattle.uas_profile.specs.Doors.{data_doors, door_unless};
 
 use crate::endings::{answer_by, end_of, tag_of_reply};
-use crate::room::{has_engine_room, has_stream, is_lent, lacks_room, lacks_task_room, sound};
+use crate::room::{
+    has_engine_room, has_stream, is_lent, lacks_room, lacks_task_room, sound, task_tag_of,
+};
 use crate::states::{Endpoints, Recovery};
 use crate::steps::new_recovery;
 use crate::{Answer, Cause, Driver, EndpointState, Refusal};
@@ -19,7 +21,7 @@ use arrayvec::ArrayVec;
 use scsi_cmd::{Command, Direction, Reply, SubmitFault, Task, moves};
 use stream_array::{Pipe, doorbell};
 use uas_host::Host;
-use uas_profile::{STREAM_ENTRIES, TAGS, TASK_SLOT};
+use uas_profile::{STREAM_ENTRIES, client_of, slot_of, task_slot};
 
 /// The first number that is no ticket.
 const TICKETS: u64 = 1 << 60;
@@ -133,7 +135,7 @@ impl Driver {
         doors: &mut ArrayVec<u32, STREAM_ENTRIES>,
     ) -> Result<(), Refusal>
         requires ticket { ticket < 2 ^ 60 }
-        requires room { task_fault self.old.host client ticket task ≡ None → HasTaskRoom self.old.lines (task_tag client) }
+        requires room { task_fault self.old.host client ticket task ≡ None → HasTaskRoom self.old.lines (task_tag self.old.host.tags client) }
         requires doors { doors.old.items ≡ [] }
         ensures { host_manages self.old client ticket task ≡ (self.new, result, doors.new.items) }
     {
@@ -241,7 +243,11 @@ fn is_own(host: &Host, client: usize, tag: u16) -> bool
     ensures known { result ≡ true → (1 ≤ tag) × (tag ≤ STREAMS) }
 {
     sound(host);
-    client < host.clients() && TAGS * client < tag as usize && (tag as usize) < TAGS * client + TAGS
+    let tags = host.tags();
+    tag != 0
+        && client_of(tags, tag) == client
+        && client < host.clients()
+        && slot_of(tags, tag) < task_slot(tags)
 }
 
 /// Whether an endpoint is under recovery.
@@ -351,9 +357,8 @@ fn all_rung(recovery: &Option<Recovery>, now: Endpoints) -> Endpoints
 fn task_tag_in(host: &Host, client: usize) -> u16
     ensures { result ≡ task_tag_in host.now client }
 {
-    sound(host);
     if client < host.clients() {
-        (client * TAGS + TASK_SLOT + 1) as u16
+        task_tag_of(host, client)
     } else {
         0
     }

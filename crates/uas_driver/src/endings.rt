@@ -1,5 +1,5 @@
 //! Commands that the driver ends itself: which TDs are to be taken off, and what clients are told.
-ghost use Rattle.std.specs.Prelude.{◌≡◌, ◌≤◌, IfSome, is_some, length, true};
+ghost use Rattle.std.specs.Prelude.{◌≡◌, ◌<◌, ◌≤◌, IfSome, is_some, length, true};
 ghost use Rattle.uas_profile.specs.Pipes.{HasStreams};
 ghost use Rattle.uas_profile.specs.declared.TheConstants.{STREAMS};
 ghost use Rattle.uas_driver.specs.Endings.{answer_by, answer_given, answer_told, due_tag, end_of, ended_answer, ended_task, has_td, is_due, is_front_command};
@@ -14,8 +14,8 @@ use stream_array::{Lines, Pipe};
 use uas_host::Host;
 use uas_iu::{Iu, write};
 use uas_profile::{
-    BUFFER_SPAN, COMMAND_BUFFERS, STATUS_BYTES, STREAM_ENTRIES, STREAM_RING_PLACES, STREAMS, TAGS,
-    TASK_SLOT,
+    BUFFER_SPAN, COMMAND_BUFFERS, STATUS_BYTES, STREAM_ENTRIES, STREAM_RING_PLACES, STREAMS,
+    slot_of, task_slot,
 };
 use xhci_trb::Trb;
 
@@ -67,13 +67,14 @@ fn stands_on(host: &Host, lines: &Lines, pipe: Pipe, tag: u16) -> bool
     }
 }
 
-/// The answer that stands in for the device's.
-pub(crate) fn stand_in(tag: u16) -> ArrayVec<u8, STATUS_BYTES>
-    requires { 1 ≤ tag }
-    ensures { result.items ≡ stand_in tag }
+/// The answer that stands in for the device's, where clients have so many tags.
+pub(crate) fn stand_in(tags: usize, tag: u16) -> ArrayVec<u8, STATUS_BYTES>
+    requires tags { 0 < tags }
+    requires tag { 1 ≤ tag }
+    ensures { result.items ≡ stand_in tags tag }
 {
     let mut unit = ArrayVec::new();
-    if (tag as usize - 1) % TAGS == TASK_SLOT {
+    if slot_of(tags, tag) == task_slot(tags) {
         write(
             &Iu::Response {
                 tag,

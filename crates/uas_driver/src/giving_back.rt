@@ -46,10 +46,10 @@ impl Driver {
     fn put_stand_in(&mut self, tag: u16) -> u32
         requires first_tag { 1 ≤ tag }
         requires last_tag { tag ≤ STREAMS }
-        ensures wrote { self.new ≡ wrote self.old (STATUS_BUFFERS + BUFFER_SPAN * tag) (stand_in tag) }
-        ensures left { result ≡ STATUS_BYTES - length (stand_in tag) }
+        ensures wrote { self.new ≡ wrote self.old (STATUS_BUFFERS + BUFFER_SPAN * tag) (stand_in self.old.host.tags tag) }
+        ensures left { result ≡ STATUS_BYTES - length (stand_in self.old.host.tags tag) }
     {
-        let unit = stand_in(tag);
+        let unit = stand_in(self.host.tags(), tag);
         self.put_bytes(STATUS_BUFFERS + BUFFER_SPAN * u64::from(tag), &unit);
         STATUS_BYTES.saturating_sub(unit.len()) as u32
     }

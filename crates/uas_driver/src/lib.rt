@@ -47,7 +47,8 @@
 #![tactic(auto)]
 
 ghost use Rattle.std.specs.Prelude.{◌≡◌, ℕ, ◌*◌, ◌<◌, ◌≤◌, true, false, IfOk, IfSome, IfNone, is_some, length, slice_get};
-ghost use Rattle.uas_profile.specs.declared.TheConstants.{TAGS};
+ghost use Rattle.uas_profile.specs.declared.TheConstants.{STREAMS};
+ghost use Rattle.uas_profile.specs.Tags.{AreTags};
 ghost use Rattle.uas_host.specs.NextReply.{next_len};
 ghost use Rattle.uas_host.specs.Retirement.{is_left_over_on};
 ghost use Rattle.uas_host.specs.State.{client_of};
@@ -78,7 +79,7 @@ use std::marker::Model;
 use stream_array::{Lines, Pipe};
 use thiserror::Error;
 use uas_host::Host;
-use uas_profile::{MAX_CLIENTS, STREAM_ENTRIES};
+use uas_profile::{MAX_CLIENTS, STREAM_ENTRIES, TAGS, USUAL_CLIENTS};
 
 /// Want of memory, the one refusal of a constructor.
 pub type NoMemory = AllocError;
@@ -226,15 +227,27 @@ impl Model for Driver {
 }
 
 impl Driver {
-    /// A driver of so many clients, 1 to 15 (`MAX_CLIENTS`), that have submitted nothing. Rings and buffers are zeros. The error is want
-    /// of memory.
+    /// A driver of so many clients, 1 to 15 (`USUAL_CLIENTS`), with 16 tags each (`TAGS`), that have submitted nothing. Rings and buffers
+    /// are zeros. The error is want of memory.
     pub fn new(alloc: Global, clients: usize) -> Result<Driver, NoMemory>
         requires some { 1 ≤ clients }
+        requires most { clients ≤ USUAL_CLIENTS }
+        ensures { IfOk result (IsOpening TAGS clients) }
+    {
+        Driver::with_tags(alloc, clients, TAGS)
+    }
+
+    /// The same of 1 to 31 (`MAX_CLIENTS`) clients with another number of tags each, 2 to 16. Each tag has its streams, of which there are
+    /// 248.
+    pub fn with_tags(alloc: Global, clients: usize, tags: usize) -> Result<Driver, NoMemory>
+        requires number { AreTags tags }
+        requires some { 1 ≤ clients }
         requires most { clients ≤ MAX_CLIENTS }
-        ensures { IfOk result (IsOpening clients) }
+        requires streams { clients * tags ≤ STREAMS }
+        ensures { IfOk result (IsOpening tags clients) }
     {
         Ok(Driver {
-            host: Host::new(alloc, clients)?,
+            host: Host::with_tags(alloc, clients, tags)?,
             lines: Lines::new(alloc)?,
             frames: Frames::new(alloc)?,
             moved: [0; STREAM_ENTRIES],
@@ -257,6 +270,14 @@ impl Driver {
         ensures { result ≡ length self.now.host.clients }
     {
         self.host.clients()
+    }
+
+    /// How many tags each client has, 2 to 16; the last of them is kept for task management.
+    pub fn tags(&self) -> usize
+        ensures tags { result ≡ self.now.host.tags }
+        ensures number { AreTags result }
+    {
+        self.host.tags()
     }
 
     /// How many events were stray.
@@ -289,7 +310,7 @@ impl Driver {
 
     /// The least tag above this one whose TD on a pipe is left over, and so is to be retired.
     pub fn next_left_over(&self, pipe: Pipe, tag: u16) -> Option<u16>
-        ensures next { IfSome result (λ next. (tag < next) × (next ≤ length self.now.host.clients * TAGS)
+        ensures next { IfSome result (λ next. (tag < next) × (next ≤ length self.now.host.clients * self.now.host.tags)
             × (is_left_over_on self.now.host pipe next ≡ true)
             × ((other : ℕ) → tag < other → other < next → is_left_over_on self.now.host pipe other ≡ false)) }
         ensures none { IfNone result ((other : ℕ) → tag < other → is_left_over_on self.now.host pipe other ≡ false) }

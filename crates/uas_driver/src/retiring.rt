@@ -1,19 +1,19 @@
 //! The host's own retirement of a TD, as a recovery of its pipe.
 ghost use Rattle.std.specs.Prelude.{◌≡◌, ◌≤◌, IfSome, length};
 ghost use Rattle.uas_profile.specs.declared.TheConstants.{STREAMS};
-ghost use Rattle.uas_profile.specs.Places.{tag_of};
+ghost use Rattle.uas_profile.specs.Tags.{tag_of};
 ghost use Rattle.uas_host.specs.State.{IsRetirement};
 ghost use Rattle.uas_driver.specs.Recovery.{host_goes_on, host_handed, host_move_of, host_moved, host_moves, host_moves_again, left, lost_host, retirement_on};
 
 use crate::recovery::{free, pass_td, stream_of};
-use crate::room::sound;
+use crate::room::{sound, tag_under};
 use crate::states::{Recovery, Stage, Subject, running_if};
 use crate::{Driver, EndpointState};
 use arrayvec::ArrayVec;
 use event_ring::Event;
 use stream_array::Pipe;
 use uas_host::{Retirement, RetirementStage};
-use uas_profile::{SLOT, STREAM_ENTRIES, SUCCESS, TAGS};
+use uas_profile::{SLOT, STREAM_ENTRIES, SUCCESS};
 
 type Doors = ArrayVec<u32, STREAM_ENTRIES>;
 
@@ -78,18 +78,17 @@ impl Driver {
         retirement: Retirement,
         doors: &mut Doors,
     )
-        requires { IsRetirement (length self.old.host.clients) retirement }
-        ensures { (self.new, doors.new.items) ≡ host_moves_again self.old recovery (tag_of retirement.place) doors.old.items }
+        requires { IsRetirement self.old.host.tags (length self.old.host.clients) retirement }
+        ensures { (self.new, doors.new.items) ≡ host_moves_again self.old recovery (tag_of self.old.host.tags retirement.place) doors.old.items }
     {
-        sound(&self.host);
-        let tag = (retirement.place.client * TAGS + retirement.place.slot + 1) as u16;
+        let tag = tag_under(&self.host, retirement.place);
         self.move_host_again(recovery, tag, doors);
     }
 
     /// The retirement of the host's whose Set TR Dequeue Pointer is the command that was done last.
     pub(crate) fn host_move_of(&self, recovery: &Recovery) -> Option<Retirement>
         ensures retirement { result ≡ host_move_of self.now recovery.now }
-        ensures known { IfSome result (IsRetirement (length self.now.host.clients)) }
+        ensures known { IfSome result (IsRetirement self.now.host.tags (length self.now.host.clients)) }
     {
         if recovery.stage.is_moving() && recovery.subject.is_host_td() {
             self.retirement_on(recovery.pipe)
@@ -105,7 +104,7 @@ impl Driver {
         retirement: Retirement,
         doors: &mut Doors,
     )
-        requires { IsRetirement (length self.old.host.clients) retirement }
+        requires { IsRetirement self.old.host.tags (length self.old.host.clients) retirement }
         ensures { (self.new, doors.new.items) ≡ host_goes_on self.old recovery retirement doors.old.items }
     {
         match retirement.stage {
@@ -124,7 +123,7 @@ impl Driver {
     /// The retirement of the host's that is under way on a pipe.
     pub(crate) fn retirement_on(&self, pipe: Pipe) -> Option<Retirement>
         ensures retirement { result ≡ retirement_on self.now pipe }
-        ensures known { IfSome result (IsRetirement (length self.now.host.clients)) }
+        ensures known { IfSome result (IsRetirement self.now.host.tags (length self.now.host.clients)) }
     {
         sound(&self.host);
         match self.host.retirement() {

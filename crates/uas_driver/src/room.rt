@@ -1,16 +1,18 @@
 //! The room that a call needs on rings and in buffers, tested.
-ghost use Rattle.std.specs.Prelude.{◌≡◌, ◌≤◌, false, is_some};
+ghost use Rattle.std.specs.Prelude.{◌≡◌, ◌<◌, ◌≤◌, false, is_some, length};
 ghost use Rattle.uas_profile.specs.declared.TheConstants.{STREAMS};
 ghost use Rattle.stream_array.specs.Contexts.{has_stream};
 ghost use Rattle.stream_array.specs.Map.{HasRing};
 ghost use Rattle.frame_store.specs.Buffers.{IsWhole, held_for};
+ghost use Rattle.uas_profile.specs.Tags.{tag_of};
 ghost use Rattle.uas_host.specs.State.{IsHost};
+ghost use Rattle.uas_host.specs.Tasks.{task_tag};
 ghost use Rattle.uas_driver.specs.Room.{has_data_room, has_engine_room, has_room, has_task_room, lacks_room, lacks_task_room, ring_has};
 
 use frame_store::Frames;
 use stream_array::{Lines, Pipe};
-use uas_host::Host;
-use uas_profile::{MOST_DATA_TRBS, STREAMS, TAGS, TASK_SLOT};
+use uas_host::{Host, Place};
+use uas_profile::{MOST_DATA_TRBS, STREAMS, tag_of, task_slot};
 
 /// Whether a tag has buffers, and each pipe with streams a ring for it.
 pub(crate) fn has_stream(stream: u16) -> bool
@@ -25,6 +27,29 @@ pub(crate) fn sound(host: &Host)
     ensures { IsHost host.now }
 {
     prove!(host.clients() > 0);
+}
+
+/// The tag of a place of the host.
+pub(crate) fn tag_under(host: &Host, place: Place) -> u16
+    requires client { place.client < length host.now.clients }
+    requires slot { place.slot < host.now.tags }
+    ensures tag { result ≡ tag_of host.now.tags place }
+    ensures first_tag { 1 ≤ result }
+    ensures last_tag { result ≤ STREAMS }
+{
+    sound(host);
+    tag_of(host.tags(), place)
+}
+
+/// The tag for task managements of a client that is there.
+pub(crate) fn task_tag_of(host: &Host, client: usize) -> u16
+    requires { client < length host.now.clients }
+    ensures tag { result ≡ task_tag host.now.tags client }
+    ensures first_tag { 1 ≤ result }
+    ensures last_tag { result ≤ STREAMS }
+{
+    let slot = task_slot(host.tags());
+    tag_under(host, Place { client, slot })
 }
 
 /// What holds of all buffers: each has its size.
@@ -100,7 +125,7 @@ pub(crate) fn lacks_room(lines: &Lines, frames: &mut Frames, tag: u16) -> bool
 pub(crate) fn lacks_task_room(host: &Host, lines: &Lines, client: usize) -> bool
     ensures { result ≡ lacks_task_room host.now lines.now client }
 {
-    client < host.clients() && !has_task_room(lines, (client * TAGS + TASK_SLOT + 1) as u16)
+    client < host.clients() && !has_task_room(lines, task_tag_of(host, client))
 }
 
 /// Whether the controller's command ring has room for a command.

@@ -14,7 +14,7 @@ use Rattle.uas_profile.specs.declared.TdState.{TdState}
 use Rattle.uas_profile.specs.declared.TdState.TheVariants.{Pending, Seen, LeftOver, Retired}
 use Rattle.uas_profile.specs.declared.Place.{Place}
 use Rattle.uas_profile.specs.declared.TheConstants.{STREAMS, SUCCESS, SHORT_PACKET}
-use Rattle.uas_profile.specs.Places.{place_of}
+use Rattle.uas_profile.specs.Tags.{place_of}
 use Rattle.uas_profile.specs.TdStates.{is_pending}
 use Rattle.stream_array.specs.Map.{places_of, spot_at}
 use Rattle.stream_array.specs.Rings.{LinesState, ring_of}
@@ -297,7 +297,7 @@ is-accepted DataOut unit code tag held is = out-accepts unit code tag held ∙ r
 -- the host waits for what the entry under the tag waits for
 pub host_seen-held : (notice : Notice) (host : HostState) (tag : ℕ) → is_some (host_seen notice host tag) ≡ is_some (option_and_then (seen notice) (held_of host tag))
 host_seen-held notice host tag =
-    elim (place_of (length host.clients) tag) as (λ o. is_some (option_and_then (place_seen notice host) o)
+    elim (place_of host.tags (length host.clients) tag) as (λ o. is_some (option_and_then (place_seen notice host) o)
     ≡ is_some (option_and_then (seen notice) (option_and_then (λ (place : Place). held_at (client_of host place.client).entries place.slot) o))) [
       | None ↦ refl
       | Some place ↦

@@ -1,10 +1,11 @@
 -- What an event leaves over of the host, told by what the event brings (specs/LeftBy).
-use Rattle.std.proofs.Common.{◌≡◌, ℕ, zero, suc, ◌-◌, ◌/◌, ◌%◌, ◌<◌, ◌≤◌, ◌⊎◌, Bool, true, false, List, [], length, length-set, Option, Some, None}
+use Rattle.std.proofs.Common.{◌≡◌, ℕ, zero, suc, ◌+◌, ◌*◌, ◌/◌, ◌%◌, ◌<◌, ◌≤◌, ◌⊎◌, Bool, true, false, List, [], length, length-set, Option, Some, None}
 use Rattle.std.proofs.Common.{refl, arith, sym, ap, subst, ◌∙◌, inl, inr}
 use Rattle.std.specs.Prelude.{◌==◌, ◌&&◌, nat_lt, cond, option_and_then, option_map, slice_index, slice_index_or, slice_set, unwrap_or, drop, is_none, is_some}
 use Rattle.std.specs.Option.{option_map_or}
 use Rattle.std.specs.List.{list_any}
 use Rattle.std.proofs.lemmas.Bool.{cases_eq, eqb-true, ltb-true}
+use Rattle.std.proofs.lemmas.Nat.{div-add-mod'}
 use Rattle.std.proofs.lemmas.List.{get_or-set_same, get_or-set_other}
 use Rattle.arrayvec.specs.ArrayVec.{ArrayVec}
 use Rattle.event_ring.specs.declared.Event.{Event}
@@ -13,8 +14,8 @@ use Rattle.uas_profile.specs.declared.Pipe.{Pipe}
 use Rattle.uas_profile.specs.declared.Pipe.TheVariants.{Command, Status, DataIn, DataOut}
 use Rattle.uas_profile.specs.declared.TdState.TheVariants.{Pending}
 use Rattle.uas_profile.specs.declared.Place.{Place}
-use Rattle.uas_profile.specs.declared.TheConstants.{TAGS, SUCCESS, SHORT_PACKET}
-use Rattle.uas_profile.specs.Places.{place_of}
+use Rattle.uas_profile.specs.declared.TheConstants.{SUCCESS, SHORT_PACKET}
+use Rattle.uas_profile.specs.Tags.{client_of as client_of_tag, place_of, slot_of}
 use Rattle.frame_store.specs.declared.TagBuffers.{TagBuffers}
 use Rattle.scsi_cmd.specs.Held.{held_at}
 use Rattle.scsi_cmd.specs.declared.Request.{Request}
@@ -50,28 +51,32 @@ true-false false is other = cc
 -- THE HOST
 
 -- the place of a tag
-pub record IsAt (clients tag : ℕ) (place : Place) : Type 0 where
+pub record IsAt (tags clients tag : ℕ) (place : Place) : Type 0 where
   pub there : place.client < clients
-  pub client : (tag - 1) / TAGS ≡ place.client
-  pub slot : (tag - 1) % TAGS ≡ place.slot
+  pub client : client_of_tag tags tag ≡ place.client
+  pub slot : slot_of tags tag ≡ place.slot
   pub some : 1 ≤ tag
 
-place-is : (clients tag : ℕ) (place : Place) → place_of clients tag ≡ Some place → IsAt clients tag place
-place-is clients zero place is = absurd (cc)
-place-is clients (suc before) place is =
-    elim (nat_lt (before / TAGS) clients) as (λ b. nat_lt (before / TAGS) clients ≡ b →
-    cond b (Some (let p : Place = record { client = before / TAGS; slot = before % TAGS } in p)) None ≡ Some place → IsAt clients (suc before) place) [
+place-is : (tags clients tag : ℕ) (place : Place) → place_of tags clients tag ≡ Some place → IsAt tags clients tag place
+place-is tags clients zero place is = absurd (cc)
+place-is tags clients (suc before) place is =
+    let owner : ℕ = client_of_tag tags (suc before) in
+    let here : Place = record { client = owner; slot = slot_of tags (suc before) } in
+    elim (nat_lt owner clients) as (λ b. nat_lt owner clients ≡ b → cond b (Some here) None ≡ Some place → IsAt tags clients (suc before) place) [
       | true ↦ λ there it.
-          let here : Place = record { client = before / TAGS; slot = before % TAGS } in
           let same : here ≡ place = some-same here place it in
-          subst (λ (p : Place). IsAt clients (suc before) p) same (record {
-            there = ltb-true (before / TAGS) clients there;
-            client = omega arith;
-            slot = omega arith;
-            some = omega arith;
-          })
+          subst (λ (p : Place). IsAt tags clients (suc before) p) same
+          (record { there = ltb-true owner clients there; client = refl; slot = refl; some = omega arith })
       | false ↦ λ past it. absurd (cc)
     ] refl is
+
+-- two tags of one place are one
+one-tag : (tags one other : ℕ) → 1 ≤ one → 1 ≤ other → client_of_tag tags one ≡ client_of_tag tags other → slot_of tags one ≡ slot_of tags other → one ≡ other
+one-tag tags zero other some more client slot = absurd (omega (arith, some))
+one-tag tags (suc one) zero some more client slot = absurd (omega (arith, more))
+one-tag tags (suc one) (suc other) some more client slot =
+    ap suc (sym (div-add-mod' one tags) ∙ (ap (λ owner. owner * tags + one % tags) client
+    ∙ (ap (λ at. other / tags * tags + at) slot ∙ div-add-mod' other tags)))
 
 abbrev at_place : HostState → Place → Option HostEntry
 at_place host place = held_at (client_of host place.client).entries place.slot
@@ -79,7 +84,8 @@ at_place host place = held_at (client_of host place.client).entries place.slot
 abbrev left_on : Pipe → Option HostEntry → Bool
 left_on pipe held = option_map_or (is_td_left_over pipe) held false
 
-held-at : (host : HostState) (tag : ℕ) (place : Place) → place_of (length host.clients) tag ≡ Some place → held_of host tag ≡ at_place host place
+held-at : (host : HostState) (tag : ℕ) (place : Place) → place_of host.tags (length host.clients) tag ≡ Some place →
+    held_of host tag ≡ at_place host place
 held-at host tag place is = rw is refl
 
 -- how a TD of a tag became left over by an event of a place
@@ -87,17 +93,17 @@ pub record PlaceLeft (notice : Notice) (host : HostState) (place : Place) (tag :
   pub manager : HostEntry
   pub here : at_place host place ≡ Some manager
   pub at : Place
-  pub tag_at : place_of (length host.clients) tag ≡ Some at
+  pub tag_at : place_of host.tags (length host.clients) tag ≡ Some at
   pub client : at.client ≡ place.client
   pub became : Became notice (client_of host place.client).entries place.slot at.slot manager pipe
 
 client-became : (notice : Notice) (host : HostState) (place at : Place) (tag : ℕ) (held now : HostEntry) (pipe : Pipe) →
-    place_of (length host.clients) tag ≡ Some at → at_place host place ≡ Some held → seen notice held ≡ Some now →
+    place_of host.tags (length host.clients) tag ≡ Some at → at_place host place ≡ Some held → seen notice held ≡ Some now →
     left_on pipe (at_place (with_client host place.client (with_seen notice (client_of host place.client) place.slot now)) at) ≡ true →
     left_on pipe (at_place host at) ≡ false → PlaceLeft notice host place tag pipe
 client-became notice host place at tag held now pipe tag_at here saw is was =
     let client : HostClient = with_seen notice (client_of host place.client) place.slot now in
-    let other = place-is (length host.clients) tag at tag_at in
+    let other = place-is host.tags (length host.clients) tag at tag_at in
     elim (cases_eq at.client place.client) as (λ _. PlaceLeft notice host place tag pipe) [
       | inl same ↦
           let within : place.client < length host.clients = omega (arith, other.there, same) in
@@ -134,7 +140,7 @@ place-left notice host after place tag pipe saw is was =
     in_tag : (held now : HostEntry) → at_place host place ≡ Some held → seen notice held ≡ Some now →
         with_client host place.client (with_seen notice (client_of host place.client) place.slot now) ≡ after → PlaceLeft notice host place tag pipe
     in_tag held now here held_saw same =
-        elim (place_of (length host.clients) tag) as (λ o. place_of (length host.clients) tag ≡ o →
+        elim (place_of host.tags (length host.clients) tag) as (λ o. place_of host.tags (length host.clients) tag ≡ o →
         left_on pipe (option_and_then (λ (p : Place). at_place after p) o) ≡ true →
         left_on pipe (option_and_then (λ (p : Place). at_place host p) o) ≡ false → PlaceLeft notice host place tag pipe) [
           | None ↦ λ none it that. absurd (cc)
@@ -142,9 +148,9 @@ place-left notice host after place tag pipe saw is was =
               client-became notice host place at tag held now pipe tag_at here held_saw
               (ap (λ (h : HostState). left_on pipe (at_place h at)) same ∙ it) that
         ] refl
-        (ap (λ n. left_on pipe (option_and_then (λ (p : Place). at_place after p) (place_of n tag)))
-        (sym (length-set host.clients place.client (with_seen notice (client_of host place.client) place.slot now))
-        ∙ ap (λ (h : HostState). length h.clients) same) ∙ is) was
+        (ap (λ n. left_on pipe (option_and_then (λ (p : Place). at_place after p) (place_of host.tags n tag)))
+        (sym (length-set host.clients place.client (with_seen notice (client_of host place.client) place.slot now)))
+        ∙ (ap (λ (h : HostState). left_on pipe (option_and_then (λ (p : Place). at_place after p) (place_of h.tags (length h.clients) tag))) same ∙ is)) was
 
     of_held : (held : HostEntry) → at_place host place ≡ Some held →
         option_map (with_client host place.client) (option_map (with_seen notice (client_of host place.client) place.slot) (seen notice held)) ≡ Some after →
@@ -164,24 +170,28 @@ pub record Left (notice : Notice) (host : HostState) (told tag : ℕ) (pipe : Pi
   pub held : HostEntry
   pub under : held_of host tag ≡ Some held
   pub waited : td_on pipe held ≡ Some Pending
-  pub client : (told - 1) / TAGS ≡ (tag - 1) / TAGS
+  pub client : client_of_tag host.tags told ≡ client_of_tag host.tags tag
   pub by : ((tag ≡ told) × TellsCheck notice) ⊎ (TellsComplete notice × (list_any (λ one. one == held.ticket) (ended_in manager.request) ≡ true))
 
-tag-left : (notice : Notice) (host : HostState) (place : Place) (told tag : ℕ) (pipe : Pipe) → place_of (length host.clients) told ≡ Some place →
+tag-left : (notice : Notice) (host : HostState) (place : Place) (told tag : ℕ) (pipe : Pipe) →
+    place_of host.tags (length host.clients) told ≡ Some place →
     PlaceLeft notice host place tag pipe → Left notice host told tag pipe
 tag-left notice host place told tag pipe told_at left =
-    let one = place-is (length host.clients) told place told_at in
-    let other = place-is (length host.clients) tag left.at left.tag_at in
+    let one = place-is host.tags (length host.clients) told place told_at in
+    let other = place-is host.tags (length host.clients) tag left.at left.tag_at in
     record {
       manager = left.manager;
       manages = held-at host told place told_at ∙ left.here;
       held = left.became.held;
       under = held-at host tag left.at left.tag_at ∙ (ap (λ c. held_at (client_of host c).entries left.at.slot) left.client ∙ left.became.under);
       waited = left.became.waited;
-      client = omega (arith, one.client, other.client, left.client);
+      client = one.client ∙ (sym left.client ∙ sym other.client);
       by = elim left.became.by as (λ _. ((tag ≡ told) × TellsCheck notice)
           ⊎ (TellsComplete notice × (list_any (λ one. one == left.became.held.ticket) (ended_in left.manager.request) ≡ true))) [
-            | inl own ↦ inl (omega (arith, own.0, left.client, one.client, one.slot, one.some, other.client, other.slot, other.some), own.1)
+            | inl own ↦ inl (
+              one-tag host.tags tag told other.some one.some (other.client ∙ (left.client ∙ sym one.client)) (other.slot ∙ (own.0 ∙ sym one.slot)),
+              own.1,
+            )
             | inr noted ↦ inr noted
           ];
     }
@@ -189,7 +199,7 @@ tag-left notice host place told tag pipe told_at left =
 pub left-after : (notice : Notice) (host after : HostState) (told tag : ℕ) (pipe : Pipe) → host_seen notice host told ≡ Some after →
     is_left_over_on after pipe tag ≡ true → is_left_over_on host pipe tag ≡ false → Left notice host told tag pipe
 left-after notice host after told tag pipe saw is was =
-    elim (place_of (length host.clients) told) as (λ o. place_of (length host.clients) told ≡ o → option_and_then (place_seen notice host) o ≡ Some after →
+    elim (place_of host.tags (length host.clients) told) as (λ o. place_of host.tags (length host.clients) told ≡ o → option_and_then (place_seen notice host) o ≡ Some after →
     Left notice host told tag pipe) [
       | None ↦ λ none it. absurd (cc)
       | Some place ↦ λ some it. tag-left notice host place told tag pipe some (place-left notice host after place tag pipe it is was)

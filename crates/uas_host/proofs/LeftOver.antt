@@ -1,10 +1,12 @@
 -- The marks of clients: what sets and keeps them, and what they tell of the TDs that are left over. The answers of each call that
 -- changes a host's clients cite the first part, those of next_left_over the last.
-use Rattle.std.proofs.Common.{◌≡◌, ℕ, zero, suc, ◌+◌, ◌-◌, ◌*◌, ◌/◌, ◌%◌, ◌<◌, ◌≤◌, Bool, true, false, List, [], ◌∷◌, length, length-set, replicate}
+use Rattle.std.proofs.Common.{◌≡◌, ℕ, zero, suc, ◌+◌, ◌*◌, ◌<◌, ◌≤◌, ◌⊎◌, Bool, true, false, List, [], ◌∷◌, length, length-set, replicate}
 use Rattle.std.proofs.Common.{Option, Some, None, IfSome, MatchOption, refl, arith, sym, ap, ◌∙◌, inl, inr}
 use Rattle.std.specs.Prelude.{◌==◌, ◌&&◌, ◌||◌, not, nat_lt, option_and_then, option_map, cond, slice_set, slice_index_or, if◌then◌else◌}
 use Rattle.std.specs.Option.{option_map_or}
-use Rattle.std.proofs.lemmas.Bool.{cases_eq, cases_Bool, lt-ltb, ltb-true, ltb-false}
+use Rattle.std.proofs.lemmas.Bool.{cases_eq, cases_Bool, ltb-true, ltb-false}
+use Rattle.std.proofs.lemmas.Bool.Decides.{leb_tells}
+use Rattle.std.proofs.lemmas.Nat.{mul-le}
 use Rattle.std.proofs.lemmas.List.{get_or-set_same, get_or-set_other}
 use Rattle.uas_profile.specs.declared.Pipe.{Pipe}
 use Rattle.uas_profile.specs.declared.Pipe.TheVariants.{Command, Status, DataIn, DataOut}
@@ -16,7 +18,10 @@ use Rattle.uas_profile.specs.declared.Place.{Place}
 use Rattle.scsi_cmd.specs.declared.Op.{Op}
 use Rattle.scsi_cmd.specs.Op.{moved_bytes}
 use Rattle.scsi_cmd.specs.declared.Task.{Task}
-use Rattle.uas_profile.specs.declared.TheConstants.{TAGS, TASK_SLOT}
+use Rattle.uas_profile.specs.declared.TheConstants.{MOST_TAGS}
+use Rattle.uas_profile.specs.Tags.{place_of, tag_of, task_slot}
+use Rattle.uas_profile.specs.TagLaws.{IsNamed}
+use Rattle.uas_profile.proofs.TagLaws.{named-is_place, place-is_named, tags-within, unnamed-is_above}
 use Rattle.uas_host.specs.declared.HostEntry.{HostEntry}
 use Rattle.uas_host.specs.declared.HostClient.{HostClient}
 use Rattle.uas_host.specs.Notices.{Notice, CommandSeen, DataInSeen, DataOutSeen, Answered, Responded, TdRetired}
@@ -165,8 +170,8 @@ AreMarked-none words clients none = record {
     none-at (suc count) (suc slot) = none-at count slot
 
     none-held : (clients client slot : ℕ) → holds_left_over (held_at (slice_index_or (replicate clients new_client) client new_client).entries slot) ≡ false
-    none-held zero client slot = none-at TAGS slot
-    none-held (suc clients) zero slot = none-at TAGS slot
+    none-held zero client slot = none-at MOST_TAGS slot
+    none-held (suc clients) zero slot = none-at MOST_TAGS slot
     none-held (suc clients) (suc client) slot = none-held clients client slot
 
 -- a client changes, and it is marked exactly where a TD of it is left over; or no more of it is left over, and its mark stays
@@ -225,8 +230,9 @@ pub AreMarked-managed : (words : List ℕ) (host : HostState) (client ticket : �
     AreMarked words host.clients →
     AreMarked words (managed host client ticket task).clients
 AreMarked-managed words host client ticket task there are =
-    AreMarked-kept words host.clients client (managed_client (client_of host client) ticket task) there are
-    (held-set (client_of host client).entries TASK_SLOT (Some (task_entry ticket task (record { items = noted_by (client_of host client) task })))
+    AreMarked-kept words host.clients client (managed_client host.tags (client_of host client) ticket task) there are
+    (held-set (client_of host client).entries (task_slot host.tags)
+    (Some (task_entry ticket task (record { items = noted_by host.tags (client_of host client) task })))
     (λ left. absurd (cc)))
 
 -- nor what is gone
@@ -249,75 +255,159 @@ AreMarked-seen words after notice host client slot now saw there are seen_so her
 
 -- THE NEXT TD THAT IS LEFT OVER
 
--- what is under the tag after this number, and nothing where it names no client
-under-tag : (host : HostState) (pipe : Pipe) (before : ℕ) → is_left_over_on host pipe (suc before)
-    ≡ (if nat_lt (before / TAGS) (length host.clients) then is_held_left_over pipe (held_at (client_of host (before / TAGS)).entries (before % TAGS)) else false)
-under-tag host pipe before =
-    elim (nat_lt (before / TAGS) (length host.clients)) as (λ b.
-    option_map_or (is_td_left_over pipe) (option_and_then (λ (place : Place). held_at (client_of host place.client).entries place.slot)
-    (if b then Some (record { client = before / TAGS; slot = before % TAGS }) else None)) false
-    ≡ (if b then is_held_left_over pipe (held_at (client_of host (before / TAGS)).entries (before % TAGS)) else false)) [
-      | true ↦ refl
-      | false ↦ refl
-    ]
+-- what is under the tag of a place
+under-place : (host : HostState) (pipe : Pipe) (tag : ℕ) (place : Place) → place_of host.tags (length host.clients) tag ≡ Some place →
+    is_left_over_on host pipe tag ≡ is_held_left_over pipe (held_at (client_of host place.client).entries place.slot)
+under-place host pipe tag place is = ap (λ at. option_map_or (is_td_left_over pipe)
+    (option_and_then (λ (p : Place). held_at (client_of host p.client).entries p.slot) at) false) is
+
+-- nothing is under a tag that names none
+under-none : (host : HostState) (pipe : Pipe) (tag : ℕ) → place_of host.tags (length host.clients) tag ≡ None → is_left_over_on host pipe tag ≡ false
+under-none host pipe tag is = ap (λ at. option_map_or (is_td_left_over pipe)
+    (option_and_then (λ (p : Place). held_at (client_of host p.client).entries p.slot) at) false) is
 
 -- the TD of a slot of a client that is there
-pub left_over-found : (host : HostState) (pipe : Pipe) (client slot tag : ℕ) → client < length host.clients → slot < TAGS → tag ≡ client * TAGS + slot + 1 →
-    is_held_left_over pipe (held_at (client_of host client).entries slot) ≡ true → is_left_over_on host pipe tag ≡ true
-left_over-found host pipe client slot tag there within is left =
-    let next : tag ≡ suc (client * TAGS + slot) = omega (arith, is) in
-    let owner : (client * TAGS + slot) / TAGS ≡ client = omega (arith, within) in
-    let place : (client * TAGS + slot) % TAGS ≡ slot = omega (arith, within) in
-    rw (next, under-tag host pipe (client * TAGS + slot), owner, place, lt-ltb client (length host.clients) there) left
+pub left_over-found : (host : HostState) (pipe : Pipe) (place : Place) (tag : ℕ) → place.client < length host.clients → place.slot < host.tags →
+    tag ≡ tag_of host.tags place → is_held_left_over pipe (held_at (client_of host place.client).entries place.slot) ≡ true →
+    is_left_over_on host pipe tag ≡ true
+left_over-found host pipe place tag there within is left =
+    under-place host pipe tag place (ap (place_of host.tags (length host.clients)) is ∙ place-is_named host.tags (length host.clients) place there within)
+    ∙ left
 
--- the TD of a tag of a client that isn't marked
-unmarked-none : (words : List ℕ) (host : HostState) (pipe : Pipe) (before : ℕ) → AreMarked words host.clients → is_marked words (before / TAGS) ≡ false →
-    is_left_over_on host pipe (suc before) ≡ false
-unmarked-none words host pipe before are unmarked =
-    under-tag host pipe before
-    ∙ elim (nat_lt (before / TAGS) (length host.clients)) as (λ b. nat_lt (before / TAGS) (length host.clients) ≡ b →
-    (if b then is_held_left_over pipe (held_at (client_of host (before / TAGS)).entries (before % TAGS)) else false) ≡ false) [
-      | true ↦ λ there.
-          elim (cases_Bool (is_held_left_over pipe (held_at (client_of host (before / TAGS)).entries (before % TAGS)))) as
-          (λ _. is_held_left_over pipe (held_at (client_of host (before / TAGS)).entries (before % TAGS)) ≡ false) [
-            | inl left ↦
-                let marked = are.left_over (before / TAGS) (before % TAGS) (ltb-true (before / TAGS) (length host.clients) there)
-                (pipe-held pipe (held_at (client_of host (before / TAGS)).entries (before % TAGS)) left) in
-                let no : true ≡ false = sym marked ∙ unmarked in absurd (cc)
-            | inr none ↦ none
-          ]
-      | false ↦ λ past. refl
+-- the TD of a place of a client that isn't marked
+unmarked-none : (words : List ℕ) (host : HostState) (pipe : Pipe) (place : Place) → AreMarked words host.clients → place.client < length host.clients →
+    is_marked words place.client ≡ false → is_held_left_over pipe (held_at (client_of host place.client).entries place.slot) ≡ false
+unmarked-none words host pipe place are there unmarked =
+    elim (cases_Bool (is_held_left_over pipe (held_at (client_of host place.client).entries place.slot))) as
+    (λ _. is_held_left_over pipe (held_at (client_of host place.client).entries place.slot) ≡ false) [
+      | inl left ↦
+          let marked =
+          are.left_over place.client place.slot there (pipe-held pipe (held_at (client_of host place.client).entries place.slot) left) in
+          let no : true ≡ false = sym marked ∙ unmarked in absurd (cc)
+      | inr none ↦ none
+    ]
+
+-- the tags of a client come before those of a later one
+pub earlier-client : (tags client later upto slot : ℕ) → upto ≤ tags → client < later → client * tags + upto ≤ later * tags + slot
+earlier-client tags client later upto slot most before =
+    let next : suc client * tags ≡ client * tags + tags = omega arith in
+    omega (arith, most, next, mul-le (suc client) tags later tags before (omega arith))
+
+-- the first slot of a client from a place on: that of the place where it is of the client, and else 0
+abbrev pub IsFirst : Place → ℕ → ℕ → Type 0
+IsFirst from client first = ((client ≡ from.client) × (first ≡ from.slot)) ⊎ ((client ≡ from.client → ⊥) × (first ≡ 0))
+
+-- the tags of the slots from it on are no earlier than the place's
+pub first-later : (tags : ℕ) (from : Place) (client first slot : ℕ) → from.slot < tags → from.client ≤ client → IsFirst from client first → first ≤ slot →
+    tag_of tags from ≤ client * tags + slot + 1
+first-later tags from client first slot within up first_is low =
+    elim first_is as (λ _. tag_of tags from ≤ client * tags + slot + 1) [
+      | inl here ↦ let owner : client * tags ≡ from.client * tags = ap (λ c. c * tags) here.0 in omega (arith, owner, here.1, low)
+      | inr there ↦ omega (arith, earlier-client tags from.client client (from.slot + 1) slot (omega (arith, within)) (omega (arith, up, there.0)))
+    ]
+
+-- where no TD of the places of these clients is left over, none of the tags that name them is
+named-none : (host : HostState) (pipe : Pipe) (tag : ℕ) → 0 < host.tags →
+    ((place : Place) → IsNamed host.tags (length host.clients) tag place →
+    is_held_left_over pipe (held_at (client_of host place.client).entries place.slot) ≡ false) →
+    is_left_over_on host pipe tag ≡ false
+named-none host pipe tag some none =
+    elim (place_of host.tags (length host.clients) tag) as (λ o. place_of host.tags (length host.clients) tag ≡ o → is_left_over_on host pipe tag ≡ false) [
+      | None ↦ λ unnamed. under-none host pipe tag unnamed
+      | Some place ↦ λ is.
+          under-place host pipe tag place is ∙ none place (named-is_place host.tags (length host.clients) tag place some is)
     ] refl
 
 -- where the clients from one on to another aren't marked, and of that one the TDs of the slots up to one aren't left over, no TD
 -- of the tags between is
-pub left_over-passed : (words : List ℕ) (host : HostState) (pipe : Pipe) (from client upto : ℕ) → AreMarked words host.clients → client < length host.clients →
-    upto ≤ TAGS →
-    ((other : ℕ) → from / TAGS ≤ other → other < client → is_marked words other ≡ false) →
-    ((slot : ℕ) → from - client * TAGS ≤ slot → slot < upto → is_held_left_over pipe (held_at (client_of host client).entries slot) ≡ false) →
-    (other : ℕ) → from < other → other ≤ client * TAGS + upto → is_left_over_on host pipe other ≡ false
-left_over-passed words host pipe from client upto are there most unmarked none zero after within = absurd (omega arith)
-left_over-passed words host pipe from client upto are there most unmarked none (suc before) after within =
-    elim (cases_eq (before / TAGS) client) as (λ _. is_left_over_on host pipe (suc before) ≡ false) [
+pub left_over-passed : (words : List ℕ) (host : HostState) (pipe : Pipe) (from : Place) (client first upto : ℕ) → AreMarked words host.clients →
+    0 < host.tags → from.slot < host.tags → upto ≤ host.tags →
+    ((other : ℕ) → from.client ≤ other → other < client → is_marked words other ≡ false) →
+    ((slot : ℕ) → first ≤ slot → slot < upto → is_held_left_over pipe (held_at (client_of host client).entries slot) ≡ false) →
+    IsFirst from client first →
+    (other : ℕ) → tag_of host.tags from ≤ other → other < client * host.tags + upto + 1 → is_left_over_on host pipe other ≡ false
+left_over-passed words host pipe from client first upto are some slot most unmarked none first_is other after within =
+    named-none host pipe other some (λ place named.
+    elim (cases_eq place.client client) as (λ _. is_held_left_over pipe (held_at (client_of host place.client).entries place.slot) ≡ false) [
       | inl same ↦
-          rw (under-tag host pipe before, same, lt-ltb client (length host.clients) there) (none (before % TAGS) (omega (arith, same)) (omega (arith, same)))
-      | inr apart ↦ unmarked-none words host pipe before are (unmarked (before / TAGS) (omega (arith, after)) (omega (arith, apart, within, most)))
-    ]
+          let owner : place.client * host.tags ≡ client * host.tags = ap (λ c. c * host.tags) same in
+          ap (λ c. is_held_left_over pipe (held_at (client_of host c).entries place.slot)) same
+          ∙ none place.slot (lowest place named same) (omega (arith, named.is, within, owner))
+      | inr apart ↦
+          unmarked-none words host pipe place are named.client
+          (unmarked place.client (lower place named) (upper place named apart))
+    ])
+  where
+    lower : (place : Place) → IsNamed host.tags (length host.clients) other place → from.client ≤ place.client
+    lower place named =
+        elim (leb_tells from.client place.client) as (λ _. from.client ≤ place.client) [
+          | inl up ↦ up.1
+          | inr before ↦
+              absurd (omega (
+                arith,
+                named.is,
+                named.slot,
+                after,
+                earlier-client host.tags place.client from.client (place.slot + 1) from.slot (omega (arith, named.slot)) before.1,
+              ))
+        ]
+
+    upper : (place : Place) → IsNamed host.tags (length host.clients) other place → (place.client ≡ client → ⊥) → place.client < client
+    upper place named apart =
+        elim (leb_tells client place.client) as (λ _. place.client < client) [
+          | inl up ↦
+              let past : client < place.client = omega (arith, up.1, apart) in
+              absurd (omega (arith, named.is, within, earlier-client host.tags client place.client upto place.slot most past))
+          | inr before ↦ before.1
+        ]
+
+    lowest : (place : Place) → IsNamed host.tags (length host.clients) other place → place.client ≡ client → first ≤ place.slot
+    lowest place named same =
+        elim first_is as (λ _. first ≤ place.slot) [
+          | inl here ↦
+              let owner : place.client * host.tags ≡ from.client * host.tags = ap (λ c. c * host.tags) (same ∙ here.0) in
+              omega (arith, here.1, named.is, after, owner)
+          | inr there ↦ omega (arith, there.1)
+        ]
 
 -- where no client from one on is marked, no TD of a later tag is left over
-pub left_over-none : (words : List ℕ) (host : HostState) (pipe : Pipe) (from : ℕ) → AreMarked words host.clients →
-    ((other : ℕ) → from / TAGS ≤ other → is_marked words other ≡ false) → (other : ℕ) → from < other → is_left_over_on host pipe other ≡ false
-left_over-none words host pipe from are unmarked zero after = absurd (omega arith)
-left_over-none words host pipe from are unmarked (suc before) after =
-    unmarked-none words host pipe before are (unmarked (before / TAGS) (omega (arith, after)))
+pub left_over-none : (words : List ℕ) (host : HostState) (pipe : Pipe) (from : Place) → AreMarked words host.clients → 0 < host.tags →
+    from.slot < host.tags → ((other : ℕ) → from.client ≤ other → is_marked words other ≡ false) →
+    (other : ℕ) → tag_of host.tags from ≤ other → is_left_over_on host pipe other ≡ false
+left_over-none words host pipe from are some slot unmarked other after =
+    named-none host pipe other some (λ place named. unmarked-none words host pipe place are named.client (unmarked place.client (lower place named)))
+  where
+    lower : (place : Place) → IsNamed host.tags (length host.clients) other place → from.client ≤ place.client
+    lower place named =
+        elim (leb_tells from.client place.client) as (λ _. from.client ≤ place.client) [
+          | inl up ↦ up.1
+          | inr before ↦
+              absurd (omega (
+                arith,
+                named.is,
+                named.slot,
+                after,
+                earlier-client host.tags place.client from.client (place.slot + 1) from.slot (omega (arith, named.slot)) before.1,
+              ))
+        ]
 
--- of the tags up to one no TD is left over, nor of the tags from there up to another
+-- no TD is left over of the tags behind those of the clients
+pub left_over-past : (host : HostState) (pipe : Pipe) (before : ℕ) → 0 < host.tags → 0 < before →
+    place_of host.tags (length host.clients) before ≡ None → (other : ℕ) → before ≤ other → is_left_over_on host pipe other ≡ false
+left_over-past host pipe before some tagged unnamed other past =
+    named-none host pipe other some (λ place named.
+    let least = unnamed-is_above host.tags (length host.clients) before tagged unnamed in
+    let within = tags-within host.tags (length host.clients) place named.client named.slot in
+    let turned : host.tags * length host.clients ≡ length host.clients * host.tags = omega arith in
+    absurd (omega (arith, named.is, past, least, within.1, turned)))
+
+-- of the tags before one no TD is left over, nor of the tags from there to another
 pub left_over-further : (host : HostState) (pipe : Pipe) (tag from upto : ℕ) →
-    ((other : ℕ) → tag < other → other ≤ from → is_left_over_on host pipe other ≡ false) →
-    ((other : ℕ) → from < other → other ≤ upto → is_left_over_on host pipe other ≡ false) →
-    (other : ℕ) → tag < other → other ≤ upto → is_left_over_on host pipe other ≡ false
+    ((other : ℕ) → tag < other → other < from → is_left_over_on host pipe other ≡ false) →
+    ((other : ℕ) → from ≤ other → other < upto → is_left_over_on host pipe other ≡ false) →
+    (other : ℕ) → tag < other → other < upto → is_left_over_on host pipe other ≡ false
 left_over-further host pipe tag from upto before after other above within =
-    elim (cases_Bool (nat_lt from other)) as (λ _. is_left_over_on host pipe other ≡ false) [
-      | inl past ↦ after other (ltb-true from other past) within
-      | inr up ↦ before other above (ltb-false from other up)
+    elim (cases_Bool (nat_lt other from)) as (λ _. is_left_over_on host pipe other ≡ false) [
+      | inl up ↦ before other above (ltb-true other from up)
+      | inr past ↦ after other (ltb-false other from past) within
     ]

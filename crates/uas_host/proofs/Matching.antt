@@ -199,7 +199,7 @@ td-kept sides frames pointer residual code (Some td) is =
     ] is
 
 engine-kept : (sides : Sides) (pointer : ℕ) (done : Bool) (retirement : Option Retirement) → (handled_engine sides pointer done retirement).1 ≡ Stray →
-    ((handled_engine sides pointer done retirement).0 ≡ sides) × (engine_doors sides.lines pointer done retirement ≡ [])
+    ((handled_engine sides pointer done retirement).0 ≡ sides) × (engine_doors sides.host.tags sides.lines pointer done retirement ≡ [])
 engine-kept sides pointer false retirement is = (refl, refl)
 engine-kept sides pointer true None is = (refl, refl)
 engine-kept sides pointer true (Some retirement) is = absurd (cc)

@@ -7,7 +7,8 @@ use Rattle.std.proofs.lemmas.List.{set-get_or}
 use Rattle.arrayvec.specs.ArrayVec.{ArrayVec}
 use Rattle.uas_profile.specs.declared.Pipe.{Pipe}
 use Rattle.uas_profile.specs.declared.Pipe.TheVariants.{Command, Status, DataIn, DataOut}
-use Rattle.uas_profile.specs.declared.TheConstants.{TAGS}
+use Rattle.uas_profile.specs.Tags.{AreTags}
+use Rattle.uas_profile.specs.declared.TheConstants.{MOST_TAGS}
 use Rattle.scsi_cmd.specs.Held.{AllHeld, held_at}
 use Rattle.uas_profile.specs.declared.TdState.{TdState}
 use Rattle.uas_profile.specs.declared.TdState.TheVariants.{Pending, Seen, LeftOver, Retired}
@@ -26,7 +27,7 @@ use Rattle.scsi_cmd.specs.Request.{is_command, request_direction}
 use Rattle.uas_host.specs.Seen.{after_response, client_seen, completes, data_after, doomed, entries_after, goes_to_device, goes_to_host, is_data_left_over}
 use Rattle.uas_host.specs.Seen.{is_doomed, left_over_data, ended_in, place_seen, seen, seen_data, with_seen}
 use Rattle.uas_host.proofs.Queues.{AreReady-length, AreReady-push}
-use Rattle.uas_host.proofs.Sound.{AllHeld-set, IsHost-set}
+use Rattle.uas_host.proofs.Sound.{AllHeld-set, IsHost-set, empty-set}
 
 -- what is held, once it was seen
 pub saw_held : (notice : Notice) (held : Option HostEntry) (entry now : HostEntry) (saw ready : Bool) → held ≡ Some entry →
@@ -208,31 +209,41 @@ length-doomed : (noted : List ℕ) (entries : List (Option HostEntry)) → lengt
 length-doomed noted [] = refl
 length-doomed noted (held ∷ rest) = ap suc (length-doomed noted rest)
 
+-- what is empty stays so
+empty-doomed : (noted : List ℕ) (entries : List (Option HostEntry)) (slot : ℕ) → held_at entries slot ≡ None →
+    held_at (after_response noted entries) slot ≡ None
+empty-doomed noted [] slot is = refl
+empty-doomed noted (None ∷ rest) zero is = refl
+empty-doomed noted (Some held ∷ rest) zero is = absurd (cc)
+empty-doomed noted (held ∷ rest) (suc slot) is = empty-doomed noted rest slot is
+
 -- a response leaves commands over
-entries_after-sound : (notice : Notice) (request : Request) (client : HostClient) → IsHostClient client →
-    IsHostClient (record { entries = entries_after notice request client.entries; least_ticket = client.least_ticket; ready = client.ready })
-entries_after-sound notice request client sound =
+entries_after-sound : (tags : ℕ) (notice : Notice) (request : Request) (client : HostClient) → IsHostClient tags client →
+    IsHostClient tags (record { entries = entries_after notice request client.entries; least_ticket = client.least_ticket; ready = client.ready })
+entries_after-sound tags notice request client sound =
     elim (completes notice) as
-    (λ b. IsHostClient
+    (λ b. IsHostClient tags
     (record { entries = cond b (after_response (ended_in request) client.entries) client.entries; least_ticket = client.least_ticket; ready = client.ready })) [
       | true ↦ record {
         slots = length-doomed (ended_in request) client.entries ∙ sound.slots;
+        empty = λ slot past. empty-doomed (ended_in request) client.entries slot (sound.empty slot past);
         ready = λ slot. sound.ready slot ∙ sym (doomed-at (ended_in request) client.entries slot);
         told = all-doomed (ended_in request) client.entries sound.told;
       }
-      | false ↦ record { slots = sound.slots; ready = sound.ready; told = sound.told }
+      | false ↦ record { slots = sound.slots; empty = sound.empty; ready = sound.ready; told = sound.told }
     ]
 
-with_seen-sound : (notice : Notice) (client : HostClient) (slot : ℕ) (held now : HostEntry) → slot < TAGS → held_at client.entries slot ≡ Some held →
-    IsKept held now → WasTold held →
-    IsHostClient client → IsHostClient (with_seen notice client slot now)
-with_seen-sound notice client slot held now within is kept told sound = entries_after-sound notice now.request (record {
+with_seen-sound : (tags : ℕ) (notice : Notice) (client : HostClient) (slot : ℕ) (held now : HostEntry) → AreTags tags → slot < tags →
+    held_at client.entries slot ≡ Some held → IsKept held now → WasTold held →
+    IsHostClient tags client → IsHostClient tags (with_seen notice client slot now)
+with_seen-sound tags notice client slot held now number within is kept told sound = entries_after-sound tags notice now.request (record {
   entries = slice_set client.entries slot (Some now);
   least_ticket = client.least_ticket;
   ready = record { items = queued_if (is_ready now) client.ready.items slot };
 }) (record {
   slots = length-set client.entries slot (Some now) ∙ sound.slots;
-  ready = AreReady-push client.entries client.ready.items slot (Some held) (Some now) (is_ready now) (omega (arith, sound.slots, within)) is
+  empty = empty-set tags client.entries slot (Some now) within sound.empty;
+  ready = AreReady-push client.entries client.ready.items slot (Some held) (Some now) (is_ready now) (omega (arith, sound.slots, within, number.most)) is
       (omega (arith, ap one_if kept.unready)) sound.ready;
   told = AllHeld-set WasTold client.entries slot (Some now) sound.told (kept.told told);
 })
@@ -243,26 +254,27 @@ held-at P [] slot held all is = absurd (cc)
 held-at P (place ∷ places) zero held all is = let here : IfSome place P = all.0 in subst (λ o. IfSome o P) is here
 held-at P (place ∷ places) (suc slot) held all is = held-at P places slot held all.1 is
 
-pub client_seen-sound : (notice : Notice) (client : HostClient) (slot : ℕ) → slot < TAGS → IsHostClient client
-    → IfSome (client_seen notice client slot) IsHostClient
-client_seen-sound notice client slot within sound =
+pub client_seen-sound : (tags : ℕ) (notice : Notice) (client : HostClient) (slot : ℕ) → AreTags tags → slot < tags → IsHostClient tags client →
+    IfSome (client_seen notice client slot) (IsHostClient tags)
+client_seen-sound tags notice client slot number within sound =
     elim (held_at client.entries slot) as (λ o. held_at client.entries slot ≡ o →
-    IfSome (option_map (with_seen notice client slot) (option_and_then (seen notice) o)) IsHostClient) [
+    IfSome (option_map (with_seen notice client slot) (option_and_then (seen notice) o)) (IsHostClient tags)) [
       | None ↦ λ is. tt
       | Some held ↦ λ is.
-          elim (seen notice held) as (λ o. IfSome o (IsKept held) → IfSome (option_map (with_seen notice client slot) o) IsHostClient) [
+          elim (seen notice held) as (λ o. IfSome o (IsKept held) → IfSome (option_map (with_seen notice client slot) o) (IsHostClient tags)) [
             | None ↦ λ none. tt
-            | Some now ↦ λ kept. with_seen-sound notice client slot held now within is kept (held-at WasTold client.entries slot held sound.told is) sound
+            | Some now ↦ λ kept.
+                with_seen-sound tags notice client slot held now number within is kept (held-at WasTold client.entries slot held sound.told is) sound
           ] (seen-kept notice held)
     ] refl
 
-pub client_seen-room : (notice : Notice) (client : HostClient) (slot : ℕ) → slot < TAGS → IsHostClient client →
-    IfSome (client_seen notice client slot) (λ now. length now.ready.items ≤ TAGS)
-client_seen-room notice client slot within sound =
-    elim (client_seen notice client slot) as (λ o. IfSome o IsHostClient → IfSome o (λ now. length now.ready.items ≤ TAGS)) [
+pub client_seen-room : (tags : ℕ) (notice : Notice) (client : HostClient) (slot : ℕ) → AreTags tags → slot < tags → IsHostClient tags client →
+    IfSome (client_seen notice client slot) (λ now. length now.ready.items ≤ MOST_TAGS)
+client_seen-room tags notice client slot number within sound =
+    elim (client_seen notice client slot) as (λ o. IfSome o (IsHostClient tags) → IfSome o (λ now. length now.ready.items ≤ MOST_TAGS)) [
       | None ↦ λ none. tt
       | Some now ↦ λ is. omega (arith, AreReady-length now.ready.items now.entries is.ready, is.slots)
-    ] (client_seen-sound notice client slot within sound)
+    ] (client_seen-sound tags notice client slot number within sound)
 
 -- THE HOST
 
@@ -270,16 +282,16 @@ client_seen-room notice client slot within sound =
 abbrev pub HasSeen : Notice → HostClient → ℕ → HostClient → Bool → Type 0
 HasSeen notice client slot now saw = MatchOption (client_seen notice client slot) ((saw ≡ false) × (now ≡ client)) (λ after. (saw ≡ true) × (now ≡ after))
 
-pub has_seen-host : (notice : Notice) (host : HostState) (client slot : ℕ) (now : HostClient) (saw : Bool) → client < length host.clients → slot < TAGS →
+pub has_seen-host : (notice : Notice) (host : HostState) (client slot : ℕ) (now : HostClient) (saw : Bool) → client < length host.clients → slot < host.tags →
     IsHost host →
     HasSeen notice (client_of host client) slot now saw → IsHost (with_client host client now)
 has_seen-host notice host client slot now saw there within is seen_so =
     IsHost-set host client now is
-    (elim (client_seen notice (client_of host client) slot) as (λ o. IfSome o IsHostClient →
-    MatchOption o ((saw ≡ false) × (now ≡ client_of host client)) (λ after. (saw ≡ true) × (now ≡ after)) → IsHostClient now) [
+    (elim (client_seen notice (client_of host client) slot) as (λ o. IfSome o (IsHostClient host.tags) →
+    MatchOption o ((saw ≡ false) × (now ≡ client_of host client)) (λ after. (saw ≡ true) × (now ≡ after)) → IsHostClient host.tags now) [
       | None ↦ λ none same. rw same.1 (is.clients client there)
       | Some after ↦ λ sound same. rw same.1 sound
-    ] (client_seen-sound notice (client_of host client) slot within (is.clients client there)) seen_so)
+    ] (client_seen-sound host.tags notice (client_of host client) slot is.number within (is.clients client there)) seen_so)
 
 pub place_seen-client : (notice : Notice) (host : HostState) (place : Place) (now : HostClient) (saw : Bool) →
     HasSeen notice (client_of host place.client) place.slot now saw →
@@ -293,7 +305,7 @@ place_seen-client notice host place now saw seen_so =
       | None ↦ λ same. (
         same.0,
         ap (with_client host place.client) same.1
-            ∙ ap (λ clients. record { clients = clients; retirement = host.retirement }) (set-get_or host.clients place.client new_client),
+            ∙ ap (λ clients. record { tags = host.tags; clients = clients; retirement = host.retirement }) (set-get_or host.clients place.client new_client),
       )
       | Some after ↦ λ same. (same.0, ap (with_client host place.client) same.1)
     ] seen_so

@@ -184,12 +184,13 @@ is_engine_done lines pointer code = is_some (known_consumed_at ENGINE_RING_PLACE
 abbrev pub handled_stop : Sides → ℕ → Retirement → Sides
 handled_stop sides pointer retirement = record {
   host = with_retirement sides.host (record retirement { stage = Moving });
-  lines = stopped_lines sides.lines pointer retirement;
+  lines = stopped_lines sides.host.tags sides.lines pointer retirement;
 }
 
 -- Set TR Dequeue Pointer is done: the TD is retired
 abbrev pub handled_move : Sides → ℕ → Retirement → Sides
-handled_move sides pointer retirement = record { host = retired_host sides.host retirement; lines = moved_lines sides.lines pointer retirement }
+handled_move sides pointer retirement =
+    record { host = retired_host sides.host retirement; lines = moved_lines sides.host.tags sides.lines pointer retirement }
 
 abbrev pub handled_stage : Sides → ℕ → Retirement → RetirementStage → Sides
 handled_stage sides pointer retirement Stopping = handled_stop sides pointer retirement
@@ -208,19 +209,19 @@ handled sides frames (CommandCompletion pointer code slot) =
 
 -- THE DOORBELLS: the engine's, and at the end of a retirement those of the pipe's streams with pending TRBs
 
-abbrev pub stage_doors : LinesState → ℕ → Retirement → RetirementStage → List ℕ
-stage_doors lines pointer retirement Stopping = 0 ∷ []
-stage_doors lines pointer retirement Moving = resumed_doors (moved_lines lines pointer retirement) retirement.pipe
+abbrev pub stage_doors : ℕ → LinesState → ℕ → Retirement → RetirementStage → List ℕ
+stage_doors tags lines pointer retirement Stopping = 0 ∷ []
+stage_doors tags lines pointer retirement Moving = resumed_doors (moved_lines tags lines pointer retirement) retirement.pipe
 
-abbrev pub engine_doors : LinesState → ℕ → Bool → Option Retirement → List ℕ
-engine_doors lines pointer false retirement = []
-engine_doors lines pointer true None = []
-engine_doors lines pointer true (Some retirement) = stage_doors lines pointer retirement retirement.stage
+abbrev pub engine_doors : ℕ → LinesState → ℕ → Bool → Option Retirement → List ℕ
+engine_doors tags lines pointer false retirement = []
+engine_doors tags lines pointer true None = []
+engine_doors tags lines pointer true (Some retirement) = stage_doors tags lines pointer retirement retirement.stage
 
 abbrev pub event_doors : Sides → Event → List ℕ
 event_doors sides (Transfer pointer residual code endpoint slot) = []
 event_doors sides (CommandCompletion pointer code slot) =
-    engine_doors sides.lines pointer (is_engine_done sides.lines pointer code) sides.host.retirement
+    engine_doors sides.host.tags sides.lines pointer (is_engine_done sides.lines pointer code) sides.host.retirement
 
 -- What is known of a TD whose last TRB is at an address: its tag is one, and on a pipe with streams its ring has that TRB.
 abbrev pub IsConsumedAt : LinesState → Pipe → ℕ → ℕ → Type 0

@@ -1,5 +1,5 @@
 -- What leaves a TD over: the CHECK CONDITION of its own command, or the COMPLETE of an abort or a reset that noted its ticket.
-use Rattle.std.specs.Prelude.{◌≡◌, ℕ, ◌-◌, ◌/◌, ◌==◌, ◌⊎◌, true, false, slice_index, List, Some}
+use Rattle.std.specs.Prelude.{◌≡◌, ℕ, ◌==◌, ◌⊎◌, true, false, slice_index, List, Some}
 use Rattle.std.specs.List.{list_any}
 use Rattle.arrayvec.specs.ArrayVec.{ArrayVec}
 use Rattle.event_ring.specs.declared.Event.{Event}
@@ -7,7 +7,7 @@ use Rattle.event_ring.specs.declared.Event.TheVariants.{Transfer, Command as Com
 use Rattle.uas_profile.specs.declared.Pipe.{Pipe}
 use Rattle.uas_profile.specs.declared.Pipe.TheVariants.{Status}
 use Rattle.uas_profile.specs.declared.TdState.TheVariants.{Pending}
-use Rattle.uas_profile.specs.declared.TheConstants.{TAGS}
+use Rattle.uas_profile.specs.Tags.{client_of as client_of_tag}
 use Rattle.frame_store.specs.declared.TagBuffers.{TagBuffers}
 use Rattle.scsi_cmd.specs.Request.{ends_commands, is_command}
 use Rattle.scsi_cmd.specs.declared.Request.TheVariants.{Manage}
@@ -30,7 +30,7 @@ pub record IsCheckOf (sides : Sides) (frames : List TagBuffers) (pointer residua
 pub record IsCompleteFor (sides : Sides) (frames : List TagBuffers) (pointer residual code tag ticket : ℕ) : Type 0 where
   pub manager : ℕ
   pub event : IsTdAwaited sides frames pointer residual code Status manager
-  pub client : (manager - 1) / TAGS ≡ (tag - 1) / TAGS
+  pub client : client_of_tag sides.host.tags manager ≡ client_of_tag sides.host.tags tag
   pub task : Task
   pub noted : ArrayVec ℕ
   pub request : event.held.request ≡ Manage task noted

@@ -6,7 +6,6 @@ use Rattle.scsi_cmd.specs.declared.Reply.TheVariants.{Status as StatusReply, Abo
 use Rattle.scsi_cmd.specs.Held.{held_at}
 use Rattle.frame_store.specs.declared.TagBuffers.{TagBuffers}
 use Rattle.frame_store.specs.Buffers.{held_for, with_lent}
-use Rattle.uas_profile.specs.declared.TheConstants.{TAGS, MAX_CLIENTS}
 use Rattle.uas_profile.specs.declared.TdState.{TdState}
 use Rattle.uas_profile.specs.declared.TdState.TheVariants.{Pending, Seen, LeftOver, Retired}
 use Rattle.uas_host.specs.declared.HostAnswer.{HostAnswer}
@@ -17,7 +16,7 @@ use Rattle.uas_host.specs.declared.HostEntry.{HostEntry}
 use Rattle.uas_host.specs.declared.HostClient.{HostClient}
 use Rattle.uas_profile.specs.TdStates.{is_retired, is_seen}
 use Rattle.uas_host.specs.State.{HostState, client_of, is_response, is_status, with_client}
-use Rattle.uas_profile.specs.Places.{tag_of}
+use Rattle.uas_profile.specs.Tags.{tag_of}
 
 -- what a call for a reply changes, and the reply
 pub record Given : Type 0 where
@@ -72,14 +71,14 @@ abbrev pub given : HostState → List TagBuffers → ℕ → ℕ → List ℕ �
 given host frames client slot rest None = no_reply host frames
 given host frames client slot rest (Some reply) = record {
   host = with_client host client (without (client_of host client) slot rest);
-  frames = without_lent frames (tag_of (record { client = client; slot = slot })) reply;
+  frames = without_lent frames (tag_of host.tags (record { client = client; slot = slot })) reply;
   reply = Some reply;
 }
 
 -- the reply of a slot, where it holds an entry, and for a command where its tag has a vector lent
 abbrev pub slot_reply : HostState → List TagBuffers → ℕ → ℕ → Option Reply
 slot_reply host frames client slot =
-    let tag = tag_of (record { client = client; slot = slot }) in
+    let tag = tag_of host.tags (record { client = client; slot = slot }) in
     option_and_then (reply_of tag (held_for frames tag).lent) (held_at (client_of host client).entries slot)
 
 abbrev pub replied_first : HostState → List TagBuffers → ℕ → List ℕ → Given
@@ -113,6 +112,5 @@ HasBuffer lent held = has_command held ≡ true → IsSome lent
 -- a slot that is ready is one of a client that is there, and its entry has its reply
 pub record IsReadySlot (host : HostState) (client slot : ℕ) : Type 0 where
   pub there : client < length host.clients
-  pub most : client < MAX_CLIENTS
-  pub within : slot < TAGS
+  pub within : slot < host.tags
   pub answered : HasAnswer (held_at (client_of host client).entries slot)

@@ -19,7 +19,7 @@ use Rattle.uas_profile.specs.Doors.{door}
 use Rattle.uas_profile.specs.Pipes.{target_of}
 use Rattle.uas_host.specs.State.{HostState}
 use Rattle.uas_host.specs.Seen.{held_of, is_td_left_over, place_seen}
-use Rattle.uas_profile.specs.Places.{place_of, tag_of}
+use Rattle.uas_profile.specs.Tags.{place_of, tag_of}
 
 -- HELD PIPES
 
@@ -63,16 +63,16 @@ is_left_over_on host pipe tag = option_map_or (is_td_left_over pipe) (held_of ho
 abbrev pub retirement_for : HostState → Pipe → ℕ → Option Retirement
 retirement_for host pipe tag =
     if is_none host.retirement && is_left_over_on host pipe tag
-    then option_map (λ place. record { pipe = pipe; place = place; stage = Stopping }) (place_of (length host.clients) tag)
+    then option_map (λ place. record { pipe = pipe; place = place; stage = Stopping }) (place_of host.tags (length host.clients) tag)
     else None
 
 abbrev pub with_retirement : HostState → Retirement → HostState
 with_retirement host retirement = record host { retirement = Some retirement }
 
 -- Stop Endpoint is done, so its TRB is free again, and Set TR Dequeue Pointer is put
-abbrev pub stopped_lines : LinesState → ℕ → Retirement → LinesState
-stopped_lines lines pointer retirement =
-    with_engine_command (engine_freed lines pointer) (move_trb lines retirement.pipe (tag_of retirement.place))
+abbrev pub stopped_lines : ℕ → LinesState → ℕ → Retirement → LinesState
+stopped_lines tags lines pointer retirement =
+    with_engine_command (engine_freed lines pointer) (move_trb lines retirement.pipe (tag_of tags retirement.place))
 
 -- so many TRBs of a ring are freed
 abbrev pub with_first_freed : LinesState → Pipe → ℕ → ℕ → LinesState
@@ -92,8 +92,8 @@ emptied lines pipe stream =
     with_first_freed lines pipe stream (trbs_before (take (ring_of lines pipe stream).got (ring_of lines pipe stream).put))
 
 -- Set TR Dequeue Pointer is done, so all TRBs of the TD are consumed, and free again
-abbrev pub moved_lines : LinesState → ℕ → Retirement → LinesState
-moved_lines lines pointer retirement = emptied (engine_freed lines pointer) retirement.pipe (tag_of retirement.place)
+abbrev pub moved_lines : ℕ → LinesState → ℕ → Retirement → LinesState
+moved_lines tags lines pointer retirement = emptied (engine_freed lines pointer) retirement.pipe (tag_of tags retirement.place)
 
 -- the TD is retired, and no retirement is under way any more
 abbrev pub retired_host : HostState → Retirement → HostState

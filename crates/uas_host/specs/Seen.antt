@@ -20,7 +20,7 @@ use Rattle.uas_host.specs.Notices.{Notice, CommandSeen, DataInSeen, DataOutSeen,
 use Rattle.uas_profile.specs.declared.Place.{Place}
 use Rattle.uas_profile.specs.TdStates.{is_left_over, is_pending}
 use Rattle.uas_host.specs.State.{HostState, client_of, is_ready, queued_if, with_client}
-use Rattle.uas_profile.specs.Places.{place_of}
+use Rattle.uas_profile.specs.Tags.{place_of}
 
 -- TDS
 
@@ -134,8 +134,8 @@ place_seen notice host place = option_map (with_client host place.client) (clien
 
 -- the host once it has seen the event of a tag
 abbrev pub host_seen : Notice → HostState → ℕ → Option HostState
-host_seen notice host tag = option_and_then (place_seen notice host) (place_of (length host.clients) tag)
+host_seen notice host tag = option_and_then (place_seen notice host) (place_of host.tags (length host.clients) tag)
 
 -- what the host has under a tag
 abbrev pub held_of : HostState → ℕ → Option HostEntry
-held_of host tag = option_and_then (λ place. held_at (client_of host place.client).entries place.slot) (place_of (length host.clients) tag)
+held_of host tag = option_and_then (λ place. held_at (client_of host place.client).entries place.slot) (place_of host.tags (length host.clients) tag)

@@ -1,10 +1,11 @@
 -- What a host knows, and what is true of it.
-use Rattle.std.specs.Prelude.{◌≡◌, ℕ, ◌<◌, ◌≤◌, Bool, true, false, cond, ◌&&◌, List, [], ◌∷◌, ◌++◌, length, replicate, Option, Some, None}
+use Rattle.std.specs.Prelude.{◌≡◌, ℕ, ◌*◌, ◌<◌, ◌≤◌, Bool, true, false, cond, ◌&&◌, List, [], ◌∷◌, ◌++◌, length, replicate, Option, Some, None}
 use Rattle.std.specs.Prelude.{IfSome, slice_set, slice_index_or}
 use Rattle.uas_profile.specs.TdStates.{is_seen, is_over, one_if, times_in}
 use Rattle.uas_profile.specs.Pipes.{HasStreams}
 use Rattle.scsi_cmd.specs.Request.{is_command}
-use Rattle.uas_profile.specs.declared.TheConstants.{TAGS, MAX_CLIENTS}
+use Rattle.uas_profile.specs.Tags.{AreTags}
+use Rattle.uas_profile.specs.declared.TheConstants.{MOST_TAGS, MAX_CLIENTS, STREAMS}
 use Rattle.scsi_cmd.specs.Held.{AllHeld, held_at}
 use Rattle.uas_profile.specs.declared.TdState.{TdState}
 use Rattle.uas_profile.specs.declared.TdState.TheVariants.{LeftOver, Retired}
@@ -16,18 +17,19 @@ use Rattle.uas_host.specs.declared.HostEntry.{HostEntry}
 use Rattle.uas_host.specs.declared.HostClient.{HostClient}
 use Rattle.uas_host.specs.declared.Retirement.{Retirement}
 
--- the clients by number, and the retirement under way
+-- how many tags each client has, the clients by number, and the retirement under way
 pub record HostState : Type 0 where
+  pub tags : ℕ
   pub clients : List HostClient
   pub retirement : Option Retirement
 
 -- a client that has submitted nothing
 abbrev pub new_client : HostClient
-new_client = record { entries = replicate TAGS None; least_ticket = 0; ready = record { items = [] } }
+new_client = record { entries = replicate MOST_TAGS None; least_ticket = 0; ready = record { items = [] } }
 
--- the host of so many clients that have submitted nothing
-abbrev pub opening : ℕ → HostState
-opening clients = record { clients = replicate clients new_client; retirement = None }
+-- the host of so many clients with so many tags each that have submitted nothing
+abbrev pub opening : ℕ → ℕ → HostState
+opening tags clients = record { tags = tags; clients = replicate clients new_client; retirement = None }
 
 -- the client of this number
 abbrev pub client_of : HostState → ℕ → HostClient
@@ -35,7 +37,7 @@ client_of host client = slice_index_or host.clients client new_client
 
 -- the host with this for the client of this number
 abbrev pub with_client : HostState → ℕ → HostClient → HostState
-with_client host client now = record { clients = slice_set host.clients client now; retirement = host.retirement }
+with_client host client now = record host { clients = slice_set host.clients client now }
 
 -- TDS
 
@@ -89,19 +91,24 @@ pub record WasTold (held : HostEntry) : Type 0 where
   pub answer : is_seen held.status_td ≡ true → is_answer_to held.request held.told ≡ true
   pub command : is_given_up held.status_td ≡ true → is_command held.request ≡ true
 
-pub record IsHostClient (held : HostClient) : Type 0 where
-  pub slots : length held.entries ≡ TAGS
+-- The slots from its number of tags on are empty: the tag of such a slot would be another client's.
+pub record IsHostClient (tags : ℕ) (held : HostClient) : Type 0 where
+  pub slots : length held.entries ≡ MOST_TAGS
+  pub empty : (slot : ℕ) → tags ≤ slot → held_at held.entries slot ≡ None
   pub ready : AreReady held.entries held.ready.items
   pub told : AllHeld WasTold held.entries
 
 -- a retirement is of a pipe with streams and of a tag of a client that is there
-pub record IsRetirement (clients : ℕ) (retirement : Retirement) : Type 0 where
+pub record IsRetirement (tags clients : ℕ) (retirement : Retirement) : Type 0 where
   pub streams : HasStreams retirement.pipe
   pub client : retirement.place.client < clients
-  pub slot : retirement.place.slot < TAGS
+  pub slot : retirement.place.slot < tags
 
+-- each tag has its streams
 pub record IsHost (host : HostState) : Type 0 where
+  pub number : AreTags host.tags
   pub some : 1 ≤ length host.clients
   pub most : length host.clients ≤ MAX_CLIENTS
-  pub clients : (client : ℕ) → client < length host.clients → IsHostClient (client_of host client)
-  pub retirement : IfSome host.retirement (IsRetirement (length host.clients))
+  pub streams : length host.clients * host.tags ≤ STREAMS
+  pub clients : (client : ℕ) → client < length host.clients → IsHostClient host.tags (client_of host client)
+  pub retirement : IfSome host.retirement (IsRetirement host.tags (length host.clients))

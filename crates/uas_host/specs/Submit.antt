@@ -1,11 +1,10 @@
 -- A submission: what it changes, and when it is refused.
-use Rattle.std.specs.Prelude.{◌≡◌, ℕ, ◌+◌, ◌-◌, ◌%◌, ◌==◌, true, if◌then◌else◌, List, length, Option, Some, None, is_some, slice_set}
+use Rattle.std.specs.Prelude.{◌≡◌, ℕ, ◌+◌, ◌==◌, true, if◌then◌else◌, List, length, Option, Some, None, is_some, slice_set}
 use Rattle.scsi_cmd.specs.declared.Command.{Command}
 use Rattle.scsi_cmd.specs.declared.Op.{Op}
 use Rattle.scsi_cmd.specs.declared.SubmitFault.{SubmitFault}
 use Rattle.scsi_cmd.specs.declared.SubmitFault.TheVariants.{NotYours}
 use Rattle.scsi_cmd.specs.Op.{cdb_bytes, moved_bytes}
-use Rattle.uas_profile.specs.declared.TheConstants.{TAGS}
 use Rattle.scsi_cmd.specs.Submission.{first_submit_fault}
 use Rattle.scsi_cmd.specs.Held.{held_at}
 use Rattle.uas_iu.specs.declared.Iu.TheVariants.{Command as CommandUnit}
@@ -21,7 +20,7 @@ use Rattle.scsi_cmd.specs.declared.Request.TheVariants.{Execute}
 use Rattle.uas_host.specs.declared.HostEntry.{HostEntry}
 use Rattle.uas_host.specs.declared.HostClient.{HostClient}
 use Rattle.uas_host.specs.State.{HostState, client_of, with_client}
-use Rattle.uas_profile.specs.Places.{command_slot}
+use Rattle.uas_profile.specs.Tags.{command_slot, slot_of}
 use Rattle.uas_host.specs.Tds.{HasTdRoom}
 
 -- THE FAULTS
@@ -33,7 +32,7 @@ fault_at held ticket command (Some slot) = first_submit_fault true (is_some (hel
 
 -- the first fault of a submission, or none
 abbrev pub host_fault : HostState → ℕ → ℕ → ℕ → Command → Option SubmitFault
-host_fault host client tag ticket command = fault_at (client_of host client) ticket command (command_slot (length host.clients) client tag)
+host_fault host client tag ticket command = fault_at (client_of host client) ticket command (command_slot host.tags (length host.clients) client tag)
 
 -- THE HOST
 
@@ -60,17 +59,13 @@ submitted_client held slot ticket op = record {
   ready = held.ready;
 }
 
--- the slot of a tag, whoever's it is. Worked: tag 34 has slot 1.
-abbrev pub slot_of : ℕ → ℕ
-slot_of tag = (tag - 1) % TAGS
-
 -- the host with a command under a slot of a client
 abbrev pub noted : HostState → ℕ → ℕ → ℕ → Op → HostState
 noted host client slot ticket op = with_client host client (submitted_client (client_of host client) slot ticket op)
 
 -- the host after a submission under this tag
 abbrev pub submitted : HostState → ℕ → ℕ → ℕ → Op → HostState
-submitted host client tag ticket op = noted host client (slot_of tag) ticket op
+submitted host client tag ticket op = noted host client (slot_of host.tags tag) ticket op
 
 -- THE BUFFERS
 

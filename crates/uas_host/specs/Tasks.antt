@@ -6,7 +6,6 @@ use Rattle.scsi_cmd.specs.declared.SubmitFault.{SubmitFault}
 use Rattle.scsi_cmd.specs.declared.SubmitFault.TheVariants.{NotYours}
 use Rattle.scsi_cmd.specs.declared.Task.{Task}
 use Rattle.scsi_cmd.specs.declared.Task.TheVariants.{Abort, Reset, Query}
-use Rattle.uas_profile.specs.declared.TheConstants.{TASK_SLOT}
 use Rattle.scsi_cmd.specs.Submission.{first_task_fault}
 use Rattle.scsi_cmd.specs.Held.{held_at}
 use Rattle.uas_iu.specs.declared.Iu.TheVariants.{Task as TaskUnit}
@@ -20,12 +19,11 @@ use Rattle.scsi_cmd.specs.declared.Request.TheVariants.{Manage}
 use Rattle.uas_host.specs.declared.HostEntry.{HostEntry}
 use Rattle.uas_host.specs.declared.HostClient.{HostClient}
 use Rattle.uas_host.specs.State.{HostState, client_of, with_client}
-use Rattle.uas_host.specs.Submit.{slot_of}
-use Rattle.uas_profile.specs.Places.{command_slot, tag_of}
+use Rattle.uas_profile.specs.Tags.{command_slot, slot_of, tag_of, task_slot}
 
--- the tag for task managements of a client. Worked: client 2's is 48.
-abbrev pub task_tag : ℕ → ℕ
-task_tag client = tag_of (record { client = client; slot = TASK_SLOT })
+-- the tag for task managements of a client. Worked: client 2's is 48 of 16 tags, and 24 of 8.
+abbrev pub task_tag : ℕ → ℕ → ℕ
+task_tag tags client = tag_of tags (record { client = client; slot = task_slot tags })
 
 -- THE FAULTS
 
@@ -34,23 +32,23 @@ abbrev pub is_held_at : HostClient → ℕ → Bool
 is_held_at held slot = is_some (held_at held.entries slot)
 
 -- There is something to manage: for an abort and a query a command of this client on the tag, whoever's the tag is, that was submitted
--- and isn't yet taken. Worked: of three clients, client 2 can abort tag 34 while a command is on it, never tag 48 or 17 of
+-- and isn't yet taken. Worked: of three clients of 16 tags, client 2 can abort tag 34 while a command is on it, never tag 48 or 17 of
 -- another's.
-abbrev pub has_task : ℕ → ℕ → HostClient → Task → Bool
-has_task clients client held (Abort tag) = option_map_or (is_held_at held) (command_slot clients client tag) false
-has_task clients client held Reset = true
-has_task clients client held (Query tag) = option_map_or (is_held_at held) (command_slot clients client tag) false
+abbrev pub has_task : ℕ → ℕ → ℕ → HostClient → Task → Bool
+has_task tags clients client held (Abort tag) = option_map_or (is_held_at held) (command_slot tags clients client tag) false
+has_task tags clients client held Reset = true
+has_task tags clients client held (Query tag) = option_map_or (is_held_at held) (command_slot tags clients client tag) false
 
 -- the first fault of a task management of a client that is there
-abbrev pub client_task_fault : ℕ → ℕ → HostClient → ℕ → Task → Option SubmitFault
-client_task_fault clients client held ticket task =
-    first_task_fault true (is_held_at held TASK_SLOT) held.least_ticket ticket (has_task clients client held task)
+abbrev pub client_task_fault : ℕ → ℕ → ℕ → HostClient → ℕ → Task → Option SubmitFault
+client_task_fault tags clients client held ticket task =
+    first_task_fault true (is_held_at held (task_slot tags)) held.least_ticket ticket (has_task tags clients client held task)
 
 -- the first fault of a task management, or none
 abbrev pub task_fault : HostState → ℕ → ℕ → Task → Option SubmitFault
 task_fault host client ticket task =
     if nat_lt client (length host.clients)
-    then client_task_fault (length host.clients) client (client_of host client) ticket task
+    then client_task_fault host.tags (length host.clients) client (client_of host client) ticket task
     else Some NotYours
 
 -- THE HOST
@@ -63,10 +61,10 @@ tickets_of (Some held ∷ places) = held.ticket ∷ tickets_of places
 
 -- the tickets that a task management notes: an abort and a query that of the command on the tag, a reset those of all commands
 -- of the client
-abbrev pub noted_by : HostClient → Task → List ℕ
-noted_by held (Abort tag) = tickets_of (held_at held.entries (slot_of tag) ∷ [])
-noted_by held Reset = tickets_of (take TASK_SLOT held.entries)
-noted_by held (Query tag) = tickets_of (held_at held.entries (slot_of tag) ∷ [])
+abbrev pub noted_by : ℕ → HostClient → Task → List ℕ
+noted_by tags held (Abort tag) = tickets_of (held_at held.entries (slot_of tags tag) ∷ [])
+noted_by tags held Reset = tickets_of (take (task_slot tags) held.entries)
+noted_by tags held (Query tag) = tickets_of (held_at held.entries (slot_of tags tag) ∷ [])
 
 -- the entry of a task management that was just submitted
 abbrev pub task_entry : ℕ → Task → ArrayVec ℕ → HostEntry
@@ -80,16 +78,16 @@ task_entry ticket task noted = record {
 }
 
 -- a client with a task management under its task tag
-abbrev pub managed_client : HostClient → ℕ → Task → HostClient
-managed_client held ticket task = record {
-  entries = slice_set held.entries TASK_SLOT (Some (task_entry ticket task (record { items = noted_by held task })));
+abbrev pub managed_client : ℕ → HostClient → ℕ → Task → HostClient
+managed_client tags held ticket task = record {
+  entries = slice_set held.entries (task_slot tags) (Some (task_entry ticket task (record { items = noted_by tags held task })));
   least_ticket = ticket + 1;
   ready = held.ready;
 }
 
 -- the host after a task management of a client
 abbrev pub managed : HostState → ℕ → ℕ → Task → HostState
-managed host client ticket task = with_client host client (managed_client (client_of host client) ticket task)
+managed host client ticket task = with_client host client (managed_client host.tags (client_of host client) ticket task)
 
 -- THE BUFFERS
 
@@ -105,14 +103,14 @@ named_tag (Abort tag) = tag
 named_tag Reset = 0
 named_tag (Query tag) = tag
 
--- The Task Management unit of a client. Worked: the abort of tag 34 by client 2 is 05 00 00 30 01 00 00 22 00 02 and six
+-- The Task Management unit of a client. Worked: of 16 tags the abort of tag 34 by client 2 is 05 00 00 30 01 00 00 22 00 02 and six
 -- zeros, the query of it 05 00 00 30 80 00 00 22 00 02 and six zeros.
-abbrev pub task_text : ℕ → Task → List ℕ
-task_text client task = unit_text (TaskUnit (task_tag client) (function_of task) (named_tag task) (lun_text client))
+abbrev pub task_text : ℕ → ℕ → Task → List ℕ
+task_text tags client task = unit_text (TaskUnit (task_tag tags client) (function_of task) (named_tag task) (lun_text client))
 
 -- the tag's command buffer begins with the unit
-abbrev pub with_task_unit : List TagBuffers → ℕ → Task → List TagBuffers
-with_task_unit frames client task =
-    with_held frames (task_tag client) (record (held_for frames (task_tag client)) {
-      command = task_text client task ++ drop 16 (held_for frames (task_tag client)).command;
+abbrev pub with_task_unit : ℕ → List TagBuffers → ℕ → Task → List TagBuffers
+with_task_unit tags frames client task =
+    with_held frames (task_tag tags client) (record (held_for frames (task_tag tags client)) {
+      command = task_text tags client task ++ drop 16 (held_for frames (task_tag tags client)).command;
     })

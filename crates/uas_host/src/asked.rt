@@ -1,9 +1,9 @@
 // What may be asked of a host.
 ghost use Rattle.std.specs.Prelude.{◌≡◌, is_some, length, slice_get};
+ghost use Rattle.uas_profile.specs.Tags.{AreTags};
 ghost use Rattle.uas_host.specs.Retirement.{is_left_over_on};
 ghost use Rattle.uas_host.specs.State.{IsHost, client_of};
 
-use crate::tags::place_of_tag;
 use crate::{Host, Retirement};
 use stream_array::Pipe;
 
@@ -14,6 +14,14 @@ impl Host {
         ensures host { IsHost self.now }
     {
         self.clients.len()
+    }
+
+    /// How many tags each client has, 2 to 16.
+    pub fn tags(&self) -> usize
+        ensures tags { result ≡ self.now.tags }
+        ensures number { AreTags result }
+    {
+        self.tags
     }
 
     /// Whether a reply is ready for a client. None is for a client that isn't there.
@@ -27,7 +35,7 @@ impl Host {
     pub fn is_left_over(&self, pipe: Pipe, tag: u16) -> bool
         ensures { result ≡ is_left_over_on self.now pipe tag }
     {
-        let Some(place) = place_of_tag(self.clients.len(), tag) else {
+        let Some(place) = self.place_of(tag) else {
             return false;
         };
         match &self.clients[place.client].entries[place.slot] {

@@ -1,6 +1,6 @@
 // Events of the controller's command ring: the steps of a retirement (xHCI 4.6.9 and 4.6.10).
 ghost use Rattle.std.specs.Prelude.{◌≡◌, ◌+◌, ◌-◌, ◌++◌, [], ◌∷◌, ◌<◌, ◌≤◌, IsSome, IfSome, Some, length, true};
-ghost use Rattle.uas_profile.specs.declared.TheConstants.{MAX_CLIENTS, STREAMS, ENGINE_RING_PLACES};
+ghost use Rattle.uas_profile.specs.declared.TheConstants.{STREAMS, ENGINE_RING_PLACES};
 ghost use Rattle.arrayvec.specs.ArrayVec.{array_vec_len};
 ghost use Rattle.cycle_ring.specs.Items.{known_consumed_at};
 ghost use Rattle.uas_host.specs.Events.{engine_doors, handled_engine, handled_stage, is_engine_done, stage_doors, Sides};
@@ -10,7 +10,6 @@ ghost use Rattle.uas_host.specs.State.{IsRetirement};
 use crate::doors::resume;
 use crate::retirements::{empty, move_to_enqueue, push_engine};
 use crate::seen::Sight;
-use crate::tags::tag_under;
 use crate::{Handled, Host, Retirement, RetirementStage};
 use arrayvec::ArrayVec;
 use cycle_ring::laws::addresses_name_items;
@@ -38,14 +37,13 @@ fn free_engine(lines: &mut Lines, pointer: u64)
 impl Host {
     /// Stop Endpoint is done: Set TR Dequeue Pointer to the ring's enqueue place follows it.
     fn stopped(&mut self, lines: &mut Lines, pointer: u64, retirement: Retirement)
-        requires retirement { IsRetirement (length self.old.clients) retirement }
-        requires clients { length self.old.clients ≤ MAX_CLIENTS }
+        requires retirement { IsRetirement self.old.tags (length self.old.clients) retirement }
         requires consumed { IsSome (known_consumed_at ENGINE_RING_PLACES lines.old.engine pointer) }
         ensures host { self.new ≡ with_retirement self.old (record retirement { stage = RetirementStage.Moving }) }
-        ensures lines { lines.new ≡ stopped_lines lines.old pointer retirement }
+        ensures lines { lines.new ≡ stopped_lines self.old.tags lines.old pointer retirement }
     {
         let Retirement { pipe, place, .. } = retirement;
-        let tag = tag_under(place.client, place.slot);
+        let tag = self.tag_of(place.client, place.slot);
         let command = move_to_enqueue(lines, pipe, tag);
         free_engine(lines, pointer);
         push_engine(lines, command);
@@ -58,14 +56,13 @@ impl Host {
 
     /// Set TR Dequeue Pointer is done: the TD is retired, and the pipe is held no more.
     fn moved(&mut self, lines: &mut Lines, pointer: u64, retirement: Retirement)
-        requires retirement { IsRetirement (length self.old.clients) retirement }
-        requires clients { length self.old.clients ≤ MAX_CLIENTS }
+        requires retirement { IsRetirement self.old.tags (length self.old.clients) retirement }
         requires consumed { IsSome (known_consumed_at ENGINE_RING_PLACES lines.old.engine pointer) }
         ensures host { self.new ≡ retired_host self.old retirement }
-        ensures lines { lines.new ≡ moved_lines lines.old pointer retirement }
+        ensures lines { lines.new ≡ moved_lines self.old.tags lines.old pointer retirement }
     {
         let Retirement { pipe, place, .. } = retirement;
-        let tag = tag_under(place.client, place.slot);
+        let tag = self.tag_of(place.client, place.slot);
         free_engine(lines, pointer);
         empty(lines, pipe, tag);
         let _ = self.see_at(place, Sight::TdRetired(pipe), &[]);
@@ -86,7 +83,7 @@ impl Host {
         ensures handled { let done = is_engine_done lines.old pointer code in
             handled_engine (record { host = self.old; lines = lines.old }) pointer done self.old.retirement ≡
             (record { host = self.new; lines = lines.new }, result) }
-        ensures doors { doors.new.items ≡ doors.old.items ++ engine_doors lines.old pointer (is_engine_done lines.old pointer code) self.old.retirement }
+        ensures doors { doors.new.items ≡ doors.old.items ++ engine_doors self.old.tags lines.old pointer (is_engine_done lines.old pointer code) self.old.retirement }
     {
         if !is_done(lines, pointer, code) {
             return Handled::Stray;

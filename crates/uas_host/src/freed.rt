@@ -3,7 +3,6 @@ ghost use Rattle.std.specs.Prelude.{◌≡◌};
 ghost use Rattle.uas_host.specs.Events.{awaits_command, commands_freed, freed_on, held_of, is_awaited, IsEndedIn};
 
 use crate::ended::{EventPlace, command_tag_of};
-use crate::tags::place_of_tag;
 use crate::{EndedTd, Host};
 use stream_array::{Lines, Pipe};
 use xhci_trb::Trb;
@@ -13,7 +12,7 @@ impl Host {
     fn waits_for_command(&self, tag: u16) -> bool
         ensures { result ≡ awaits_command self.now tag }
     {
-        let Some(place) = place_of_tag(self.clients.len(), tag) else {
+        let Some(place) = self.place_of(tag) else {
             return false;
         };
         match &self.clients[place.client].entries[place.slot] {

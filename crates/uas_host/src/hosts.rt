@@ -1,18 +1,18 @@
 // A host and its clients.
-ghost use Rattle.std.specs.Prelude.{◌≡◌, ◌+◌, ◌<◌, ◌≤◌, ◌^◌, IfOk, MatchResult, None, Some, length, replicate};
-ghost use Rattle.uas_profile.specs.declared.TheConstants.{TASK_SLOT, MAX_CLIENTS, GREATEST_TAG};
+ghost use Rattle.std.specs.Prelude.{◌≡◌, ◌+◌, ◌*◌, ◌<◌, ◌≤◌, ◌^◌, IfOk, MatchResult, None, Some, length, replicate};
+ghost use Rattle.uas_profile.specs.declared.TheConstants.{MAX_CLIENTS, STREAMS, USUAL_CLIENTS};
+ghost use Rattle.uas_profile.specs.Tags.{AreTags, slot_of, task_slot};
 ghost use Rattle.scsi_cmd.specs.Op.{direction_of, moved_bytes};
 ghost use Rattle.scsi_cmd.specs.declared.Op.{Op};
 ghost use Rattle.uas_host.specs.State.{IsHostClient, client_of, new_client, opening};
-ghost use Rattle.uas_host.specs.Submit.{IsFree, data_td_for, fault_at, host_fault, new_entry, noted, slot_of, submitted_client};
+ghost use Rattle.uas_host.specs.Submit.{IsFree, data_td_for, fault_at, host_fault, new_entry, noted, submitted_client};
 
-use crate::tags::command_slot_of;
 use crate::{Host, HostAnswer, HostClient, HostEntry, NoMemory, TdState};
 use arrayvec::ArrayVec;
 use marks::Marks;
 use scsi_cmd::{Command, Direction, Op, Request, SubmitFault, moves};
 use std::alloc::Global;
-use uas_profile::{TAGS, WINDOW_BYTES};
+use uas_profile::{MOST_TAGS, TAGS, WINDOW_BYTES};
 
 /// A submission that has no fault: its slot, which way it moves data and how many bytes.
 #[derive(Clone, Copy)]
@@ -50,8 +50,8 @@ fn pending_where(bytes: usize) -> Option<TdState>
     }
 }
 
-fn none_held() -> [Option<HostEntry>; TAGS]
-    ensures { result ≡ replicate TAGS None }
+fn none_held() -> [Option<HostEntry>; MOST_TAGS]
+    ensures { result ≡ replicate MOST_TAGS None }
 {
     std::array::from_fn(|_| None)
 }
@@ -78,7 +78,7 @@ impl HostClient {
         command: &Command,
         bytes: usize,
     ) -> Option<SubmitFault>
-        requires slot { slot < TASK_SLOT }
+        requires slot { slot < MOST_TAGS }
         requires bytes { bytes ≡ moved_bytes command.now.op }
         ensures { result ≡ fault_at self.now ticket command.now (Some slot) }
     {
@@ -97,7 +97,7 @@ impl HostClient {
 
     #[inline(always)]
     fn submit(&mut self, slot: usize, ticket: u64, op: Op, bytes: usize)
-        requires slot { slot < TASK_SLOT }
+        requires slot { slot < MOST_TAGS }
         requires ticket { ticket < 2 ^ 60 }
         requires bytes { bytes ≡ moved_bytes op }
         ensures { self.new ≡ submitted_client self.old slot ticket op }
@@ -110,17 +110,30 @@ impl HostClient {
 }
 
 impl Host {
-    /// A host of so many clients, 1 to `MAX_CLIENTS`, that have submitted nothing. Refused for want of memory alone.
+    /// A host of so many clients, 1 to 15 (`USUAL_CLIENTS`), with `TAGS` tags each, that have submitted nothing. Refused for want of
+    /// memory alone.
     pub fn new(alloc: Global, clients: usize) -> Result<Host, NoMemory>
         requires some { 1 ≤ clients }
+        requires most { clients ≤ USUAL_CLIENTS }
+        ensures { IfOk result (λ host. host ≡ opening TAGS clients) }
+    {
+        Host::with_tags(alloc, clients, TAGS)
+    }
+
+    /// The same of 1 to 31 (`MAX_CLIENTS`) clients with another number of tags each, 2 to 16: each tag has its streams.
+    pub fn with_tags(alloc: Global, clients: usize, tags: usize) -> Result<Host, NoMemory>
+        requires number { AreTags tags }
+        requires some { 1 ≤ clients }
         requires most { clients ≤ MAX_CLIENTS }
-        ensures { IfOk result (λ host. host ≡ opening clients) }
+        requires streams { clients * tags ≤ STREAMS }
+        ensures { IfOk result (λ host. host ≡ opening tags clients) }
     {
         let mut list = Vec::with_capacity(alloc, clients)?;
         for _ in 0..clients {
             list.push(HostClient::new())?;
         }
         Ok(Host {
+            tags,
             clients: list,
             marks: Marks::new(),
             retirement: None,
@@ -138,12 +151,12 @@ impl Host {
     ) -> Result<Accepted, SubmitFault>
         ensures { MatchResult result
             (λ accepted. (host_fault self.now client tag ticket command.now ≡ None)
-            × (accepted.slot ≡ slot_of tag) × (accepted.slot < TASK_SLOT)
-            × (client < length self.now.clients) × (client < MAX_CLIENTS) × (0 < tag) × (tag ≤ GREATEST_TAG)
+            × (accepted.slot ≡ slot_of self.now.tags tag) × (accepted.slot < task_slot self.now.tags)
+            × (client < length self.now.clients) × (client < MAX_CLIENTS) × (1 ≤ tag) × (tag ≤ STREAMS)
             × (accepted.direction ≡ direction_of command.now.op) × (accepted.bytes ≡ moved_bytes command.now.op))
             (λ fault. host_fault self.now client tag ticket command.now ≡ Some fault) }
     {
-        let Some(slot) = command_slot_of(self.clients.len(), client, tag) else {
+        let Some(slot) = self.command_slot(client, tag) else {
             return Err(SubmitFault::NotYours);
         };
         let (direction, bytes) = moves(&command.op);
@@ -161,7 +174,7 @@ impl Host {
     #[inline(always)]
     pub(crate) fn note(&mut self, client: usize, slot: usize, ticket: u64, op: Op, bytes: usize)
         requires client { client < length self.old.clients }
-        requires slot { slot < TASK_SLOT }
+        requires slot { slot < task_slot self.old.tags }
         requires ticket { ticket < 2 ^ 60 }
         requires free { IsFree (client_of self.old client) slot }
         requires bytes { bytes ≡ moved_bytes op }

@@ -8,13 +8,12 @@ ghost use Rattle.uas_host.specs.Retirement.{is_left_over_on};
 ghost use Rattle.uas_host.specs.Sights.{notice_by};
 
 use crate::seen::Sight;
-use crate::tags::tag_under;
-use crate::{CLIENT_WORDS, Host, HostClient, HostEntry};
+use crate::{CLIENT_WORDS, Host, HostClient, HostEntry, Place};
 use marks::Marks;
 use scsi_cmd::CHECK_CONDITION;
 use stream_array::Pipe;
 use uas_iu::TASK_COMPLETE;
-use uas_profile::TAGS;
+use uas_profile::MOST_TAGS;
 
 impl Sight {
     /// Whether it can change which TDs are left over.
@@ -64,10 +63,10 @@ fn is_held_left_over(held: &Option<HostEntry>, pipe: Pipe) -> bool
 
 /// Whether a TD of one of the entries is left over.
 #[inline(never)]
-fn have_left_over(entries: &[Option<HostEntry>; TAGS]) -> bool
+fn have_left_over(entries: &[Option<HostEntry>; MOST_TAGS]) -> bool
     ensures { result ≡ have_left_over entries.now }
 {
-    for slot in 0..TAGS {
+    for slot in 0..MOST_TAGS {
         if holds_left_over(&entries[slot]) {
             return true;
         }
@@ -93,13 +92,14 @@ pub(crate) fn settle(
 }
 
 impl HostClient {
-    /// The first slot from this one on whose TD on a pipe is left over.
-    fn left_over_from(&self, pipe: Pipe, from: usize) -> Option<usize>
-        ensures slot { IfSome result (λ slot. (from ≤ slot) × (slot < TAGS) × (is_held_left_over pipe (held_at self.now.entries slot) ≡ true)
+    /// The first slot from this one on, below so many, whose TD on a pipe is left over.
+    fn left_over_from(&self, tags: usize, pipe: Pipe, from: usize) -> Option<usize>
+        requires { tags ≤ MOST_TAGS }
+        ensures slot { IfSome result (λ slot. (from ≤ slot) × (slot < tags) × (is_held_left_over pipe (held_at self.now.entries slot) ≡ true)
             × ((other : ℕ) → from ≤ other → other < slot → is_held_left_over pipe (held_at self.now.entries other) ≡ false)) }
-        ensures none { IfNone result ((other : ℕ) → from ≤ other → other < TAGS → is_held_left_over pipe (held_at self.now.entries other) ≡ false) }
+        ensures none { IfNone result ((other : ℕ) → from ≤ other → other < tags → is_held_left_over pipe (held_at self.now.entries other) ≡ false) }
     {
-        for slot in from..TAGS {
+        for slot in from..tags {
             if is_held_left_over(&self.entries[slot], pipe) {
                 return Some(slot);
             }
@@ -113,7 +113,8 @@ impl Host {
     /// client is.
     #[inline(always)]
     pub fn next_left_over(&self, pipe: Pipe, tag: u16) -> Option<u16>
-        ensures next { IfSome result (λ next. (tag < next) × (next ≤ length self.now.clients * TAGS) × (is_left_over_on self.now pipe next ≡ true)
+        ensures next { IfSome result (λ next. (tag < next) × (next ≤ length self.now.clients * self.now.tags)
+            × (is_left_over_on self.now pipe next ≡ true)
             × ((other : ℕ) → tag < other → other < next → is_left_over_on self.now pipe other ≡ false)) }
         ensures none { IfNone result ((other : ℕ) → tag < other → is_left_over_on self.now pipe other ≡ false) }
     {
@@ -126,17 +127,22 @@ impl Host {
     /// The same, of the clients that are marked.
     #[inline(never)]
     fn left_over_behind(&self, pipe: Pipe, tag: u16) -> Option<u16>
-        ensures next { IfSome result (λ next. (tag < next) × (next ≤ length self.now.clients * TAGS) × (is_left_over_on self.now pipe next ≡ true)
+        ensures next { IfSome result (λ next. (tag < next) × (next ≤ length self.now.clients * self.now.tags)
+            × (is_left_over_on self.now pipe next ≡ true)
             × ((other : ℕ) → tag < other → other < next → is_left_over_on self.now pipe other ≡ false)) }
         ensures none { IfNone result ((other : ℕ) → tag < other → is_left_over_on self.now pipe other ≡ false) }
     {
-        let mut from = usize::from(tag);
-        while let Some(client) = self.marks.next_from(from / TAGS) {
-            let first = from.saturating_sub(client * TAGS);
-            if let Some(slot) = self.clients[client].left_over_from(pipe, first) {
-                return Some(tag_under(client, slot));
+        let tags = self.tags();
+        let mut next = self.place_of(tag.saturating_add(1))?;
+        while let Some(client) = self.marks.next_from(next.client) {
+            let first = if client == next.client { next.slot } else { 0 };
+            if let Some(slot) = self.clients[client].left_over_from(tags, pipe, first) {
+                return Some(self.tag_of(client, slot));
             }
-            from = (client + 1) * TAGS;
+            next = Place {
+                client: client + 1,
+                slot: 0,
+            };
         }
         None
     }

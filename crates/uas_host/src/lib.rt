@@ -1,7 +1,8 @@
 //! The host driver of USB Attached SCSI: commands of clients to TDs on rings, events to replies.
 //!
-//! Up to `MAX_CLIENTS` clients have `TAGS` tags each: client c has the tags TAGS c + 1 to TAGS c + TAGS, of which the last is
-//! kept for task management. The stream of a tag on each pipe with streams has the tag's number.
+//! Up to `MAX_CLIENTS` clients have `tags` tags each, 2 to 16, a number of the host: client c has the tags tags c + 1 to
+//! tags c + tags, of which the last is kept for task management. The stream of a tag on each pipe with streams has the tag's
+//! number, so that there are at most `STREAMS` tags.
 //!
 //! Submission: the host writes the Command unit into the tag's command buffer, lends the client's own vector
 //! as the tag's data window, pushes the data TD (where bytes move), the status TD and the command TD, and
@@ -66,7 +67,7 @@ use std::alloc::AllocError;
 use std::marker::Model;
 use stream_array::Pipe;
 pub use uas_profile::{Place, TdState};
-use uas_profile::{MAX_CLIENTS, TAGS};
+use uas_profile::{MAX_CLIENTS, MOST_TAGS};
 
 /// Want of memory, the one refusal of a constructor.
 pub type NoMemory = AllocError;
@@ -145,14 +146,17 @@ pub struct HostEntry {
 /// slots that are ready, the oldest first.
 #[derive(Debug, Drop)]
 pub struct HostClient {
-    pub entries: [Option<HostEntry>; TAGS],
+    /// By slot. Those from the host's number of tags on hold nothing.
+    pub entries: [Option<HostEntry>; MOST_TAGS],
     pub least_ticket: u64,
-    pub ready: ArrayVec<usize, TAGS>,
+    pub ready: ArrayVec<usize, MOST_TAGS>,
 }
 
 /// The host driver of 1 to `MAX_CLIENTS` clients, with at most one retirement under way.
 #[derive(Debug, Drop)]
 pub struct Host {
+    /// How many tags each client has.
+    tags: usize,
     clients: Vec<HostClient>,
     /// The clients that may have a TD that is left over.
     marks: Marks<CLIENT_WORDS>,
@@ -165,8 +169,8 @@ impl Model for Host {
 
     ghost Value = { HostState };
 
-    ghost view = { λ host. record { clients = host.clients.items; retirement = host.retirement } };
+    ghost view = { λ host. record { tags = host.tags; clients = host.clients.items; retirement = host.retirement } };
 
-    ghost invariant = { λ host. IsHost (record { clients = host.clients.items; retirement = host.retirement })
+    ghost invariant = { λ host. IsHost (record { tags = host.tags; clients = host.clients.items; retirement = host.retirement })
         × AreMarked host.marks host.clients.items };
 }

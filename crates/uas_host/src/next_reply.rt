@@ -1,7 +1,7 @@
 // How long the buffer is that the next reply brings.
 ghost use Rattle.std.specs.Prelude.{◌≡◌, ◌<◌};
 ghost use Rattle.scsi_cmd.specs.Held.{held_at};
-ghost use Rattle.uas_profile.specs.declared.TheConstants.{TAGS};
+ghost use Rattle.uas_profile.specs.declared.TheConstants.{MOST_TAGS};
 ghost use Rattle.uas_host.specs.NextReply.{entry_len, next_len};
 ghost use Rattle.uas_host.specs.State.{client_of};
 ghost use Rattle.std.specs.Option.{option_map_or};

@@ -1,14 +1,12 @@
 // Replies.
 ghost use Rattle.std.specs.Prelude.{◌≡◌, ◌<◌, ◌≤◌, ◌&&◌, ◌||◌, drop, length, option_and_then, slice_get, IfSome, IsSome, None, Some, true};
-ghost use Rattle.uas_profile.specs.declared.TheConstants.{TAGS};
+ghost use Rattle.uas_profile.specs.declared.TheConstants.{MOST_TAGS};
 ghost use Rattle.scsi_cmd.specs.Request.{is_command};
 ghost use Rattle.scsi_cmd.specs.Held.{held_at};
 ghost use Rattle.uas_host.specs.Replies.{command_reply, has_command, replied, reply_of, task_reply, without, HasAnswer, HasBuffer, IsReadySlot};
 ghost use Rattle.uas_profile.specs.TdStates.{is_retired, is_seen};
 ghost use Rattle.uas_host.specs.State.{client_of, is_response, is_status, with_client};
-ghost use Rattle.uas_profile.specs.Places.{tag_of};
 
-use crate::tags::tag_under;
 use crate::{Host, HostAnswer, HostClient, HostEntry, TdState};
 use frame_store::Frames;
 use scsi_cmd::{Buffer, Reply, Request};
@@ -112,7 +110,7 @@ impl HostClient {
     /// The slot that was ready first is free again, and its entry is the reply.
     #[inline(always)]
     fn release(&mut self, slot: usize, tag: u16, lent: Option<Buffer>) -> Reply
-        requires slot { slot < TAGS }
+        requires slot { slot < MOST_TAGS }
         requires first { slice_get self.old.ready.items 0 ≡ Some slot }
         requires answer { HasAnswer (held_at self.old.entries slot) }
         requires lent { HasBuffer lent (held_at self.old.entries slot) }
@@ -139,7 +137,7 @@ impl Host {
     /// Whether a command is under a slot of a client.
     fn is_command_at(&self, client: usize, slot: usize) -> bool
         requires client { client < length self.now.clients }
-        requires slot { slot < TAGS }
+        requires slot { slot < self.now.tags }
         ensures { result ≡ has_command (held_at (client_of self.now client).entries slot) }
     {
         has_command(&self.clients[client].entries[slot])
@@ -166,7 +164,7 @@ impl Host {
         let Some(slot) = self.first_ready(client) else {
             return None;
         };
-        let tag = tag_under(client, slot);
+        let tag = self.tag_of(client, slot);
         if !self.is_command_at(client, slot) {
             return Some(self.release(client, slot, tag, None));
         }

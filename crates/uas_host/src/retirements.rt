@@ -8,9 +8,7 @@ ghost use Rattle.uas_profile.specs.Pipes.{HasStreams};
 ghost use Rattle.stream_array.specs.Map.{HasRing};
 ghost use Rattle.uas_host.specs.Retirement.{emptied, move_trb, retirement_for, stop_trb, with_engine_command, with_retirement, HasEngineRoom};
 ghost use Rattle.uas_host.specs.State.{IsRetirement};
-ghost use Rattle.uas_profile.specs.Places.{tag_of};
 
-use crate::tags::place_of_tag;
 use crate::{Host, Retirement, RetirementStage};
 use arrayvec::ArrayVec;
 use stream_array::laws::one_ring_is_changed;
@@ -73,12 +71,12 @@ impl Host {
     /// The retirement of a left-over TD that may begin.
     fn retirement_for(&self, pipe: Pipe, tag: u16) -> Option<Retirement>
         ensures retirement { result ≡ retirement_for self.now pipe tag }
-        ensures known { IfSome result (IsRetirement (length self.now.clients)) }
+        ensures known { IfSome result (IsRetirement self.now.tags (length self.now.clients)) }
     {
         if self.retirement.is_some() || !self.is_left_over(pipe, tag) {
             return None;
         }
-        let place = place_of_tag(self.clients.len(), tag)?;
+        let place = self.place_of(tag)?;
         Some(Retirement {
             pipe,
             place,

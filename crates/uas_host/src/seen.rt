@@ -12,13 +12,12 @@ ghost use Rattle.uas_profile.specs.TdStates.{is_left_over, is_over, is_pending, 
 ghost use Rattle.uas_host.specs.State.{is_data_over, is_ready};
 
 use crate::left::settle;
-use crate::tags::place_of_tag;
 use crate::{Host, HostAnswer, HostClient, HostEntry, Place, TdState};
 use arrayvec::ArrayVec;
 use scsi_cmd::{CHECK_CONDITION, Direction, MAX_SENSE_BYTES, Request, moves};
 use stream_array::Pipe;
 use uas_iu::TASK_COMPLETE;
-use uas_profile::{TAGS, TASK_SLOT};
+use uas_profile::{MOST_TAGS, TASK_SLOT};
 
 /// What an event tells, but for the sense of a status, which stays in the status buffer.
 #[derive(Clone, Copy)]
@@ -265,10 +264,10 @@ fn leave_held_over(held: &mut Option<HostEntry>, noted: &[u64])
 
 /// What a task management ends, among the commands of its client, is left over where its status wasn't seen.
 #[inline(never)]
-fn leave_doomed_over(entries: &mut [Option<HostEntry>; TAGS], noted: &[u64])
+fn leave_doomed_over(entries: &mut [Option<HostEntry>; MOST_TAGS], noted: &[u64])
     ensures { entries.new ≡ after_response noted.now entries.old }
 {
-    for slot in 0..TAGS {
+    for slot in 0..MOST_TAGS {
         leave_held_over(&mut entries[slot], noted);
     }
 }
@@ -286,8 +285,8 @@ fn ended_by(held: &Option<HostEntry>) -> ArrayVec<u64, TASK_SLOT>
 /// What the task management in a slot ends, among the commands of its client, is left over where its status wasn't seen. The
 /// tickets have their room here, and not at each event.
 #[inline(never)]
-fn leave_ended_over(entries: &mut [Option<HostEntry>; TAGS], slot: usize)
-    requires { slot < TAGS }
+fn leave_ended_over(entries: &mut [Option<HostEntry>; MOST_TAGS], slot: usize)
+    requires { slot < MOST_TAGS }
     ensures { IfSome (held_at entries.old slot) (λ entry. entries.new ≡ after_response (ended_in entry.request) entries.old) }
 {
     let ended = ended_by(&entries[slot]);
@@ -307,9 +306,9 @@ impl HostClient {
     /// The host sees an event of a slot; false, and nothing changes, where it waits for no such event.
     #[inline(always)]
     fn see(&mut self, slot: usize, sight: Sight, sense: &[u8]) -> bool
-        requires slot { slot < TAGS }
+        requires slot { slot < MOST_TAGS }
         requires sense { length sense.now ≤ MAX_SENSE_BYTES }
-        requires room { IfSome (client_seen (notice_by sense.now sight) self.old slot) (λ now. length now.ready.items ≤ TAGS) }
+        requires room { IfSome (client_seen (notice_by sense.now sight) self.old slot) (λ now. length now.ready.items ≤ MOST_TAGS) }
         ensures { MatchOption (client_seen (notice_by sense.now sight) self.old slot) ((result ≡ false) × (self.new ≡ self.old))
             (λ now. (result ≡ true) × (self.new ≡ now)) }
     {
@@ -334,7 +333,7 @@ impl Host {
     #[inline(always)]
     pub(crate) fn see_at(&mut self, place: Place, sight: Sight, sense: &[u8]) -> bool
         requires client { place.client < length self.old.clients }
-        requires slot { place.slot < TAGS }
+        requires slot { place.slot < self.old.tags }
         requires sense { length sense.now ≤ MAX_SENSE_BYTES }
         ensures { MatchOption (place_seen (notice_by sense.now sight) self.old place) ((result ≡ false) × (self.new ≡ self.old))
             (λ now. (result ≡ true) × (self.new ≡ now)) }
@@ -353,7 +352,7 @@ impl Host {
         ensures { MatchOption (host_seen (notice_by sense.now sight) self.old tag) ((result ≡ false) × (self.new ≡ self.old))
             (λ now. (result ≡ true) × (self.new ≡ now)) }
     {
-        let Some(place) = place_of_tag(self.clients.len(), tag) else {
+        let Some(place) = self.place_of(tag) else {
             return false;
         };
         self.see_at(place, sight, sense)

@@ -1,17 +1,17 @@
 // Task managements of clients.
 ghost use Rattle.std.specs.Prelude.{◌≡◌, ◌+◌, ◌++◌, [], ◌∷◌, ◌<◌, ◌≤◌, ◌^◌, MatchOption, IfSome, None, Ok, Err, Some, length, take};
-ghost use Rattle.uas_profile.specs.declared.TheConstants.{MAX_CLIENTS};
+ghost use Rattle.uas_profile.specs.declared.TheConstants.{MAX_CLIENTS, STREAMS};
 ghost use Rattle.arrayvec.specs.ArrayVec.{array_vec_len};
 ghost use Rattle.uas_profile.specs.Doors.{answer_doors};
 ghost use Rattle.uas_host.specs.Retirement.{is_held};
 ghost use Rattle.uas_host.specs.State.{client_of};
-ghost use Rattle.uas_host.specs.Submit.{IsFree, slot_of};
-ghost use Rattle.uas_profile.specs.Places.{command_slot};
+ghost use Rattle.uas_host.specs.Submit.{IsFree};
+ghost use Rattle.uas_profile.specs.Tags.{AreTags, command_slot, slot_of, task_slot};
 ghost use Rattle.uas_host.specs.Tasks.{client_task_fault, has_task, is_held_at, managed, managed_client, noted_by, task_entry, task_fault, task_tag};
 ghost use Rattle.uas_host.specs.Tasks.{tickets_of, with_task_unit};
 ghost use Rattle.uas_host.specs.Tds.{pushed_task, HasTaskRoom};
 
-use crate::tags::{command_slot_of, task_tag_of};
+use crate::tags::task_tag_of;
 use crate::tds::push_task;
 use crate::units::write_task;
 use crate::{Host, HostAnswer, HostClient, HostEntry, TdState};
@@ -19,7 +19,7 @@ use arrayvec::ArrayVec;
 use frame_store::Frames;
 use scsi_cmd::{Request, SubmitFault, Task};
 use stream_array::Lines;
-use uas_profile::{STREAM_ENTRIES, TAGS, TASK_SLOT};
+use uas_profile::{MOST_TAGS, STREAM_ENTRIES, TASK_SLOT, slot_of, task_slot};
 
 /// Adds the ticket of what is held.
 fn push_ticket(tickets: &mut ArrayVec<u64, TASK_SLOT>, held: &Option<HostEntry>)
@@ -32,12 +32,16 @@ fn push_ticket(tickets: &mut ArrayVec<u64, TASK_SLOT>, held: &Option<HostEntry>)
     }
 }
 
-/// The tickets of the commands in these slots, by rising slot.
-fn command_tickets(entries: &[Option<HostEntry>; TAGS]) -> ArrayVec<u64, TASK_SLOT>
-    ensures { result.items ≡ tickets_of (take TASK_SLOT entries.now) }
+/// The tickets of the commands of a client with so many tags, by rising slot.
+fn command_tickets(
+    tags: usize,
+    entries: &[Option<HostEntry>; MOST_TAGS],
+) -> ArrayVec<u64, TASK_SLOT>
+    requires { AreTags tags }
+    ensures { result.items ≡ tickets_of (take (task_slot tags) entries.now) }
 {
     let mut tickets = ArrayVec::new();
-    for slot in 0..TASK_SLOT {
+    for slot in 0..task_slot(tags) {
         push_ticket(&mut tickets, &entries[slot]);
     }
     tickets
@@ -69,24 +73,26 @@ impl HostEntry {
 }
 
 impl HostClient {
-    /// The tickets that a task management notes.
-    fn noted_by(&self, task: Task) -> ArrayVec<u64, TASK_SLOT>
-        ensures { result.items ≡ noted_by self.now task }
+    /// The tickets that a task management notes, of a client with so many tags. Tag 0, which is none, is read as tag 1.
+    fn noted_by(&self, tags: usize, task: Task) -> ArrayVec<u64, TASK_SLOT>
+        requires { AreTags tags }
+        ensures { result.items ≡ noted_by tags self.now task }
     {
         match task {
-            Task::Abort { tag } | Task::Query { tag } => ticket_of(
-                &self.entries[usize::from(tag.saturating_sub(1)) % TAGS],
-            ),
-            Task::Reset => command_tickets(&self.entries),
+            Task::Abort { tag } | Task::Query { tag } => {
+                ticket_of(&self.entries[slot_of(tags, tag.max(1))])
+            }
+            Task::Reset => command_tickets(tags, &self.entries),
         }
     }
 
-    fn manage(&mut self, ticket: u64, task: Task)
+    fn manage(&mut self, tags: usize, ticket: u64, task: Task)
+        requires tags { AreTags tags }
         requires ticket { ticket < 2 ^ 60 }
-        ensures { self.new ≡ managed_client self.old ticket task }
+        ensures { self.new ≡ managed_client tags self.old ticket task }
     {
-        let noted = self.noted_by(task);
-        self.entries[TASK_SLOT] = Some(HostEntry::managing(ticket, task, noted));
+        let noted = self.noted_by(tags, task);
+        self.entries[task_slot(tags)] = Some(HostEntry::managing(ticket, task, noted));
         self.least_ticket = ticket + 1;
     }
 }
@@ -95,15 +101,11 @@ impl Host {
     /// Whether there is what a task management of a client that is there is to manage.
     fn has_task(&self, client: usize, task: Task) -> bool
         requires { client < length self.now.clients }
-        ensures { result ≡ has_task (length self.now.clients) client (client_of self.now client) task }
+        ensures { result ≡ has_task self.now.tags (length self.now.clients) client (client_of self.now client) task }
     {
         match task {
             Task::Reset => true,
-            Task::Abort { tag } | Task::Query { tag } => match command_slot_of(
-                self.clients.len(),
-                client,
-                tag,
-            ) {
+            Task::Abort { tag } | Task::Query { tag } => match self.command_slot(client, tag) {
                 Some(slot) => self.clients[client].entries[slot].is_some(),
                 None => false,
             },
@@ -113,7 +115,8 @@ impl Host {
     /// The first fault of a task management, if there is one.
     fn task_fault(&self, client: usize, ticket: u64, task: Task) -> Option<SubmitFault>
         ensures fault { result ≡ task_fault self.now client ticket task }
-        ensures known { result ≡ None → (client < length self.now.clients) × (length self.now.clients ≤ MAX_CLIENTS) × IsFree (client_of self.now client) TASK_SLOT }
+        ensures known { result ≡ None → (client < length self.now.clients) × (client < MAX_CLIENTS) × (task_tag self.now.tags client ≤ STREAMS)
+            × IsFree (client_of self.now client) (task_slot self.now.tags) }
     {
         if self.clients.len() <= client {
             return Some(SubmitFault::NotYours);
@@ -122,7 +125,7 @@ impl Host {
         let held = &self.clients[client];
         scsi_cmd::task_fault(
             true,
-            held.entries[TASK_SLOT].is_some(),
+            held.entries[task_slot(self.tags)].is_some(),
             held.least_ticket,
             ticket,
             has_task,
@@ -133,10 +136,10 @@ impl Host {
     fn manage(&mut self, client: usize, ticket: u64, task: Task)
         requires client { client < length self.old.clients }
         requires ticket { ticket < 2 ^ 60 }
-        requires free { IsFree (client_of self.old client) TASK_SLOT }
+        requires free { IsFree (client_of self.old client) (task_slot self.old.tags) }
         ensures { self.new ≡ managed self.old client ticket task }
     {
-        self.clients[client].manage(ticket, task);
+        self.clients[client].manage(self.tags, ticket, task);
     }
 
     /// Submits a client's task management under its task tag. The first fault is answered, and nothing changes:
@@ -155,22 +158,22 @@ impl Host {
         task: Task,
     ) -> Result<(), SubmitFault>
         requires ticket { ticket < 2 ^ 60 }
-        requires room { task_fault self.old client ticket task ≡ None → HasTaskRoom lines.old (task_tag client) }
+        requires room { task_fault self.old client ticket task ≡ None → HasTaskRoom lines.old (task_tag self.old.tags client) }
         requires doors { array_vec_len doors.old + 2 ≤ STREAM_ENTRIES }
         ensures { MatchOption (task_fault self.old client ticket task)
             ((result ≡ Ok (record {}))
             × (self.new ≡ managed self.old client ticket task)
-            × (lines.new ≡ pushed_task lines.old (task_tag client))
-            × (frames.new ≡ with_task_unit frames.old client task)
-            × (doors.new.items ≡ doors.old.items ++ answer_doors (is_held self.old) (task_tag client)))
+            × (lines.new ≡ pushed_task lines.old (task_tag self.old.tags client))
+            × (frames.new ≡ with_task_unit self.old.tags frames.old client task)
+            × (doors.new.items ≡ doors.old.items ++ answer_doors (is_held self.old) (task_tag self.old.tags client)))
             (λ fault. (result ≡ Err fault)
             × (self.new ≡ self.old) × (lines.new ≡ lines.old) × (frames.new ≡ frames.old) × (doors.new ≡ doors.old)) }
     {
         if let Some(fault) = self.task_fault(client, ticket, task) {
             return Err(fault);
         }
-        let tag = task_tag_of(client);
-        write_task(frames, client as u8, task);
+        let tag = task_tag_of(self.tags, client);
+        write_task(frames, self.tags, client as u8, task);
         push_task(lines, tag);
         self.ring_answer(doors, tag);
         self.manage(client, ticket, task);

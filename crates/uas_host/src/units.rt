@@ -1,6 +1,6 @@
 // The units in a tag's buffers.
 ghost use Rattle.std.specs.Prelude.{◌≡◌, ◌≤◌, ◌<◌, ◌++◌, drop, length, option_map, None};
-ghost use Rattle.uas_profile.specs.declared.TheConstants.{MAX_CLIENTS, STREAMS, COMMAND_BYTES, WINDOW_BYTES};
+ghost use Rattle.uas_profile.specs.declared.TheConstants.{STREAMS, COMMAND_BYTES, WINDOW_BYTES};
 ghost use Rattle.scsi_cmd.specs.declared.Command.{Command};
 ghost use Rattle.frame_store.specs.Buffers.{held_for, with_held};
 ghost use Rattle.uas_host.specs.Events.{answer_in};
@@ -77,16 +77,17 @@ fn named_tag(task: Task) -> u16
     }
 }
 
-/// The Task Management unit of a client for its logical unit.
-fn task_unit(client: u8, task: Task) -> ArrayVec<u8, STATUS_BYTES>
-    requires { client < MAX_CLIENTS }
-    ensures text { result.items ≡ task_text client task }
+/// The Task Management unit of a client with so many tags for its logical unit.
+fn task_unit(tags: usize, client: u8, task: Task) -> ArrayVec<u8, STATUS_BYTES>
+    requires tags { 0 < tags }
+    requires last_tag { task_tag tags client ≤ STREAMS }
+    ensures text { result.items ≡ task_text tags client task }
     ensures bytes { length result.items ≡ 16 }
 {
     let mut unit = ArrayVec::new();
     let lun = lun_bytes(client);
     let task = Iu::Task {
-        tag: task_tag_of(usize::from(client)),
+        tag: task_tag_of(tags, usize::from(client)),
         function: function(task),
         task_tag: named_tag(task),
         lun,
@@ -103,13 +104,14 @@ fn write_front(buffer: &mut [u8], bytes: &[u8])
     buffer[..bytes.len()].copy_from_slice(bytes);
 }
 
-/// Writes the Task Management unit of a client over the first bytes of its task tag's command buffer.
-pub(crate) fn write_task(frames: &mut Frames, client: u8, task: Task)
-    requires { client < MAX_CLIENTS }
-    ensures { frames.new ≡ with_task_unit frames.old client task }
+/// Writes the Task Management unit of a client with so many tags over the first bytes of its task tag's command buffer.
+pub(crate) fn write_task(frames: &mut Frames, tags: usize, client: u8, task: Task)
+    requires tags { 0 < tags }
+    requires last_tag { task_tag tags client ≤ STREAMS }
+    ensures { frames.new ≡ with_task_unit tags frames.old client task }
 {
-    let unit = task_unit(client, task);
-    write_front(frames.iu(task_tag_of(usize::from(client))), &unit);
+    let unit = task_unit(tags, client, task);
+    write_front(frames.iu(task_tag_of(tags, usize::from(client))), &unit);
 }
 
 /// What the bytes of a Sense or a Response unit of a tag tell, if they are one.

@@ -17,7 +17,7 @@
 //! (`specs/Faults.antt`) that holds. So reading what was written gives the unit back, and two units
 //! have different texts (`proofs/Laws.antt`). Neither takes memory.
 //!
-//! It stands on `arrayvec`, whose vectors hold a unit's bytes and its sense.
+//! It stands on `arrayvec`, whose vectors hold a unit's bytes and its sense, and on `byteorder`.
 #![tactic(auto)]
 
 mod lun;

@@ -12,6 +12,7 @@ use crate::{
     TASK_BYTES, TASK_ID,
 };
 use arrayvec::ArrayVec;
+use byteorder::{BigEndian, ByteOrder};
 use uas_profile::{COMMAND_BYTES, STATUS_BYTES};
 
 // The places of the fields.
@@ -243,7 +244,7 @@ fn number_at(bytes: &[u8], place: usize) -> u16
     requires { place + 2 ≤ length bytes.now }
     ensures { result ≡ slice_index bytes.now place * 256 + slice_index bytes.now (place + 1) }
 {
-    u16::from_be_bytes([bytes[place], bytes[place + 1]])
+    BigEndian::read_u16(&bytes[place..])
 }
 
 /// The `N` bytes from `place` on.

@@ -1,11 +1,13 @@
 //! From a unit to its bytes.
 ghost use Rattle.std.specs.Prelude.{◌≡◌, ◌+◌, ◌≤◌, ◌++◌, length};
+ghost use Rattle.std.specs.Int.{to_be_bytes, w16};
 ghost use Rattle.arrayvec.specs.ArrayVec.{array_vec_len};
 ghost use Rattle.uas_iu.specs.Units.{Fits, unit_text};
 ghost use Rattle.uas_iu.specs.declared.Iu.TheVariants.{Sense};
 
 use crate::{COMMAND_ID, Iu, MAX_SENSE_BYTES, RESPONSE_ID, SENSE_ID, TASK_ID};
 use arrayvec::ArrayVec;
+use byteorder::{BigEndian, ByteOrder};
 use uas_profile::STATUS_BYTES;
 
 /// Writes the bytes of `unit` into `out`, which is asked to be empty and has room for every unit
@@ -20,7 +22,7 @@ pub fn write(unit: &Iu, out: &mut ArrayVec<u8, STATUS_BYTES>)
     match unit {
         Iu::Command { tag, lun, cdb } => {
             put(out, &[COMMAND_ID, 0]);
-            put(out, &tag.to_be_bytes());
+            put_number(out, *tag);
             put(out, &[0; 4]);
             put(out, lun);
             put(out, cdb);
@@ -28,7 +30,7 @@ pub fn write(unit: &Iu, out: &mut ArrayVec<u8, STATUS_BYTES>)
         Iu::Sense { tag, status, sense } => write_sense(*tag, *status, sense, out),
         Iu::Response { tag, code } => {
             put(out, &[RESPONSE_ID, 0]);
-            put(out, &tag.to_be_bytes());
+            put_number(out, *tag);
             put(out, &[0, 0, 0, *code]);
         }
         Iu::Task {
@@ -38,9 +40,9 @@ pub fn write(unit: &Iu, out: &mut ArrayVec<u8, STATUS_BYTES>)
             lun,
         } => {
             put(out, &[TASK_ID, 0]);
-            put(out, &tag.to_be_bytes());
+            put_number(out, *tag);
             put(out, &[*function, 0]);
-            put(out, &task_tag.to_be_bytes());
+            put_number(out, *task_tag);
             put(out, lun);
         }
     }
@@ -57,11 +59,22 @@ pub fn write_sense(tag: u16, status: u8, sense: &[u8], out: &mut ArrayVec<u8, ST
     ensures fits { Fits (Sense tag status (record { items = sense.now })) }
 {
     put(out, &[SENSE_ID, 0]);
-    put(out, &tag.to_be_bytes());
+    put_number(out, tag);
     put(out, &[0, 0, status]);
     put(out, &[0; 7]);
-    put(out, &(sense.len() as u16).to_be_bytes());
+    put_number(out, sense.len() as u16);
     put(out, sense);
+}
+
+/// Appends the two bytes of `number`, the high byte first. There is room for them.
+#[inline(always)]
+fn put_number(out: &mut ArrayVec<u8, STATUS_BYTES>, number: u16)
+    requires { array_vec_len out.old + 2 ≤ STATUS_BYTES }
+    ensures { out.new.items ≡ out.old.items ++ to_be_bytes w16 number }
+{
+    let mut bytes = [0; 2];
+    BigEndian::write_u16(&mut bytes, number);
+    put(out, &bytes);
 }
 
 /// Appends `bytes`, for which there is room.

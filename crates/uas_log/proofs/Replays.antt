@@ -1,8 +1,9 @@
 -- A log that is true stays true with one more step that acted.
-use Rattle.std.proofs.Common.{◌≡◌, ◌≤◌, true, List, [], ◌∷◌, ◌++◌, length, map, refl, ap, sym, ◌∙◌, append_assoc}
+use Rattle.std.proofs.Common.{◌≡◌, ℕ, ◌≤◌, true, List, [], ◌∷◌, ◌++◌, length, map, refl, ap, sym, ◌∙◌, append_assoc}
 use Rattle.std.specs.Prelude.{option_to_list}
 use Rattle.std.proofs.lemmas.List.{append-nil}
-use Rattle.uas_profile.specs.declared.TheConstants.{MAX_CLIENTS}
+use Rattle.uas_profile.specs.declared.TheConstants.{USUAL_CLIENTS}
+use Rattle.uas_profile.specs.Tags.{AreTags}
 use Rattle.shared_machine.specs.declared.Step.{Step}
 use Rattle.shared_machine.specs.declared.Outcome.{Outcome}
 use Rattle.shared_machine.specs.Bus.{AllTicketed, HasTicket}
@@ -39,9 +40,9 @@ ticketed_more (first ∷ rest) step all has = (all.0, ticketed_more rest step al
 -- THE LOG
 
 -- a log without a step is true
-pub empty_log-true : (units : List FirstUnit) → 1 ≤ length units → length units ≤ MAX_CLIENTS → IsReplay (empty_log units)
-empty_log-true units some most = record {
-  tags = refl;
+pub empty_log-true : (tags : ℕ) (units : List FirstUnit) → AreTags tags → 1 ≤ length units → length units ≤ USUAL_CLIENTS → IsReplay (empty_log tags units)
+empty_log-true tags units are some most = record {
+  tags = are;
   some = some;
   most = most;
   refusals = refl;

@@ -2,10 +2,10 @@
 use Rattle.std.specs.Prelude.{◌≡◌, ℕ, ◌≤◌, false, List, [], ◌∷◌, ◌++◌, length, map, option_to_list}
 use Rattle.std.specs.Option.{option_map_or}
 use Rattle.block_unit.specs.BlockMaps.{BlockMaps, block_count}
-use Rattle.uas_profile.specs.declared.TheConstants.{TAGS}
 use Rattle.scsi_cmd.specs.declared.Reply.{Reply}
 use Rattle.scsi_cmd.specs.Faults.{fault_number}
-use Rattle.uas_profile.specs.declared.TheConstants.{MAX_CLIENTS}
+use Rattle.uas_profile.specs.declared.TheConstants.{USUAL_CLIENTS}
+use Rattle.uas_profile.specs.Tags.{AreTags}
 use Rattle.shared_machine.specs.declared.Step.{Step}
 use Rattle.shared_machine.specs.declared.Outcome.{Outcome}
 use Rattle.shared_machine.specs.Bus.{AllTicketed}
@@ -31,15 +31,15 @@ first_maps first = record {
 abbrev pub first_units : Log → List BlockMaps
 first_units log = map first_maps log.units
 
--- the shared machine that a log begins with
+-- the shared machine that a log begins with, whose clients have as many tags as the log says
 abbrev pub log_opening : Log → Shared
-log_opening log = opening (first_units log)
+log_opening log = opening log.tags (first_units log)
 
 -- THE REPLAY
 
 -- the shared machine after a log's steps, and the outcome of each
 abbrev pub log_replay : Log → Shared × List Outcome
-log_replay log = replay (first_units log) log.steps
+log_replay log = replay log.tags (first_units log) log.steps
 
 -- the number of a refusal, 0 for none
 abbrev pub refusal_of : Outcome → ℕ
@@ -50,12 +50,12 @@ abbrev pub replies_of : List Outcome → List Reply
 replies_of [] = []
 replies_of (outcome ∷ rest) = option_to_list outcome.reply ++ replies_of rest
 
--- A log is true: its refusals and replies are those of the replay of its steps on its first units. It has only steps that
--- acted, and no more than a bus can take.
+-- A log is true: its refusals and replies are those of the replay of its steps on its first units, with its number of tags, which
+-- is one that a client may have. It has only steps that acted, and no more than a bus can take.
 pub record IsReplay (log : Log) : Type 0 where
-  pub tags : log.tags ≡ TAGS
+  pub tags : AreTags log.tags
   pub some : 1 ≤ length log.units
-  pub most : length log.units ≤ MAX_CLIENTS
+  pub most : length log.units ≤ USUAL_CLIENTS
   pub refusals : log.refusals ≡ map refusal_of (log_replay log).1
   pub replies : log.replies ≡ replies_of (log_replay log).1
   pub acted : AllDue (log_opening log) log.steps
@@ -63,9 +63,9 @@ pub record IsReplay (log : Log) : Type 0 where
 
 -- ONE MORE STEP
 
--- the log of a bus that took no step
-abbrev pub empty_log : List FirstUnit → Log
-empty_log units = record { tags = TAGS; units = units; steps = []; refusals = []; replies = [] }
+-- the log of a bus that took no step, with so many tags of each client
+abbrev pub empty_log : ℕ → List FirstUnit → Log
+empty_log tags units = record { tags = tags; units = units; steps = []; refusals = []; replies = [] }
 
 -- the log once a step came to an outcome
 abbrev pub with_entry : Log → Step → Outcome → Log

@@ -2,10 +2,11 @@
 //!
 //! A [`Log`] is a record of public fields, so that whoever wrote or read one may change it: nothing here says that it is true.
 //! What makes it true is `IsReplay` (specs/Booking.antt): its refusals and replies are those of the shared machine that begins
-//! with its first units and takes its steps, and each of these steps is due in its turn. `uas_work` keeps a log of which that
-//! holds at all times.
+//! with its first units and its number of tags and takes its steps, and each of these steps is due in its turn. `uas_work` keeps a
+//! log of which that holds at all times.
 //!
 //! ```text
+//!     tags     how many tags each client has: 2 to 16 in a log that is true
 //!     units    a unit's blocks, which its medium has too, and the numbers of its bad blocks, for each client
 //!     steps    each step that acted, with a copy of what it brought
 //!     refusals for each step the number of its refusal, 0 for none (`SubmitFault::number`)
@@ -39,7 +40,7 @@ pub struct FirstUnit {
 /// What a bus was asked and what came of it.
 #[derive(Debug, Drop)]
 pub struct Log {
-    /// The tags that each client has.
+    /// How many tags each client has: 2 to 16 in a log that is true.
     pub tags: usize,
     /// The unit of each client, by number.
     pub units: FirstUnits,

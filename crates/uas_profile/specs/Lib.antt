@@ -2,7 +2,6 @@
 pub mod Pipes
 pub mod Tags
 pub mod TagLaws
-pub mod Places
 pub mod TdStates
 pub mod Doors
 pub mod PipeStates

@@ -1,13 +1,18 @@
 -- Tags, and the client and slot that a tag names, for a number of tags of each client. The stream of a tag is the tag. What depends
--- on the number are client_of, slot_of, tag_of and task_slot; all else is said by them.
+-- on the number are client_of, slot_of, tag_of, task_slot and most_clients; all else is said by them.
 use Rattle.std.specs.Prelude.{◌≤◌, ℕ, zero, suc, ◌+◌, ◌*◌, ◌-◌, ◌/◌, ◌%◌, ◌==◌, nat_lt, ◌&&◌, if◌then◌else◌, Option, Some, None, option_and_then}
-use Rattle.uas_profile.specs.declared.TheConstants.{LEAST_TAGS, MOST_TAGS}
+use Rattle.std.specs.Prelude.{min}
+use Rattle.uas_profile.specs.declared.TheConstants.{LEAST_TAGS, MAX_CLIENTS, MOST_TAGS, STREAMS}
 use Rattle.uas_profile.specs.declared.Place.{Place}
 
 -- how many tags a client may have
 pub record AreTags (tags : ℕ) : Type 0 where
   pub least : LEAST_TAGS ≤ tags
   pub most : tags ≤ MOST_TAGS
+
+-- The most clients of so many tags: 31, and no more tags in all than there are streams. Worked: 15 of 16 tags, 31 of 8, 27 of 9, 31 of 2.
+abbrev pub most_clients : ℕ → ℕ
+most_clients tags = min MAX_CLIENTS (STREAMS / tags)
 
 -- the client of a tag; 0 is no tag
 abbrev pub client_of : ℕ → ℕ → ℕ

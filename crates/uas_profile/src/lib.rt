@@ -21,7 +21,7 @@ mod states;
 mod tags;
 
 pub use pipes::doorbell;
-pub use tags::{client_of, slot_of, tag_laws, tag_of, task_slot};
+pub use tags::{client_of, most_clients, slot_of, tag_laws, tag_of, task_slot};
 
 /// The fewest tags of a client: one for commands and one for task management.
 pub const LEAST_TAGS: usize = 2;
@@ -35,14 +35,17 @@ pub const TAGS: usize = MOST_TAGS;
 /// The slot (index less 1) of the tag for task management; those below it are for commands.
 pub const TASK_SLOT: usize = TAGS - 1;
 
-/// The most clients, and so the most logical units.
-pub const MAX_CLIENTS: usize = 15;
+/// The most clients of a bus; with t tags each there are at most 248 div t (`STREAMS`).
+pub const MAX_CLIENTS: usize = 31;
 
-/// What a program's help says of the number of clients.
-pub const CLIENTS_HELP: &str = "How many clients there are, each with a unit of its own: 1 to 15";
+/// The most clients of 16 tags (`TAGS`).
+pub const USUAL_CLIENTS: usize = 15;
 
-/// The greatest tag that a client can have.
-pub const GREATEST_TAG: u16 = (TAGS * MAX_CLIENTS) as u16;
+/// The most logical units of a disk that has no bus of its own.
+pub const MAX_UNITS: usize = 15;
+
+/// The greatest tag of clients of 16 tags.
+pub const GREATEST_TAG: u16 = (TAGS * USUAL_CLIENTS) as u16;
 
 /// Streams that have a ring on each pipe with streams, and tags that have buffers: 1 to this number.
 pub const STREAMS: u16 = 248;
@@ -70,7 +73,7 @@ pub const EVENT_RING_PLACES: usize = 1024;
 pub const MOST_EVENTS: usize = EVENT_RING_PLACES - 1;
 
 /// The most messages that can wait in the command pipe's ring at once: one for each tag.
-pub const MOST_MESSAGES: usize = TAGS * MAX_CLIENTS;
+pub const MOST_MESSAGES: usize = STREAMS as usize;
 
 /// The most events that can be pending at once: three for each tag, and one of the controller's commands.
 pub const MOST_EVENTS_PENDING: usize = 3 * MOST_MESSAGES + 1;
@@ -158,7 +161,9 @@ pub const INVALID_STREAM_ID: u8 = 34;
 // Each number once more, so that none changes unseen: a change of the profile is a change of its line above and of its line here.
 const _: () = prove!(LEAST_TAGS == 2 && MOST_TAGS == 16);
 
-const _: () = prove!(TAGS == 16 && TASK_SLOT == 15 && MAX_CLIENTS == 15 && GREATEST_TAG == 240);
+const _: () = prove!(TAGS == 16 && TASK_SLOT == 15 && USUAL_CLIENTS == 15 && GREATEST_TAG == 240);
+
+const _: () = prove!(MAX_CLIENTS == 31 && MAX_UNITS == 15 && STREAMS as usize == 31 * 8);
 
 const _: () = prove!(STREAMS == 248 && STREAM_ENTRIES == 256 && STREAM_RING_PLACES == 20);
 
@@ -166,7 +171,7 @@ const _: () = prove!(
     COMMAND_RING_PLACES == 256 && ENGINE_RING_PLACES == 16 && EVENT_RING_PLACES == 1024
 );
 
-const _: () = prove!(MOST_MESSAGES == 240 && MOST_EVENTS_PENDING == 721 && MOST_EVENTS == 1023);
+const _: () = prove!(MOST_MESSAGES == 248 && MOST_EVENTS_PENDING == 745 && MOST_EVENTS == 1023);
 
 const _: () = prove!(
     MOST_MESSAGES <= COMMAND_RING_PLACES - 2 && MOST_EVENTS_PENDING <= MOST_EVENTS

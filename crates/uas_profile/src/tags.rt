@@ -1,15 +1,16 @@
 //! The tags of a client. How many a client has, `tags`, is a number of the bus: `LEAST_TAGS` to `MOST_TAGS`. What depends on it are
-//! the four functions here, and nothing else writes their arithmetic.
+//! the functions here, and nothing else writes their arithmetic.
 //!
 //! ```text
 //! client c has the tags tags c + 1 to tags c + tags, the last of them for task management; a tag's stream is the tag
 //! ```
-ghost use Rattle.std.specs.Prelude.{◌≡◌, ◌+◌, ◌*◌, ◌^◌, ◌<◌};
-ghost use Rattle.uas_profile.specs.Tags.{client_of, slot_of, tag_of, task_slot};
+ghost use Rattle.std.specs.Prelude.{◌≡◌, ◌+◌, ◌*◌, ◌^◌, ◌<◌, ◌≤◌};
+ghost use Rattle.uas_profile.specs.declared.TheConstants.{MAX_CLIENTS, STREAMS};
+ghost use Rattle.uas_profile.specs.Tags.{client_of, most_clients, slot_of, tag_of, task_slot};
 ghost use Rattle.uas_profile.specs.TagLaws.{PlaceOfItsTag, SlotsBelowTags, TagOfItsPlace, TagsWithin, TagsApart};
 ghost use Rattle.uas_profile.specs.TagLaws.{NamedIsPlace, PlaceIsNamed, UnnamedIsAbove};
 
-use crate::Place;
+use crate::{MAX_CLIENTS, Place, STREAMS};
 
 /// The client of a tag.
 pub fn client_of(tags: usize, tag: u16) -> usize
@@ -43,6 +44,16 @@ pub fn task_slot(tags: usize) -> usize
     ensures { result ≡ task_slot tags }
 {
     tags - 1
+}
+
+/// The most clients of so many tags, so that each tag has its streams.
+pub fn most_clients(tags: usize) -> usize
+    requires tags { 0 < tags }
+    ensures most { result ≡ most_clients tags }
+    ensures clients { result ≤ MAX_CLIENTS }
+    ensures streams { result * tags ≤ STREAMS }
+{
+    MAX_CLIENTS.min(usize::from(STREAMS) / tags)
 }
 
 /// For each number of tags: a place's tag has that client and slot, and a tag is that of its client's slot; tags of two places are two; and those of so

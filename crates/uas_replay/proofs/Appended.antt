@@ -8,6 +8,7 @@ use Rattle.shared_machine.specs.declared.Step.{Step}
 use Rattle.shared_machine.specs.declared.Outcome.{Outcome}
 use Rattle.shared_machine.specs.Shared.{Shared, shared_step}
 use Rattle.shared_machine.specs.Replay.{replayed}
+use Rattle.shared_machine.proofs.NumberOfTags.{kept-tags}
 use Rattle.isolation.specs.Isolation.{own_label, own_labels}
 use Rattle.uas_replay.specs.Headline.{Said, Delivery, line_of, text_of, deliveries_said, all_deliveries_said, deliveries_to, all_deliveries}
 use Rattle.uas_replay.specs.Headline.{own_line, own_lines, shown, shown_then}
@@ -25,14 +26,19 @@ replayed-outcomes state [] more = refl
 replayed-outcomes state (step ∷ steps) more =
     ap (λ (os : List Outcome). (shared_step state step).1 ∷ os) (replayed-outcomes (shared_step state step).0 steps more)
 
-pub own_labels-append : (client : ℕ) (state : Shared) (steps more : List Step) (outcomes : List Outcome)
-    → own_labels client (steps ++ more) ((replayed state steps).1 ++ outcomes)
-    ≡ own_labels client steps (replayed state steps).1 ++ own_labels client more outcomes
-own_labels-append client state [] more outcomes = refl
-own_labels-append client state (step ∷ steps) more outcomes =
-    let first : List Label = option_to_list (own_label client step (shared_step state step).1) in
-    ap (λ (ls : List Label). first ++ ls) (own_labels-append client (shared_step state step).0 steps more outcomes)
-    ∙ sym (append_assoc first (own_labels client steps (replayed (shared_step state step).0 steps).1) (own_labels client more outcomes))
+-- a replay keeps how many tags a client has
+pub replayed-tags : (state : Shared) (steps : List Step) → (replayed state steps).0.tags ≡ state.tags
+replayed-tags state [] = refl
+replayed-tags state (step ∷ steps) = replayed-tags (shared_step state step).0 steps ∙ kept-tags state step
+
+pub own_labels-append : (tags client : ℕ) (state : Shared) (steps more : List Step) (outcomes : List Outcome)
+    → own_labels tags client (steps ++ more) ((replayed state steps).1 ++ outcomes)
+    ≡ own_labels tags client steps (replayed state steps).1 ++ own_labels tags client more outcomes
+own_labels-append tags client state [] more outcomes = refl
+own_labels-append tags client state (step ∷ steps) more outcomes =
+    let first : List Label = option_to_list (own_label tags client step (shared_step state step).1) in
+    ap (λ (ls : List Label). first ++ ls) (own_labels-append tags client (shared_step state step).0 steps more outcomes)
+    ∙ sym (append_assoc first (own_labels tags client steps (replayed (shared_step state step).0 steps).1) (own_labels tags client more outcomes))
 
 -- WHAT IS SAID
 
@@ -53,11 +59,12 @@ all_deliveries-append (one ∷ outcomes) more =
     ap (λ (t : List Delivery). deliveries_to one one.owner ++ t) (all_deliveries-append outcomes more)
     ∙ sym (append_assoc (deliveries_to one one.owner) (all_deliveries outcomes) (all_deliveries more))
 
-pub own_lines-append : (client : ℕ) (said more : List Said) → own_lines client (said ++ more) ≡ own_lines client said ++ own_lines client more
-own_lines-append client [] more = refl
-own_lines-append client (one ∷ said) more =
-    ap (λ (t : List (Bool × Reply)). option_to_list (own_line client one) ++ t) (own_lines-append client said more)
-    ∙ sym (append_assoc (option_to_list (own_line client one)) (own_lines client said) (own_lines client more))
+pub own_lines-append : (tags client : ℕ) (said more : List Said)
+    → own_lines tags client (said ++ more) ≡ own_lines tags client said ++ own_lines tags client more
+own_lines-append tags client [] more = refl
+own_lines-append tags client (one ∷ said) more =
+    ap (λ (t : List (Bool × Reply)). option_to_list (own_line tags client one) ++ t) (own_lines-append tags client said more)
+    ∙ sym (append_assoc (option_to_list (own_line tags client one)) (own_lines tags client said) (own_lines tags client more))
 
 -- THE SOLO MACHINE
 

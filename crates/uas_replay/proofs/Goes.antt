@@ -6,7 +6,7 @@ use Rattle.std.specs.Prelude.{◌||◌, slice_get, option_and_then}
 use Rattle.scsi_cmd.specs.declared.Reply.{Reply}
 use Rattle.solo_model.specs.declared.Label.{Label}
 use Rattle.solo_model.specs.Solo.{SoloState, solo_run, solo_step, with_reply}
-use Rattle.tag_range.specs.Tags.{ClientTags}
+use Rattle.tag_range.specs.Tags.{CountedTags}
 use Rattle.shared_machine.specs.declared.Step.{Step}
 use Rattle.shared_machine.specs.declared.Outcome.{Outcome}
 use Rattle.shared_machine.specs.Shared.{Shared, shared_step}
@@ -18,16 +18,16 @@ use Rattle.scsi_cmd.specs.Replies.{reply_ticket}
 use Rattle.uas_replay.specs.Headline.{Said, Delivery, line_of, text_of, deliveries_said, all_deliveries_said, deliveries_to, all_deliveries}
 use Rattle.uas_replay.specs.Headline.{own_line, own_lines, is_to_host_under}
 use Rattle.uas_replay.specs.Headline.{has_to_host, shown, shown_then, solo_lines}
-use Rattle.uas_replay.proofs.Appended.{replayed-state, replayed-outcomes, own_labels-append, text_of-append, all_deliveries_said-append, all_deliveries-append}
+use Rattle.uas_replay.proofs.Appended.{replayed-tags, replayed-state, replayed-outcomes, own_labels-append, text_of-append, all_deliveries_said-append, all_deliveries-append}
 use Rattle.uas_replay.proofs.Appended.{own_lines-append, solo_lines-append}
 
 -- WHAT IS NOTED
 
 -- so many tickets are noted of a client as it was given
-abbrev pub IsNotedOf : Option ClientTags → Option (List Bool) → Type 0
+abbrev pub IsNotedOf : Option CountedTags → Option (List Bool) → Type 0
 IsNotedOf None noted = Unit {0}
 IsNotedOf (Some tags) None = ⊥
-IsNotedOf (Some tags) (Some noted) = length noted ≡ tags.next
+IsNotedOf (Some tags) (Some noted) = length noted ≡ tags.held.next
 
 abbrev pub IsNoted : Telling → Type 0
 IsNoted run = (client : ℕ) → IsNotedOf (slice_get run.ranges client) (slice_get run.brings_in client)
@@ -38,7 +38,7 @@ Knows client labels run = (ticket : ℕ) → is_brought_in run.brings_in client 
 
 -- the labels of a client in a run of these steps
 abbrev pub labels_in : Shared → List Step → ℕ → List Label
-labels_in state steps client = own_labels client steps (replayed state steps).1
+labels_in state steps client = own_labels state.tags client steps (replayed state steps).1
 
 -- A run goes on: these steps, and this is said of them.
 pub record Goes (old new : Telling) : Type 0 where
@@ -49,7 +49,7 @@ pub record Goes (old new : Telling) : Type 0 where
   pub deliveries : all_deliveries_said said ≡ all_deliveries (replayed old.machine steps).1
   pub noted : IsNoted old → IsNoted new
   pub own : IsNoted old → (client : ℕ) (before : List Label) → Knows client before old
-      → (own_lines client said ≡ solo_lines (own_state old.machine client) before (labels_in old.machine steps client))
+      → (own_lines old.machine.tags client said ≡ solo_lines (own_state old.machine client) before (labels_in old.machine steps client))
       × Knows client (before ++ labels_in old.machine steps client) new
 
 -- nothing is done and nothing said
@@ -67,8 +67,9 @@ goes_nowhere run = record {
 labels_in-append : (state middle : Shared) (steps more : List Step) (client : ℕ) → (replayed state steps).0 ≡ middle
     → labels_in state (steps ++ more) client ≡ labels_in state steps client ++ labels_in middle more client
 labels_in-append state middle steps more client is =
-    ap (own_labels client (steps ++ more)) (replayed-outcomes state steps more)
-    ∙ own_labels-append client state steps more (replayed (replayed state steps).0 more).1
+    ap (own_labels state.tags client (steps ++ more)) (replayed-outcomes state steps more)
+    ∙ own_labels-append state.tags client state steps more (replayed (replayed state steps).0 more).1
+    ∙ ap (λ (tags : ℕ). labels_in state steps client ++ own_labels tags client more (replayed (replayed state steps).0 more).1) (sym (replayed-tags state steps))
     ∙ ap (λ (m : Shared). labels_in state steps client ++ labels_in m more client) is
 
 -- one after the other
@@ -86,17 +87,18 @@ goes_on isolated old middle new one two = record {
   noted = λ is. two.noted (one.noted is);
   own = λ is client before knows.
       let first = one.own is client before knows in
+      let still : middle.machine.tags ≡ old.machine.tags = ap (λ (m : Shared). m.tags) (sym one.machine) ∙ replayed-tags old.machine one.steps in
       let second = two.own (one.noted is) client (before ++ labels_in old.machine one.steps client) first.1 in
       let joined : labels_in old.machine (one.steps ++ two.steps) client ≡ labels_in old.machine one.steps client ++ labels_in middle.machine two.steps client =
       labels_in-append old.machine middle.machine one.steps two.steps client one.machine in
       let run : solo_run (own_state old.machine client) (labels_in old.machine one.steps client)
-      ≡ Some (own_state middle.machine client, own_replies client (replayed old.machine one.steps).1) =
+      ≡ Some (own_state middle.machine client, own_replies old.machine.tags client (replayed old.machine one.steps).1) =
       isolated old.machine one.steps client
-      ∙ ap (λ (m : Shared). Some (own_state m client, own_replies client (replayed old.machine one.steps).1)) one.machine in (
-        own_lines-append client one.said two.said
-            ∙ ap₂ (λ (a b : List (Bool × Reply)). a ++ b) first.0 second.0
+      ∙ ap (λ (m : Shared). Some (own_state m client, own_replies old.machine.tags client (replayed old.machine one.steps).1)) one.machine in (
+        own_lines-append old.machine.tags client one.said two.said
+            ∙ ap₂ (λ (a b : List (Bool × Reply)). a ++ b) first.0 (ap (λ (tags : ℕ). own_lines tags client two.said) (sym still) ∙ second.0)
             ∙ sym (solo_lines-append (own_state old.machine client) before (labels_in old.machine one.steps client)
-            (labels_in middle.machine two.steps client) (own_state middle.machine client) (own_replies client (replayed old.machine one.steps).1) run)
+            (labels_in middle.machine two.steps client) (own_state middle.machine client) (own_replies old.machine.tags client (replayed old.machine one.steps).1) run)
             ∙ ap (solo_lines (own_state old.machine client) before) (sym joined),
         λ ticket. second.1 ticket
             ∙ ap (has_to_host ticket) (append_assoc before (labels_in old.machine one.steps client) (labels_in middle.machine two.steps client))
@@ -107,7 +109,7 @@ goes_on isolated old middle new one two = record {
 -- A LINE THAT TELLS OF NO STEP
 
 pub goes_saying : (old new : Telling) (said : Said) → new.machine ≡ old.machine → new.brings_in ≡ old.brings_in
-    → (IsNoted old → IsNoted new) → new.text ≡ old.text ++ line_of said → deliveries_said said ≡ [] → ((client : ℕ) → own_line client said ≡ None)
+    → (IsNoted old → IsNoted new) → new.text ≡ old.text ++ line_of said → deliveries_said said ≡ [] → ((client : ℕ) → own_line old.machine.tags client said ≡ None)
     → Goes old new
 goes_saying old new said machine brings noted text silent nobody = record {
   steps = [];
@@ -117,7 +119,7 @@ goes_saying old new said machine brings noted text silent nobody = record {
   deliveries = append-nil (deliveries_said said) ∙ silent;
   noted = noted;
   own = λ is client before knows. (
-    append-nil (option_to_list (own_line client said)) ∙ ap option_to_list (nobody client),
+    append-nil (option_to_list (own_line old.machine.tags client said)) ∙ ap option_to_list (nobody client),
     λ ticket. ap (λ (b : List (List Bool)). is_brought_in b client ticket) brings ∙ knows ticket ∙ ap (has_to_host ticket) (sym (append-nil before)),
   );
 }
@@ -202,10 +204,10 @@ pub record StepGoes (old new : Telling) (step : Step) (said : List Said) : Type 
   pub text : new.text ≡ old.text ++ text_of said
   pub deliveries : all_deliveries_said said ≡ deliveries_to (shared_step old.machine step).1 (shared_step old.machine step).1.owner
   pub noted : IsNoted old → IsNoted new
-  pub own : (client : ℕ) → own_lines client said
-      ≡ option_to_list (option_map (shown_by old.brings_in client) (own_reply client (shared_step old.machine step).1))
+  pub own : (client : ℕ) → own_lines old.machine.tags client said
+      ≡ option_to_list (option_map (shown_by old.brings_in client) (own_reply old.machine.tags client (shared_step old.machine step).1))
   pub notes : IsNoted old → (client ticket : ℕ) → is_brought_in new.brings_in client ticket
-      ≡ (is_brought_in old.brings_in client ticket || is_to_host_by ticket (own_label client step (shared_step old.machine step).1))
+      ≡ (is_brought_in old.brings_in client ticket || is_to_host_by ticket (own_label old.machine.tags client step (shared_step old.machine step).1))
 
 pub goes_by_step : HeadlineHolds → (old new : Telling) (step : Step) (said : List Said) → StepGoes old new step said → Goes old new
 goes_by_step isolated old new step said it = record {
@@ -218,11 +220,11 @@ goes_by_step isolated old new step said it = record {
   own = λ is client before knows.
       let outcome : Outcome = (shared_step old.machine step).1 in (
         it.own client
-            ∙ ap option_to_list (shown_same old.brings_in client before (own_reply client outcome) knows)
-            ∙ sym (step_lines (own_state old.machine client) before (own_label client step outcome)
-            (own_state (shared_step old.machine step).0 client) (own_reply client outcome) (isolated old.machine (step ∷ []) client)),
+            ∙ ap option_to_list (shown_same old.brings_in client before (own_reply old.machine.tags client outcome) knows)
+            ∙ sym (step_lines (own_state old.machine client) before (own_label old.machine.tags client step outcome)
+            (own_state (shared_step old.machine step).0 client) (own_reply old.machine.tags client outcome) (isolated old.machine (step ∷ []) client)),
         λ ticket. it.notes is client ticket
-            ∙ ap (λ (b : Bool). b || is_to_host_by ticket (own_label client step outcome)) (knows ticket)
-            ∙ sym (has_to_host-last ticket before (own_label client step outcome)),
+            ∙ ap (λ (b : Bool). b || is_to_host_by ticket (own_label old.machine.tags client step outcome)) (knows ticket)
+            ∙ sym (has_to_host-last ticket before (own_label old.machine.tags client step outcome)),
       );
 }

@@ -4,9 +4,8 @@ use Rattle.std.proofs.Common.{refl, ap, sym, subst, arith, true≢false}
 use Rattle.std.proofs.lemmas.Bool.{eqb-true, eqb-false}
 use Rattle.std.proofs.Math.Dec.{eqb-zero-suc, eqb-suc-zero, eqb-suc-suc}
 use Rattle.std.specs.Prelude.{is_none, ◌==◌, ◌||◌, slice_get, slice_set, slice_index_or, replicate}
-use Rattle.uas_profile.specs.declared.TheConstants.{TAGS}
 use Rattle.block_unit.specs.BlockMaps.{BlockMaps}
-use Rattle.tag_range.specs.Tags.{ClientTags, opening, free, is_issued, task_tag, entry_of}
+use Rattle.tag_range.specs.Tags.{CountedTags, opening_counted, free_counted, is_issued_counted, task_tag, entry_of}
 use Rattle.uas_replay.specs.Told.{Telling, opening_ranges, opening_run, freed_tags, freed_range, freed_run, noted, is_brought_in}
 use Rattle.uas_replay.proofs.Goes.{IsNotedOf, IsNoted, Knows, or-false}
 
@@ -56,22 +55,22 @@ noted_after all client last flags found other ticket =
 -- AS MANY NOTES AS TICKETS
 
 -- the flags of a client with tags
-pub record AreFlags (tags : ClientTags) (found : Option (List Bool)) : Type 0 where
+pub record AreFlags (tags : CountedTags) (found : Option (List Bool)) : Type 0 where
   pub flags : List Bool
   pub is : found ≡ Some flags
-  pub count : length flags ≡ tags.next
+  pub count : length flags ≡ tags.held.next
 
-are_flags : (tags : ClientTags) (found : Option (List Bool)) → IsNotedOf (Some tags) found → AreFlags tags found
+are_flags : (tags : CountedTags) (found : Option (List Bool)) → IsNotedOf (Some tags) found → AreFlags tags found
 are_flags tags None none = absurd none
 are_flags tags (Some flags) count = record { flags = flags; is = refl; count = count }
 
-pub flags_of : (run : Telling) (client : ℕ) (tags : ClientTags) → IsNoted run → slice_get run.ranges client ≡ Some tags
+pub flags_of : (run : Telling) (client : ℕ) (tags : CountedTags) → IsNoted run → slice_get run.ranges client ≡ Some tags
     → AreFlags tags (slice_get run.brings_in client)
 flags_of run client tags is found =
-    are_flags tags (slice_get run.brings_in client) (subst (λ (o : Option ClientTags). IsNotedOf o (slice_get run.brings_in client)) found (is client))
+    are_flags tags (slice_get run.brings_in client) (subst (λ (o : Option CountedTags). IsNotedOf o (slice_get run.brings_in client)) found (is client))
 
 -- a client's tags are written, which gave out no further ticket
-pub ranges_noted : (run new : Telling) (client : ℕ) (tags now : ClientTags) → slice_get run.ranges client ≡ Some tags → now.next ≡ tags.next
+pub ranges_noted : (run new : Telling) (client : ℕ) (tags now : CountedTags) → slice_get run.ranges client ≡ Some tags → now.held.next ≡ tags.held.next
     → new.ranges ≡ slice_set run.ranges client now → new.brings_in ≡ run.brings_in → IsNoted run → IsNoted new
 ranges_noted run new client tags now found next wrote same is other =
     rw (wrote, same) (elim (client == other) as (λ b. (client == other) ≡ b
@@ -87,7 +86,7 @@ ranges_noted run new client tags now found next wrote same is other =
     ] refl)
 
 -- a client's tags are written, which gave out one more ticket, and that is noted
-pub ticket_noted : (run new : Telling) (client : ℕ) (tags now : ClientTags) (last : Bool) → slice_get run.ranges client ≡ Some tags → now.next ≡ tags.next + 1
+pub ticket_noted : (run new : Telling) (client : ℕ) (tags now : CountedTags) (last : Bool) → slice_get run.ranges client ≡ Some tags → now.held.next ≡ tags.held.next + 1
     → new.ranges ≡ slice_set run.ranges client now → new.brings_in ≡ noted run.brings_in client last (slice_get run.brings_in client)
     → IsNoted run → IsNoted new
 ticket_noted run new client tags now last found next wrote notes is other =
@@ -102,7 +101,7 @@ ticket_noted run new client tags now last found next wrote notes is other =
           let noted_there : slice_get (slice_set run.brings_in client (flags.flags ++ last ∷ [])) other ≡ Some (flags.flags ++ last ∷ []) =
           ap (slice_get (slice_set run.brings_in client (flags.flags ++ last ∷ []))) (sym it)
           ∙ get-set_same run.brings_in client flags.flags (flags.flags ++ last ∷ []) flags.is in
-          let count : length flags.flags ≡ tags.next = flags.count in
+          let count : length flags.flags ≡ tags.held.next = flags.count in
           rw (there, noted_there) (omega (arith, count, next, length-append flags.flags (last ∷ [])))
       | false ↦ λ apart.
           rw (
@@ -113,24 +112,25 @@ ticket_noted run new client tags now last found next wrote notes is other =
 
 -- FREED TAGS
 
-free-next : (tags : ClientTags) (tag : ℕ) → (free TAGS tags tag).next ≡ tags.next
-free-next tags tag = go (tag == task_tag TAGS tags.client)
+free-next : (tags : CountedTags) (tag : ℕ) → (free_counted tags tag).held.next ≡ tags.held.next
+free-next tags tag = go (tag == task_tag tags.tags tags.held.client)
   where
-    go : (b : Bool) → (cond b (record tags { task_out = false }) (record tags { out = slice_set tags.out (entry_of TAGS tags tag) false })).next ≡ tags.next
+    go : (b : Bool) → (cond b (record tags.held { task_out = false })
+        (record tags.held { out = slice_set tags.held.out (entry_of tags.tags tags.held tag) false })).next ≡ tags.held.next
     go true = refl
     go false = refl
 
-freed_tags-next : (tags : ClientTags) (tag : ℕ) → (freed_tags tags tag).next ≡ tags.next
-freed_tags-next tags tag = go (is_issued TAGS tags tag)
+freed_tags-next : (tags : CountedTags) (tag : ℕ) → (freed_tags tags tag).held.next ≡ tags.held.next
+freed_tags-next tags tag = go (is_issued_counted tags tag)
   where
-    go : (b : Bool) → (cond b (free TAGS tags tag) tags).next ≡ tags.next
+    go : (b : Bool) → (cond b (free_counted tags tag) tags).held.next ≡ tags.held.next
     go true = free-next tags tag
     go false = refl
 
 pub freed_noted : (run : Telling) (client tag : ℕ) → IsNoted run → IsNoted (freed_run run client tag)
 freed_noted run client tag is = go (slice_get run.ranges client) refl
   where
-    go : (found : Option ClientTags) → slice_get run.ranges client ≡ found → IsNoted (record run { ranges = freed_range run.ranges client tag found })
+    go : (found : Option CountedTags) → slice_get run.ranges client ≡ found → IsNoted (record run { ranges = freed_range run.ranges client tag found })
     go None there = is
     go (Some tags) there =
         ranges_noted run (record run { ranges = slice_set run.ranges client (freed_tags tags tag) }) client tags (freed_tags tags tag) there
@@ -138,20 +138,20 @@ freed_noted run client tag is = go (slice_get run.ranges client) refl
 
 -- AT FIRST
 
-abbrev AreFresh : List ClientTags → List (List Bool) → Type 0
+abbrev AreFresh : List CountedTags → List (List Bool) → Type 0
 AreFresh [] [] = Unit {0}
 AreFresh [] (flags ∷ all) = ⊥
 AreFresh (tags ∷ ranges) [] = ⊥
-AreFresh (tags ∷ ranges) (flags ∷ all) = (length flags ≡ tags.next) × AreFresh ranges all
+AreFresh (tags ∷ ranges) (flags ∷ all) = (length flags ≡ tags.held.next) × AreFresh ranges all
 
-fresh-push : (ranges : List ClientTags) (all : List (List Bool)) (tags : ClientTags) (flags : List Bool) → AreFresh ranges all → length flags ≡ tags.next
+fresh-push : (ranges : List CountedTags) (all : List (List Bool)) (tags : CountedTags) (flags : List Bool) → AreFresh ranges all → length flags ≡ tags.held.next
     → AreFresh (ranges ++ tags ∷ []) (all ++ flags ∷ [])
 fresh-push [] [] tags flags fresh count = (count, tt)
 fresh-push [] (one ∷ all) tags flags fresh count = absurd fresh
 fresh-push (one ∷ ranges) [] tags flags fresh count = absurd fresh
 fresh-push (one ∷ ranges) (its ∷ all) tags flags fresh count = (fresh.0, fresh-push ranges all tags flags fresh.1 count)
 
-fresh-at : (ranges : List ClientTags) (all : List (List Bool)) (client : ℕ) → AreFresh ranges all → IsNotedOf (slice_get ranges client) (slice_get all client)
+fresh-at : (ranges : List CountedTags) (all : List (List Bool)) (client : ℕ) → AreFresh ranges all → IsNotedOf (slice_get ranges client) (slice_get all client)
 fresh-at [] all client fresh = tt
 fresh-at (tags ∷ ranges) [] client fresh = absurd fresh
 fresh-at (tags ∷ ranges) (flags ∷ all) zero fresh = fresh.0
@@ -161,17 +161,17 @@ one_more : (none : List Bool) (n : ℕ) → replicate n none ++ none ∷ [] ≡ 
 one_more none zero = refl
 one_more none (suc n) = ap (λ (l : List (List Bool)). none ∷ l) (one_more none n)
 
-opening-fresh : (clients : ℕ) → AreFresh (opening_ranges clients) (replicate clients [])
-opening-fresh zero = tt
-opening-fresh (suc clients) =
-    subst (AreFresh (opening_ranges clients ++ opening TAGS clients ∷ [])) (one_more [] clients)
-    (fresh-push (opening_ranges clients) (replicate clients []) (opening TAGS clients) [] (opening-fresh clients) refl)
+opening-fresh : (tags clients : ℕ) → AreFresh (opening_ranges tags clients) (replicate clients [])
+opening-fresh tags zero = tt
+opening-fresh tags (suc clients) =
+    subst (AreFresh (opening_ranges tags clients ++ opening_counted tags clients ∷ [])) (one_more [] clients)
+    (fresh-push (opening_ranges tags clients) (replicate clients []) (opening_counted tags clients) [] (opening-fresh tags clients) refl)
 
-pub opening_noted : (units : List BlockMaps) → IsNoted (opening_run units)
-opening_noted units client = fresh-at (opening_ranges (length units)) (replicate (length units) []) client (opening-fresh (length units))
+pub opening_noted : (tags : ℕ) (units : List BlockMaps) → IsNoted (opening_run tags units)
+opening_noted tags units client = fresh-at (opening_ranges tags (length units)) (replicate (length units) []) client (opening-fresh tags (length units))
 
-pub opening_knows : (units : List BlockMaps) (client : ℕ) → Knows client [] (opening_run units)
-opening_knows units client ticket = go (length units) client
+pub opening_knows : (tags : ℕ) (units : List BlockMaps) (client : ℕ) → Knows client [] (opening_run tags units)
+opening_knows tags units client ticket = go (length units) client
   where
     go : (n at : ℕ) → is_brought_in (replicate n []) at ticket ≡ false
     go zero at = refl

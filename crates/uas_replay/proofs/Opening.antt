@@ -2,7 +2,7 @@
 use Rattle.std.proofs.Common.{◌≡◌, ◌∙◌, ℕ, ◌+◌, ◌-◌, ◌<◌, ◌≤◌, Bool, false, List, [], length, get_or, refl, arith, ap, ap₂, sym}
 use Rattle.std.specs.Prelude.{replicate}
 use Rattle.block_unit.specs.BlockMaps.{BlockMaps}
-use Rattle.tag_range.specs.Tags.{ClientTags}
+use Rattle.tag_range.specs.Tags.{CountedTags}
 use Rattle.shared_machine.specs.Shared.{Shared, opening}
 use Rattle.bus_core.specs.World.{World}
 use Rattle.bus_core.specs.WorldSteps.{opening_world}
@@ -47,22 +47,22 @@ lines_new lines are new =
 
 -- THE WALK
 
-abbrev telling_of : Shared → List ClientTags → List (List Bool) → List ℕ → Telling
+abbrev telling_of : Shared → List CountedTags → List (List Bool) → List ℕ → Telling
 telling_of machine ranges notes text = record { machine = machine; ranges = ranges; brings_in = notes; text = text; failed = false }
 
-abbrev pub walk_of : Shared → List ClientTags → List (List Bool) → List ℕ → World → Walk
+abbrev pub walk_of : Shared → List CountedTags → List (List Bool) → List ℕ → World → Walk
 walk_of machine ranges notes text world = record { telling = telling_of machine ranges notes text; world = world }
 
-pub opening_by : (units held : List BlockMaps) (clients : ℕ) (machine : Shared) (ranges : List ClientTags) (notes : List (List Bool)) (text : List ℕ)
-    (world : World) → held ≡ units → length units ≡ clients → machine ≡ opening held → ranges ≡ opening_ranges clients → notes ≡ replicate clients []
-    → text ≡ [] → world ≡ opening_world held (length held) world.lines → IsLines world.lines → IsOpeningLines world.lines
-    → walk_of machine ranges notes text world ≡ opening_walk units
-opening_by units held clients machine ranges notes text world same count opens tags none empty stands are new =
-    let telling : telling_of machine ranges notes text ≡ opening_run units =
-    ap (λ (m : Shared). telling_of m ranges notes text) (opens ∙ ap opening same)
-    ∙ ap (λ (r : List ClientTags). telling_of (opening units) r notes text) (tags ∙ ap opening_ranges (sym count))
-    ∙ ap (λ (n : List (List Bool)). telling_of (opening units) (opening_ranges (length units)) n text) (none ∙ ap (λ (n : ℕ). replicate n []) (sym count))
-    ∙ ap (telling_of (opening units) (opening_ranges (length units)) (replicate (length units) [])) empty in
+pub opening_by : (number : ℕ) (units held : List BlockMaps) (clients : ℕ) (machine : Shared) (ranges : List CountedTags) (notes : List (List Bool)) (text : List ℕ)
+    (world : World) → held ≡ units → length units ≡ clients → machine ≡ opening number held → ranges ≡ opening_ranges number clients → notes ≡ replicate clients []
+    → text ≡ [] → world ≡ opening_world number held (length held) world.lines → IsLines world.lines → IsOpeningLines world.lines
+    → walk_of machine ranges notes text world ≡ opening_walk number units
+opening_by number units held clients machine ranges notes text world same count opens tags none empty stands are new =
+    let telling : telling_of machine ranges notes text ≡ opening_run number units =
+    ap (λ (m : Shared). telling_of m ranges notes text) (opens ∙ ap (opening number) same)
+    ∙ ap (λ (r : List CountedTags). telling_of (opening number units) r notes text) (tags ∙ ap (opening_ranges number) (sym count))
+    ∙ ap (λ (n : List (List Bool)). telling_of (opening number units) (opening_ranges number (length units)) n text) (none ∙ ap (λ (n : ℕ). replicate n []) (sym count))
+    ∙ ap (telling_of (opening number units) (opening_ranges number (length units)) (replicate (length units) [])) empty in
     ap₂ (λ (t : Telling) (w : World). record { telling = t; world = w }) telling
-    (stands ∙ ap (λ (all : List BlockMaps). opening_world all (length all) world.lines) same
-    ∙ ap (opening_world units (length units)) (lines_new world.lines are new))
+    (stands ∙ ap (λ (all : List BlockMaps). opening_world number all (length all) world.lines) same
+    ∙ ap (opening_world number units (length units)) (lines_new world.lines are new))

@@ -4,7 +4,6 @@ use Rattle.std.specs.Prelude.{slice_get}
 use Rattle.scsi_cmd.specs.declared.Command.{Command}
 use Rattle.scsi_cmd.specs.declared.SubmitFault.{SubmitFault}
 use Rattle.scsi_cmd.specs.declared.Task.{Task}
-use Rattle.uas_profile.specs.declared.TheConstants.{TASK_SLOT}
 use Rattle.scsi_cmd.specs.Held.{held_at}
 use Rattle.solo_model.specs.TaggedTask.{carried, finds, moved, sent}
 use Rattle.shared_machine.specs.declared.Step.{Step}
@@ -21,7 +20,7 @@ use Rattle.shared_machine.specs.declared.Retirement.{Retirement}
 use Rattle.shared_machine.specs.declared.RetirementStage.{RetirementStage}
 use Rattle.shared_machine.specs.declared.RetirementStage.TheVariants.{StopAsked, StopAnswered, MoveAsked, MoveAnswered}
 use Rattle.shared_machine.specs.Td.{Entry}
-use Rattle.uas_profile.specs.Places.{place_of, command_slot}
+use Rattle.uas_profile.specs.Tags.{place_of, command_slot, task_slot}
 use Rattle.shared_machine.specs.Part.{Part, Act, carry_act, carried_slot, carried_entry, move_act, moved_slot, moved_entry, send_act, sent_slot, sent_entry, tasks_in}
 use Rattle.shared_machine.specs.Part.{event_act, event_place, seen_entry, seen_by, take_act, fault_at, named_slot, task_fault_at, stop_act}
 use Rattle.shared_machine.specs.Part.{pass_act, passed_slot, retire_act}
@@ -159,12 +158,12 @@ inner_untold state Event inner =
 inner_untold state Engine inner =
     untold_if (due state Engine) state (due_step state Engine) (untold_engine state state.retirement)
 inner_untold state (Retire pipe tag) inner =
-    untold_if (due state (Retire pipe tag)) state (due_step state (Retire pipe tag)) (untold_retire state pipe (place_of (length state.parts) tag))
+    untold_if (due state (Retire pipe tag)) state (due_step state (Retire pipe tag)) (untold_retire state pipe (place_of state.tags (length state.parts) tag))
 inner_untold state (Data tag) inner =
-    untold_if (due state (Data tag)) state (due_step state (Data tag)) (untold_by_tag state move_act (place_of (length state.parts) tag)
+    untold_if (due state (Data tag)) state (due_step state (Data tag)) (untold_by_tag state move_act (place_of state.tags (length state.parts) tag)
     (λ at p. move_slot-reply p at.slot at (held_at p.entries at.slot)))
 inner_untold state (Status tag) inner =
-    untold_if (due state (Status tag)) state (due_step state (Status tag)) (untold_by_tag state send_act (place_of (length state.parts) tag)
+    untold_if (due state (Status tag)) state (due_step state (Status tag)) (untold_by_tag state send_act (place_of state.tags (length state.parts) tag)
     (λ at p. send_slot-reply p at.slot at (held_at p.entries at.slot)))
 inner_untold state (Submit client tag ticket command) inner = absurd inner
 inner_untold state (TaskStep client ticket task) inner = absurd inner
@@ -180,11 +179,11 @@ pub record IsTaken (client : ℕ) (outcome : Outcome) : Type 0 where
 pub take_told : (state : Shared) (client : ℕ) → due state (Take client) ≡ true → IsTaken client (shared_step state (Take client)).1
 take_told state client is_due = go (slice_get state.parts client)
   where
-    go' : (part : Option Part) → IsTaken client (routed_to state client (take_act client) part).1
+    go' : (part : Option Part) → IsTaken client (routed_to state client (take_act state.tags client) part).1
     go' None = record { owner = refl; refused = refl }
     go' (Some part) = record { owner = refl; refused = refl }
 
-    through : (b : Bool) → b ≡ true → IsTaken client (cond b (routed state client (take_act client)) (state, idle)).1
+    through : (b : Bool) → b ≡ true → IsTaken client (cond b (routed state client (take_act state.tags client)) (state, idle)).1
     through true is = go' (slice_get state.parts client)
     through false never = cc
 
@@ -205,7 +204,7 @@ pub record IsSubmitted (client : ℕ) (outcome : Outcome) : Type 0 where
 
 pub submit_told : (state : Shared) (client tag ticket : ℕ) (command : Command)
     → IsSubmitted client (shared_step state (Submit client tag ticket command)).1
-submit_told state client tag ticket command = under (command_slot (length state.parts) client tag)
+submit_told state client tag ticket command = under (command_slot state.tags (length state.parts) client tag)
   where
     by_fault : (part : Part) (slot : ℕ) (fault : Option SubmitFault)
         → IsSubmitted client (answered state part (record { client = client; slot = slot }) tag ticket command fault).1
@@ -231,10 +230,10 @@ pub task_told : (state : Shared) (client ticket : ℕ) (task : Task) → IsManag
 task_told state client ticket task = to (slice_get state.parts client)
   where
     place : Place
-    place = record { client = client; slot = TASK_SLOT }
+    place = record { client = client; slot = task_slot state.tags }
 
     slot : Option ℕ
-    slot = named_slot (length state.parts) client task
+    slot = named_slot state.tags (length state.parts) client task
 
     by_fault : (part : Part) (fault : Option SubmitFault) → IsManaged client (managed_or state part place slot ticket task fault).1
     by_fault part None = record { owner = refl; reply = refl }
@@ -242,4 +241,4 @@ task_told state client ticket task = to (slice_get state.parts client)
 
     to : (part : Option Part) → IsManaged client (managed_to state place slot ticket task part).1
     to None = record { owner = refl; reply = refl }
-    to (Some part) = by_fault part (task_fault_at part slot ticket task)
+    to (Some part) = by_fault part (task_fault_at state.tags part slot ticket task)

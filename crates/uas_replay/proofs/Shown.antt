@@ -8,7 +8,7 @@ use Rattle.std.specs.Prelude.{IsSome, OnOk, option_map, slice_get}
 use Rattle.std.specs.Io.KnownBytes.{Appends}
 use Rattle.scsi_cmd.specs.declared.Reply.{Reply}
 use Rattle.tag_range.specs.declared.Refused.{Refused}
-use Rattle.tag_range.specs.Tags.{ClientTags}
+use Rattle.tag_range.specs.Tags.{CountedTags}
 use Rattle.shared_machine.specs.declared.Step.{Step}
 use Rattle.shared_machine.specs.declared.Step.TheVariants.{Take}
 use Rattle.bus_core.specs.World.{World}
@@ -220,7 +220,7 @@ pub handed-none : (run : Telling) (client : ℕ) (handed : Handed) → None ≡ 
 unfolding handed_in
 handed-none run client handed = go (slice_get run.ranges client)
   where
-    go : (found : Option ClientTags) → None ≡ option_map (λ (tags : ClientTags). (issued_for handed tags).1) found
+    go : (found : Option CountedTags) → None ≡ option_map (λ (tags : CountedTags). (issued_for handed tags).1) found
         → (handed_in_by run client handed found ≡ run) × (record run { ranges = issued_range run.ranges client handed found } ≡ run)
     go None none = (refl, refl)
     go (Some tags) none = cc
@@ -230,7 +230,7 @@ pub handed-given : (run : Telling) (client : ℕ) (handed : Handed) (answer : Re
 unfolding handed_in
 handed-given run client handed answer = go (slice_get run.ranges client)
   where
-    go : (found : Option ClientTags) → Some answer ≡ option_map (λ (tags : ClientTags). (issued_for handed tags).1) found
+    go : (found : Option CountedTags) → Some answer ≡ option_map (λ (tags : CountedTags). (issued_for handed tags).1) found
         → given_run (record run { ranges = issued_range run.ranges client handed found }) client handed answer ≡ handed_in_by run client handed found
     go None is = cc
     go (Some tags) is =
@@ -241,7 +241,7 @@ handing-given : (run : Telling) (client : ℕ) (handed : Handed) (answer : Resul
     → step_in run (hands client handed) ≡ step_given client handed answer
 handing-given run client handed answer = go (slice_get run.ranges client)
   where
-    go : (found : Option ClientTags) → Some answer ≡ option_map (λ (tags : ClientTags). (issued_for handed tags).1) found
+    go : (found : Option CountedTags) → Some answer ≡ option_map (λ (tags : CountedTags). (issued_for handed tags).1) found
         → step_handing client handed found ≡ step_given client handed answer
     go None is = cc
     go (Some tags) is =
@@ -266,7 +266,7 @@ shows_handed text_of old middle new client handed answer before after is leads t
 handing-none : (run : Telling) (client : ℕ) (handed : Handed) → None ≡ issued_in run client handed → step_in run (hands client handed) ≡ None
 handing-none run client handed = go (slice_get run.ranges client)
   where
-    go : (found : Option ClientTags) → None ≡ option_map (λ (tags : ClientTags). (issued_for handed tags).1) found → step_handing client handed found ≡ None
+    go : (found : Option CountedTags) → None ≡ option_map (λ (tags : CountedTags). (issued_for handed tags).1) found → step_handing client handed found ≡ None
     go None none = refl
     go (Some tags) none = cc
 

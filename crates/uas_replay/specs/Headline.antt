@@ -69,17 +69,17 @@ all_deliveries (outcome ∷ outcomes) = deliveries_to outcome outcome.owner ++ a
 
 -- A CLIENT'S OWN LINES
 
--- What a line shows of a reply to this client, the tag counted from the client's first: whether its command moves data
--- to the host, and the reply.
-abbrev pub own_line : ℕ → Said → Option (Bool × Reply)
-own_line client (replied other brings_in reply) = if other == client then Some (brings_in, renumbered client reply) else None
-own_line client (refused_by_bus other fault) = None
-own_line client (refused_by_tags other refused) = None
-own_line client idle = None
+-- What a line shows of a reply to this client, which has so many tags, the tag counted from the client's first: whether its
+-- command moves data to the host, and the reply.
+abbrev pub own_line : ℕ → ℕ → Said → Option (Bool × Reply)
+own_line tags client (replied other brings_in reply) = if other == client then Some (brings_in, renumbered tags client reply) else None
+own_line tags client (refused_by_bus other fault) = None
+own_line tags client (refused_by_tags other refused) = None
+own_line tags client idle = None
 
-abbrev pub own_lines : ℕ → List Said → List (Bool × Reply)
-own_lines client [] = []
-own_lines client (said ∷ rest) = option_to_list (own_line client said) ++ own_lines client rest
+abbrev pub own_lines : ℕ → ℕ → List Said → List (Bool × Reply)
+own_lines tags client [] = []
+own_lines tags client (said ∷ rest) = option_to_list (own_line tags client said) ++ own_lines tags client rest
 
 -- the label is of a command under this ticket that moves data to the host
 abbrev pub is_to_host_under : ℕ → Label → Bool
@@ -122,33 +122,33 @@ reply_lines_to client (said ∷ rest) = option_to_list (reply_line_to client sai
 
 -- THE LAWS
 
--- These steps are what the lines do, and this is what they say: the shared machine is as the steps' replay leaves it, the
--- text is what is said, the replies and refusals by the bus among it are those of the replay's outcomes in order, and
--- what is said of a client's replies is what its own labels bring from a solo machine on its unit.
-pub record IsToldBy (units : List BlockMaps) (lines : List Line) (steps : List Step) (said : List Said) : Type 0 where
-  pub machine : (whole_run units lines).machine ≡ (replay units steps).0
-  pub text : (told units lines).0 ≡ text_of said
-  pub deliveries : all_deliveries_said said ≡ all_deliveries (replay units steps).1
+-- With so many tags of each client, these steps are what the lines do, and this is what they say: the shared machine is as the
+-- steps' replay leaves it, the text is what is said, the replies and refusals by the bus among it are those of the replay's
+-- outcomes in order, and what is said of a client's replies is what its own labels bring from a solo machine on its unit.
+pub record IsToldBy (tags : ℕ) (units : List BlockMaps) (lines : List Line) (steps : List Step) (said : List Said) : Type 0 where
+  pub machine : (whole_run tags units lines).machine ≡ (replay tags units steps).0
+  pub text : (told tags units lines).0 ≡ text_of said
+  pub deliveries : all_deliveries_said said ≡ all_deliveries (replay tags units steps).1
   pub own : (client : ℕ) (unit : BlockMaps) → slice_get units client ≡ Some unit
-      → own_lines client said ≡ solo_lines (solo_opening unit) [] (own_labels client steps (replay units steps).1)
+      → own_lines tags client said ≡ solo_lines (solo_opening tags unit) [] (own_labels tags client steps (replay tags units steps).1)
 
--- Every script is the replay of a list of steps.
+-- Every script is the replay of a list of steps, whatever the number of tags.
 abbrev pub ScriptsAreReplays : Type 0
 ScriptsAreReplays =
-    (units : List BlockMaps) (lines : List Line) → (steps : List Step) × ((said : List Said) × IsToldBy units lines steps said)
+    (tags : ℕ) (units : List BlockMaps) (lines : List Line) → (steps : List Step) × ((said : List Said) × IsToldBy tags units lines steps said)
 
--- Two clients with the same first unit, each in a script of its own, that do alike are told alike, up to the client's
--- number, however many other clients there are and whatever their lines do.
+-- Two clients with the same first unit and as many tags, each in a script of its own, that do alike are told alike, up to the
+-- client's number, however many other clients there are and whatever their lines do.
 abbrev pub OwnLabelsDecide : Type 0
 OwnLabelsDecide =
-    (here there : List BlockMaps) (first second : List Line) (these those : List Step) (said told : List Said) (a b : ℕ) (unit : BlockMaps)
-    → IsToldBy here first these said → IsToldBy there second those told
+    (tags : ℕ) (here there : List BlockMaps) (first second : List Line) (these those : List Step) (said told : List Said) (a b : ℕ) (unit : BlockMaps)
+    → IsToldBy tags here first these said → IsToldBy tags there second those told
     → slice_get here a ≡ Some unit → slice_get there b ≡ Some unit
-    → own_labels a these (replay here these).1 ≡ own_labels b those (replay there those).1
-    → own_lines a said ≡ own_lines b told
+    → own_labels tags a these (replay tags here these).1 ≡ own_labels tags b those (replay tags there those).1
+    → own_lines tags a said ≡ own_lines tags b told
 
 -- A client's reply lines print what they show of its replies, with the client's number in front.
 abbrev pub ReplyLinesShowOwn : Type 0
 ReplyLinesShowOwn =
-    (client : ℕ) (said : List Said)
-    → reply_lines_to client said ≡ map (λ (shown : Bool × Reply). reply_line client shown.0 shown.1) (own_lines client said)
+    (tags client : ℕ) (said : List Said)
+    → reply_lines_to client said ≡ map (λ (shown : Bool × Reply). reply_line client shown.0 shown.1) (own_lines tags client said)

@@ -1,11 +1,10 @@
 -- The moments of a script, in the order in which its run makes them: of each line, of a drain's tries, and of the replies that
--- are taken behind them. They are a function of the units and the lines, whoever watches.
+-- are taken behind them. They are a function of the number of tags, the units and the lines, whoever watches.
 use Rattle.std.specs.Prelude.{ℕ, zero, suc, ◌==◌, if◌then◌else◌, List, [], ◌∷◌, ◌++◌, length, fold}
 use Rattle.block_unit.specs.BlockMaps.{BlockMaps}
-use Rattle.uas_profile.specs.declared.TheConstants.{TAGS}
 use Rattle.shared_machine.specs.declared.Step.{Step}
 use Rattle.shared_machine.specs.declared.Step.TheVariants as step
-use Rattle.shared_machine.specs.Shared.{Shared, due}
+use Rattle.shared_machine.specs.Shared.{Shared, due, greatest_tag}
 use Rattle.shared_machine.specs.Drain.{round, tried_one, tries as tries_of}
 use Rattle.uas_script.specs.declared.Line.{Line}
 use Rattle.uas_script.specs.declared.Line.TheVariants as line
@@ -26,7 +25,7 @@ tried_moments now (step ∷ steps) = try_moments now step ++ tried_moments (trie
 
 -- a whole round: the tries of the bus's own drain, in its order
 unfoldable pub round_moments : Shared × ℕ → List Moment
-round_moments now = tried_moments now (tries_of (length now.0.parts))
+round_moments now = tried_moments now (tries_of (greatest_tag now.0))
 
 -- rounds, until nothing acts or no more step may act
 unfoldable pub rounds_moments : ℕ → Shared × ℕ → List Moment
@@ -52,7 +51,7 @@ takes_moments (suc times) run client = takes_moments times run client ++ take_mo
 
 -- until none is ready
 unfoldable pub all_takes_of : Telling → ℕ → List Moment
-all_takes_of run client = takes_moments TAGS run client
+all_takes_of run client = takes_moments run.machine.tags run client
 
 -- the clients below this number, by rising number
 abbrev pub takes_below : ℕ → Telling → List Moment
@@ -88,6 +87,6 @@ lines_moments run (line ∷ lines) = line_moments run line ++ lines_moments (tol
 abbrev pub whole_moments : Telling → List Line → List Moment
 whole_moments run lines = lines_moments run lines ++ drained_moments (fold told_line run lines)
 
--- the moments of a script on these units
-abbrev pub moments_of : List BlockMaps → List Line → List Moment
-moments_of units lines = whole_moments (opening_run units) lines
+-- the moments of a script on these units, with so many tags of each client
+abbrev pub moments_of : ℕ → List BlockMaps → List Line → List Moment
+moments_of tags units lines = whole_moments (opening_run tags units) lines

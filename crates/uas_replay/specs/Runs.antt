@@ -11,10 +11,10 @@ use Rattle.uas_script.specs.declared.ScriptFault.{ScriptFault}
 use Rattle.uas_script.specs.Script.{script}
 use Rattle.uas_replay.specs.Told.{told}
 
--- A run of a script that told something: its lines' text, and their number as the exit status.
-abbrev pub Tells : List BlockMaps → Result (List Line) ScriptFault → Option (List ℕ) → Option (List ℕ) → ℕ → Type 0
-Tells units (Ok lines) old new status = Appends old new (told units lines).0 × (status ≡ (told units lines).1)
-Tells units (Err fault) old new status = ⊥
+-- A run of a script that told something, with so many tags of each client: its lines' text, and their number as the exit status.
+abbrev pub Tells : ℕ → List BlockMaps → Result (List Line) ScriptFault → Option (List ℕ) → Option (List ℕ) → ℕ → Type 0
+Tells tags units (Ok lines) old new status = Appends old new (told tags units lines).0 × (status ≡ (told tags units lines).1)
+Tells tags units (Err fault) old new status = ⊥
 
 -- A run that reads a script for so many clients: the script's own fault, where its bytes are known; the reader's, where
 -- that can fail; want of memory.

@@ -3,7 +3,6 @@ use Rattle.std.specs.Prelude.{ℕ, zero, suc, Bool, true, false, ◌||◌, if◌
 use Rattle.std.specs.Prelude.{slice_set, slice_index_or, Option, Some, None, Result, Ok, Err}
 use Rattle.std.specs.Option.{option_map_or}
 use Rattle.block_unit.specs.BlockMaps.{BlockMaps, fresh}
-use Rattle.uas_profile.specs.declared.TheConstants.{TAGS}
 use Rattle.scsi_cmd.specs.declared.Command.{Command}
 use Rattle.uas_profile.specs.declared.Direction.{Direction}
 use Rattle.uas_profile.specs.declared.Direction.TheVariants.{Nothing, ToHost, ToDevice}
@@ -11,7 +10,7 @@ use Rattle.scsi_cmd.specs.declared.Reply.{Reply}
 use Rattle.scsi_cmd.specs.Replies.{reply_tag, reply_ticket}
 use Rattle.scsi_cmd.specs.Op.{moved_bytes, direction_of}
 use Rattle.tag_range.specs.declared.Refused.{Refused}
-use Rattle.tag_range.specs.Tags.{ClientTags, opening as opening_tags, issue, issue_task, free, is_issued}
+use Rattle.tag_range.specs.Tags.{CountedTags, opening_counted, issue_counted, issue_task_counted, free_counted, is_issued_counted}
 use Rattle.shared_machine.specs.declared.Step.{Step}
 use Rattle.shared_machine.specs.declared.Step.TheVariants as step
 use Rattle.shared_machine.specs.declared.Refusal.{Refusal}
@@ -34,7 +33,7 @@ drain_limit = 100000
 -- abort or a refusal.
 pub record Telling : Type 0 where
   pub machine : Shared
-  pub ranges : List ClientTags
+  pub ranges : List CountedTags
   pub brings_in : List (List Bool)
   pub text : List ℕ
   pub failed : Bool
@@ -43,16 +42,16 @@ pub record Telling : Type 0 where
 abbrev pub zeroed_units : ℕ → ℕ → Option ℕ → List BlockMaps
 zeroed_units clients blocks bad = replicate clients (fresh blocks (option_to_list bad))
 
--- the tags of the clients below this number, none of them out
-abbrev pub opening_ranges : ℕ → List ClientTags
-opening_ranges zero = []
-opening_ranges (suc client) = opening_ranges client ++ opening_tags TAGS client ∷ []
+-- the tags of the clients below this number, so many of each, none of them out
+abbrev pub opening_ranges : ℕ → ℕ → List CountedTags
+opening_ranges tags zero = []
+opening_ranges tags (suc client) = opening_ranges tags client ++ opening_counted tags client ∷ []
 
--- the run before its first line
-abbrev pub opening_run : List BlockMaps → Telling
-opening_run units = record {
-  machine = opening units;
-  ranges = opening_ranges (length units);
+-- the run before its first line, with so many tags of each client
+abbrev pub opening_run : ℕ → List BlockMaps → Telling
+opening_run tags units = record {
+  machine = opening tags units;
+  ranges = opening_ranges tags (length units);
   brings_in = replicate (length units) [];
   text = [];
   failed = false;
@@ -85,10 +84,10 @@ abbrev pub refused_run : Telling → ℕ → List ℕ → Telling
 refused_run run client name = record run { text = run.text ++ refusal_line client name; failed = true }
 
 -- a tag that is out is freed
-abbrev pub freed_tags : ClientTags → ℕ → ClientTags
-freed_tags tags tag = if is_issued TAGS tags tag then free TAGS tags tag else tags
+abbrev pub freed_tags : CountedTags → ℕ → CountedTags
+freed_tags tags tag = if is_issued_counted tags tag then free_counted tags tag else tags
 
-abbrev pub freed_range : List ClientTags → ℕ → ℕ → Option ClientTags → List ClientTags
+abbrev pub freed_range : List CountedTags → ℕ → ℕ → Option CountedTags → List CountedTags
 freed_range ranges client tag None = ranges
 freed_range ranges client tag (Some tags) = slice_set ranges client (freed_tags tags tag)
 
@@ -118,13 +117,13 @@ noted_run run client brings_in =
 abbrev pub is_brought_in : List (List Bool) → ℕ → ℕ → Bool
 is_brought_in all client ticket = option_map_or (λ noted. slice_index_or noted ticket false) (slice_get all client) false
 
-abbrev pub with_range : Telling → ℕ → ClientTags → Telling
+abbrev pub with_range : Telling → ℕ → CountedTags → Telling
 with_range run client tags = record run { ranges = slice_set run.ranges client tags }
 
 -- the client's own tags give a command a tag and a ticket, and a task management the task tag and a ticket, or refuse it
-abbrev pub issued_for : Handed → ClientTags → ClientTags × Result (ℕ × ℕ) Refused
-issued_for (hand.Command request) tags = issue TAGS tags
-issued_for (hand.Task task) tags = issue_task TAGS tags
+abbrev pub issued_for : Handed → CountedTags → CountedTags × Result (ℕ × ℕ) Refused
+issued_for (hand.Command request) tags = issue_counted tags
+issued_for (hand.Task task) tags = issue_task_counted tags
 
 -- the step that hands it in under them
 abbrev pub handing_in : Handed → ℕ → ℕ × ℕ → Step
@@ -142,7 +141,7 @@ given_run run client handed (Ok given) =
     let after = step_of run.machine (handing_in handed client given) in
     handed_over (noted_run (record run { machine = after.0 }) client (brought_in_by handed after.1.refused)) client given.0 after.1.refused
 
-abbrev pub handed_in_by : Telling → ℕ → Handed → Option ClientTags → Telling
+abbrev pub handed_in_by : Telling → ℕ → Handed → Option CountedTags → Telling
 handed_in_by run client handed None = run
 handed_in_by run client handed (Some tags) = given_run (with_range run client (issued_for handed tags).0) client handed (issued_for handed tags).1
 
@@ -183,7 +182,7 @@ taken_times (suc times) run client = taken (taken_times times run client) client
 
 -- A client takes its replies until none is ready: one a tag at most.
 unfoldable pub all_taken_by : Telling → ℕ → Telling
-all_taken_by run client = taken_times TAGS run client
+all_taken_by run client = taken_times run.machine.tags run client
 
 -- the clients below this number take theirs, by rising number
 abbrev pub taken_below : ℕ → Telling → Telling
@@ -211,11 +210,11 @@ told_line run (line.Retire pipe tag) = stepped run (step.Retire pipe tag)
 told_line run (line.Take client) = taken_or_idle run client
 told_line run line.Drain = drained_run run
 
--- the whole run of these lines: a drain follows the last one
-abbrev pub whole_run : List BlockMaps → List Line → Telling
-whole_run units lines = drained_run (fold told_line (opening_run units) lines)
+-- the whole run of these lines, with so many tags of each client: a drain follows the last one
+abbrev pub whole_run : ℕ → List BlockMaps → List Line → Telling
+whole_run tags units lines = drained_run (fold told_line (opening_run tags units) lines)
 
--- Script meaning: the text printed for these lines on these units, and 1 where it tells a check, an abort or a refusal,
--- else 0.
-unfoldable pub told : List BlockMaps → List Line → List ℕ × ℕ
-told units lines = let after = whole_run units lines in (after.text, if after.failed then 1 else 0)
+-- Script meaning: the text printed for these lines on these units, with so many tags of each client, and 1 where it tells a
+-- check, an abort or a refusal, else 0.
+unfoldable pub told : ℕ → List BlockMaps → List Line → List ℕ × ℕ
+told tags units lines = let after = whole_run tags units lines in (after.text, if after.failed then 1 else 0)

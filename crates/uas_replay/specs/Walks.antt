@@ -12,7 +12,7 @@ use Rattle.event_ring.specs.Events.{opening as new_events}
 use Rattle.stream_array.specs.Map.{ring_base}
 use Rattle.stream_array.specs.Rings.{LinesState}
 use Rattle.tag_range.specs.declared.Refused.{Refused}
-use Rattle.tag_range.specs.Tags.{ClientTags}
+use Rattle.tag_range.specs.Tags.{CountedTags}
 use Rattle.shared_machine.specs.declared.Step.{Step}
 use Rattle.shared_machine.specs.declared.Step.TheVariants as step
 use Rattle.shared_machine.specs.Shared.{Shared}
@@ -51,9 +51,9 @@ opening_lines = record {
   events = new_events;
 }
 
--- the walk before the first line, over new rings
-abbrev pub opening_walk : List BlockMaps → Walk
-opening_walk units = record { telling = opening_run units; world = opening_world units (length units) opening_lines }
+-- the walk before the first line, with so many tags of each client, over new rings
+abbrev pub opening_walk : ℕ → List BlockMaps → Walk
+opening_walk tags units = record { telling = opening_run tags units; world = opening_world tags units (length units) opening_lines }
 
 -- the walk after a step of the bus, of which nothing is told yet
 abbrev pub acted : Walk → Step → Walk
@@ -63,7 +63,7 @@ acted walk step = record {
 }
 
 -- what a client hands in has a tag of its own, where its tags let it
-abbrev pub issued_range : List ClientTags → ℕ → Handed → Option ClientTags → List ClientTags
+abbrev pub issued_range : List CountedTags → ℕ → Handed → Option CountedTags → List CountedTags
 issued_range ranges client handed None = ranges
 issued_range ranges client handed (Some tags) = slice_set ranges client (issued_for handed tags).0
 
@@ -94,7 +94,7 @@ abbrev pub step_given : ℕ → Handed → Result (ℕ × ℕ) Refused → Optio
 step_given client handed (Err refused) = None
 step_given client handed (Ok given) = Some (handing_in handed client given)
 
-abbrev pub step_handing : ℕ → Handed → Option ClientTags → Option Step
+abbrev pub step_handing : ℕ → Handed → Option CountedTags → Option Step
 step_handing client handed None = None
 step_handing client handed (Some tags) = step_given client handed (issued_for handed tags).1
 

@@ -1,12 +1,11 @@
 //! A script's run: the bus, each client's tags, and what was told. The walk of its lines is `walk`.
 
-ghost use Rattle.uas_profile.specs.declared.TheConstants.{MAX_CLIENTS, TAGS};
-ghost use Rattle.uas_profile.specs.declared.TheConstants.{MAX_BLOCKS};
+ghost use Rattle.uas_profile.specs.Tags.{AreTags};
+ghost use Rattle.uas_profile.specs.declared.TheConstants.{MAX_BLOCKS, MAX_CLIENTS, STREAMS, TAGS, USUAL_CLIENTS};
+ghost use Rattle.shared_machine.specs.Shared.{greatest_tag};
 ghost use Rattle.std.specs.Prelude.{◌≡◌, ℕ, ◌+◌, ◌*◌, ◌≤◌, ◌<◌, ◌^◌, ◌++◌, ◌∷◌, [], Bool, List, option_to_list, length, fold, replicate, suc};
 ghost use Rattle.std.specs.Prelude.{slice_index_or, false, IfOk, OnOk, IfSome, IfNone, vec_len};
-ghost use Rattle.scsi_cmd.specs.Op.{direction_of};
-ghost use Rattle.uas_replay.specs.Told.{zeroed_units, opening_ranges, command_of, is_to_host, took_to_host, told};
-ghost use Rattle.uas_replay.specs.Told.{issued_for, handing_in, brought_in_by};
+ghost use Rattle.uas_replay.specs.Told.{zeroed_units, opening_ranges, told, issued_for, handing_in, brought_in_by};
 ghost use Rattle.uas_replay.specs.Walks.{acted, issued_in, issued_run, machine_of, opening_walk, told_since};
 ghost use Rattle.stream_array.specs.Rings.{IsLines, IsOpeningLines};
 ghost use Rattle.shared_machine.specs.Bus.{HasTicket};
@@ -15,6 +14,7 @@ ghost use Rattle.bus_core.specs.Busy.{IsNextBusy};
 ghost use Rattle.bus_core.specs.Shows.{ShowsFrames, ShowsShared};
 ghost use Rattle.frame_store.specs.Buffers.{IsWhole};
 
+mod commands;
 mod notes;
 mod opening;
 mod walk;
@@ -22,14 +22,16 @@ mod walk;
 use crate::printed;
 use crate::status::{COMMAND_FAILED, DONE};
 use bus_core::{Outcome, Refusal, RingBus, Step};
+pub use commands::command_of;
+use commands::took_to_host;
 use frame_store::Frames;
 use notes::TicketNotes;
 use opening::{opening_notes, opening_ranges, zeroed_units};
-use scsi_cmd::{Buffer, Command, Direction, Op, Reply, Task, moves};
+use scsi_cmd::{Reply, Task};
 use std::alloc::{AllocError, Global};
 use std::marker::Model;
 use stream_array::{Lines, Pipe};
-use tag_range::{Refused, Tag, TagRange, Ticket};
+use tag_range::{ClientRange, Refused, Tag, Ticket};
 use uas_profile::{EVENT_RING_PLACES, TAGS};
 use uas_script::{Line, Request};
 pub use walk::{Unwatched, Watcher};
@@ -46,7 +48,7 @@ pub enum Handed {
 
 impl Handed {
     /// A tag and a ticket for it out of a client's own, or why there is none.
-    fn issue(&self, range: &mut TagRange<TAGS>) -> Result<(Tag, Ticket), Refused>
+    fn issue(&self, range: &mut ClientRange) -> Result<(Tag, Ticket), Refused>
         ensures step { (range.new, result) ≡ issued_for self.now range.old }
         ensures ticket { IfOk result (λ given. given.1 < 2 ^ 60) }
     {
@@ -94,7 +96,7 @@ impl Handed {
 pub struct ScriptRun {
     alloc: Global,
     bus: RingBus,
-    ranges: Vec<TagRange<TAGS>>,
+    ranges: Vec<ClientRange>,
     // For each client, what was noted of its tickets.
     brings_in: Vec<TicketNotes>,
     text: Vec<u8>,
@@ -123,8 +125,7 @@ impl ScriptRun {
     ghost use Rattle.uas_replay.specs.Told.{zeroed_units, step_of, is_due, drained_machine, refused_run, freed_run, handed_over};
     ghost use Rattle.uas_replay.specs.Told.{noted_run, is_brought_in, replied, idle_run};
 
-    /// The run before its first line, of 1 to 15 clients on units of 1 to 65,536 zeroed blocks.
-    #[tactic(auto, unfolding(crate::specs::Walks::machine_of))]
+    /// The run before its first line, of 1 to 15 clients with `TAGS` tags each, on units of 1 to 65,536 zeroed blocks.
     pub fn new(
         alloc: Global,
         clients: usize,
@@ -132,18 +133,39 @@ impl ScriptRun {
         bad: Option<u32>,
     ) -> Result<ScriptRun, AllocError>
         requires some_clients { 1 ≤ clients }
-        requires most_clients { clients ≤ MAX_CLIENTS }
+        requires most_clients { clients ≤ USUAL_CLIENTS }
         requires some_blocks { 1 ≤ blocks }
         requires most_blocks { blocks ≤ MAX_BLOCKS }
-        ensures walk { IfOk result (λ run. run ≡ opening_walk (zeroed_units clients blocks bad)) }
+        ensures walk { IfOk result (λ run. run ≡ opening_walk TAGS (zeroed_units clients blocks bad)) }
         ensures rings { IfOk result (λ run. IsOpeningLines run.world.lines) }
     {
-        let bus = RingBus::new(alloc, zeroed_units(alloc, clients, blocks, bad)?)?;
+        ScriptRun::with_tags(alloc, clients, blocks, bad, TAGS)
+    }
+
+    /// The same of 1 to 31 clients with another number of tags each, 2 to 16, and 248 tags in all at most.
+    #[tactic(auto, unfolding(crate::specs::Walks::machine_of))]
+    pub fn with_tags(
+        alloc: Global,
+        clients: usize,
+        blocks: u32,
+        bad: Option<u32>,
+        tags: usize,
+    ) -> Result<ScriptRun, AllocError>
+        requires number { AreTags tags }
+        requires some_clients { 1 ≤ clients }
+        requires most_clients { clients ≤ MAX_CLIENTS }
+        requires streams { clients * tags ≤ STREAMS }
+        requires some_blocks { 1 ≤ blocks }
+        requires most_blocks { blocks ≤ MAX_BLOCKS }
+        ensures walk { IfOk result (λ run. run ≡ opening_walk tags (zeroed_units clients blocks bad)) }
+        ensures rings { IfOk result (λ run. IsOpeningLines run.world.lines) }
+    {
+        let bus = RingBus::with_tags(alloc, zeroed_units(alloc, clients, blocks, bad)?, tags)?;
         stand(bus.lines());
         Ok(ScriptRun {
             alloc,
             bus,
-            ranges: opening_ranges(alloc, clients)?,
+            ranges: opening_ranges(alloc, clients, tags)?,
             brings_in: opening_notes(alloc, clients)?,
             text: Vec::new(alloc),
             failed: false,
@@ -194,8 +216,8 @@ impl ScriptRun {
     #[tactic(auto, unfolding(crate::specs::Walks::machine_of))]
     pub fn next_busy(&self, tag: u16) -> Option<u16>
         ensures busy { IsNextBusy self.now.telling.machine tag result }
-        ensures next { IfSome result (λ next. (tag < next) × (next ≤ length self.now.telling.machine.parts * TAGS) × AreQuiet self.now.telling.machine tag next) }
-        ensures none { IfNone result (AreQuiet self.now.telling.machine tag (suc (length self.now.telling.machine.parts * TAGS))) }
+        ensures next { IfSome result (λ next. (tag < next) × (next ≤ greatest_tag self.now.telling.machine) × AreQuiet self.now.telling.machine tag next) }
+        ensures none { IfNone result (AreQuiet self.now.telling.machine tag (suc (greatest_tag self.now.telling.machine))) }
     {
         self.bus.next_busy(tag)
     }
@@ -203,8 +225,8 @@ impl ScriptRun {
     /// The least tag above this one whose TD on a pipe is left over. None is due while a retirement is under way.
     #[tactic(auto, unfolding(crate::specs::Walks::machine_of))]
     pub fn next_left_over(&self, pipe: Pipe, tag: u16) -> Option<u16>
-        ensures next { IfSome result (λ next. (tag < next) × (next ≤ length self.now.telling.machine.parts * TAGS) × AreNotLeftOver self.now.telling.machine pipe tag next) }
-        ensures none { IfNone result (AreNotLeftOver self.now.telling.machine pipe tag (suc (length self.now.telling.machine.parts * TAGS))) }
+        ensures next { IfSome result (λ next. (tag < next) × (next ≤ greatest_tag self.now.telling.machine) × AreNotLeftOver self.now.telling.machine pipe tag next) }
+        ensures none { IfNone result (AreNotLeftOver self.now.telling.machine pipe tag (suc (greatest_tag self.now.telling.machine))) }
     {
         self.bus.next_left_over(pipe, tag)
     }
@@ -216,6 +238,15 @@ impl ScriptRun {
         ensures most { result ≤ MAX_CLIENTS }
     {
         self.bus.clients()
+    }
+
+    /// How many tags each client has, which never changes.
+    #[tactic(auto, unfolding(crate::specs::Walks::machine_of))]
+    pub fn tags(&self) -> usize
+        ensures tags { result ≡ self.now.telling.machine.tags }
+        ensures number { AreTags result }
+    {
+        self.bus.tags()
     }
 
     /// What it told.
@@ -336,56 +367,28 @@ fn stand(lines: &Lines)
     prove!(lines.len() < EVENT_RING_PLACES);
 }
 
-/// Whether an operation moves data to the host.
-fn is_to_host(op: &Op) -> bool
-    ensures { result ≡ is_to_host (direction_of op.now) }
-{
-    match moves(op).0 {
-        Direction::ToHost => true,
-        Direction::Nothing | Direction::ToDevice => false,
-    }
-}
-
-/// Whether the bus took this operation, and it moves data to the host.
-fn took_to_host(op: &Op, refused: &Option<Refusal>) -> bool
-    ensures { result ≡ took_to_host (direction_of op.now) refused.now }
-{
-    match refused {
-        None => is_to_host(op),
-        Some(_) => false,
-    }
-}
-
-/// The command of a request, with its buffer filled.
-pub fn command_of(alloc: Global, request: Request) -> Result<Command, AllocError>
-    ensures { IfOk result (λ command. command ≡ command_of request) }
-{
-    let bytes = vec![in alloc; request.fill; moves(&request.op).1]?;
-    let buffer = Buffer::from_vec(bytes);
-    Ok(Command {
-        op: request.op,
-        buffer,
-    })
-}
-
-/// What lines tell on zeroed units: the text, and 1 where it tells a check, an abort or a refusal, else 0.
+/// What lines tell on zeroed units, with 2 to 16 tags of each client: the text, and 1 where it tells a check, an abort or a
+/// refusal, else 0.
 #[tactic(auto, unfolding(crate::specs::Told::told))]
 pub fn told(
     alloc: Global,
     clients: usize,
     blocks: u32,
     bad: Option<u32>,
+    tags: usize,
     lines: &[Line],
 ) -> Result<(Vec<u8>, u8), AllocError>
+    requires number { AreTags tags }
     requires some_clients { 1 ≤ clients }
     requires most_clients { clients ≤ MAX_CLIENTS }
+    requires streams { clients * tags ≤ STREAMS }
     requires some_blocks { 1 ≤ blocks }
     requires most_blocks { blocks ≤ MAX_BLOCKS }
-    ensures text { IfOk result (λ given. given.0.items ≡ (told (zeroed_units clients blocks bad) lines.now).0) }
+    ensures text { IfOk result (λ given. given.0.items ≡ (told tags (zeroed_units clients blocks bad) lines.now).0) }
     ensures status { IfOk result (λ given. given.1 ≤ 1) }
-    ensures number { IfOk result (λ given. given.1 ≡ (told (zeroed_units clients blocks bad) lines.now).1) }
+    ensures number { IfOk result (λ given. given.1 ≡ (told tags (zeroed_units clients blocks bad) lines.now).1) }
 {
-    let mut run = ScriptRun::new(alloc, clients, blocks, bad)?;
+    let mut run = ScriptRun::with_tags(alloc, clients, blocks, bad, tags)?;
     let Ok(()) = run.whole(&mut Unwatched, &mut (), lines) else {
         return Err(AllocError);
     };

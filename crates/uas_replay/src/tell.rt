@@ -1,7 +1,8 @@
 //! The run `replay`: a script from a reader, and what it tells to a writer.
 
-ghost use Rattle.uas_profile.specs.declared.TheConstants.{MAX_CLIENTS};
-ghost use Rattle.std.specs.Prelude.{◌≡◌, ℕ, ◌+◌, ◌≤◌, ◌<◌, ◌⊎◌, length, true, Ok, Err, IsTrue, IsErr, IfOk, IfErr, OnOk, IfSome};
+ghost use Rattle.uas_profile.specs.Tags.{AreTags};
+ghost use Rattle.uas_profile.specs.declared.TheConstants.{STREAMS, USUAL_CLIENTS};
+ghost use Rattle.std.specs.Prelude.{◌≡◌, ℕ, ◌+◌, ◌*◌, ◌≤◌, ◌<◌, ◌⊎◌, length, true, Ok, Err, IsTrue, IsErr, IfOk, IfErr, OnOk, IfSome};
 ghost use Rattle.std.specs.Io.KnownBytes.{Consumes, Appends, Keeps, IsAtEnd};
 ghost use Rattle.byte_io.specs.Disks.{AreDisks};
 ghost use Rattle.uas_script.specs.Script.{script};
@@ -15,21 +16,24 @@ use std::alloc::Global;
 use std::io::Write;
 use uas_script::{Line, MAX_SCRIPT_BYTES, ScriptFault, parse_script};
 
-/// The run `replay`: reads a script of 1 to 15 clients and runs it on units of 1 to 65,536 zeroed blocks, of which one may be
+/// The run `replay`: reads a script of 1 to 15 clients with 2 to 16 tags each, and runs it on units of 1 to 65,536 zeroed blocks, of which one may be
 /// bad. The whole script is read before anything is run. It answers the exit
 /// status: 1 where a command ended other than GOOD or was refused, 3 at a fault of the script, the reader or the writer, 4 for
 /// want of memory, else 0.
 pub fn run_script<S: Source, O: Sink, W: Write>(
     alloc: Global,
     disks: Disks,
+    tags: usize,
     reader: &mut S,
     writer: &mut O,
     faults: &mut W,
 ) -> u8
-    requires { AreDisks disks }
+    requires disks { AreDisks disks }
+    requires number { AreTags tags }
+    requires streams { disks.clients * tags ≤ STREAMS }
     ensures statuses { (result ≤ 1) ⊎ ((result ≡ 3) ⊎ (result ≡ 4)) }
     ensures told { result ≤ 1 → IfSome (S.left reader.old) (λ bytes.
-        Tells (zeroed_units disks.clients disks.blocks disks.bad) (script disks.clients bytes)
+        Tells tags (zeroed_units disks.clients disks.blocks disks.bad) (script disks.clients bytes)
         (O.written writer.old) (O.written writer.new) result) }
     ensures read { result ≤ 1 → IsAtEnd (S.left reader.new) }
     ensures there { result ≤ 1 → IsTrue (S.is_there reader.old) }
@@ -39,7 +43,7 @@ pub fn run_script<S: Source, O: Sink, W: Write>(
     ensures memory { result ≡ 4 → Keeps (O.written writer.old) (O.written writer.new) }
     ensures quiet { result ≤ 1 → faults.new ≡ faults.old }
 {
-    match tell_script(alloc, disks, reader, writer) {
+    match tell_script(alloc, disks, tags, reader, writer) {
         Ok(status) => status,
         Err(fault) => fault.tell(faults),
     }
@@ -48,13 +52,16 @@ pub fn run_script<S: Source, O: Sink, W: Write>(
 fn tell_script<S: Source, O: Sink>(
     alloc: Global,
     disks: Disks,
+    tags: usize,
     reader: &mut S,
     writer: &mut O,
 ) -> Result<u8, RunFault>
-    requires { AreDisks disks }
+    requires disks { AreDisks disks }
+    requires number { AreTags tags }
+    requires streams { disks.clients * tags ≤ STREAMS }
     ensures status { IfOk result (λ status. status ≤ 1) }
     ensures told { IfOk result (λ status. IfSome (S.left reader.old) (λ bytes.
-        Tells (zeroed_units disks.clients disks.blocks disks.bad) (script disks.clients bytes)
+        Tells tags (zeroed_units disks.clients disks.blocks disks.bad) (script disks.clients bytes)
         (O.written writer.old) (O.written writer.new) status)) }
     ensures read { OnOk result (IsAtEnd (S.left reader.new)) }
     ensures there { OnOk result (IsTrue (S.is_there reader.old)) }
@@ -62,7 +69,7 @@ fn tell_script<S: Source, O: Sink>(
         (O.written writer.old) (O.written writer.new)) }
 {
     let lines = read_script(alloc, disks.clients, reader)?;
-    let (text, status) = told(alloc, disks.clients, disks.blocks, disks.bad, &lines).map_err(
+    let (text, status) = told(alloc, disks.clients, disks.blocks, disks.bad, tags, &lines).map_err(
         |_| RunFault::NoMemory,
     )?;
     writer.write(&text).map_err(output_fault)?;
@@ -76,7 +83,7 @@ pub fn read_script<S: Source>(
     reader: &mut S,
 ) -> Result<Vec<Line>, RunFault>
     requires some_clients { 1 ≤ clients }
-    requires most_clients { clients ≤ MAX_CLIENTS }
+    requires most_clients { clients ≤ USUAL_CLIENTS }
     ensures lines { IfOk result (λ lines. IfSome (S.left reader.old) (λ bytes. script clients bytes ≡ Ok lines.items)) }
     ensures read { OnOk result (IsAtEnd (S.left reader.new)) }
     ensures there { OnOk result (IsTrue (S.is_there reader.old)) }

@@ -10,7 +10,7 @@ use crate::{Line, LineFault, Request, RequestName, StepName};
 use byte_io::{is_number, number_in};
 use scsi_cmd::{Op, Task};
 use stream_array::Pipe;
-use uas_profile::{GREATEST_TAG, MAX_CLIENTS};
+use uas_profile::{GREATEST_TAG, USUAL_CLIENTS};
 
 /// The greatest tag.
 const MAX_TAG: u64 = GREATEST_TAG as u64;
@@ -31,7 +31,7 @@ fn number_at(words: &[&[u8]], place: usize, least: u64, most: u64) -> Option<u64
 
 /// The word at a place, as the number of one of so many clients.
 fn client_at(clients: usize, words: &[&[u8]], place: usize) -> Option<usize>
-    requires few { clients ≤ MAX_CLIENTS }
+    requires few { clients ≤ USUAL_CLIENTS }
     requires some { 0 < clients }
     ensures { result ≡ client_at clients (map (λ word. word.now) words.now) place }
 {
@@ -251,7 +251,7 @@ fn zeroed(client: usize, op: Op) -> Line
 
 /// What a line asks for whose first word is a number.
 fn submission(clients: usize, words: &[&[u8]]) -> Result<Line, LineFault>
-    requires few { clients ≤ MAX_CLIENTS }
+    requires few { clients ≤ USUAL_CLIENTS }
     requires some { 0 < clients }
     ensures { result ≡ submission clients (map (λ word. word.now) words.now) }
 {
@@ -266,7 +266,7 @@ fn submission(clients: usize, words: &[&[u8]]) -> Result<Line, LineFault>
 }
 
 fn submission_of(clients: usize, name: RequestName, words: &[&[u8]]) -> Option<Line>
-    requires few { clients ≤ MAX_CLIENTS }
+    requires few { clients ≤ USUAL_CLIENTS }
     requires some { 0 < clients }
     ensures { result ≡ submission_of clients name (map (λ word. word.now) words.now) }
 {
@@ -314,7 +314,7 @@ impl StepName {
 
 /// What a line asks for whose first word is a name.
 fn named_step(clients: usize, first: &[u8], words: &[&[u8]]) -> Result<Line, LineFault>
-    requires few { clients ≤ MAX_CLIENTS }
+    requires few { clients ≤ USUAL_CLIENTS }
     requires some { 0 < clients }
     ensures { result ≡ named_step clients (map (λ word. word.now) words.now) (step_named first.now) }
 {
@@ -326,7 +326,7 @@ fn named_step(clients: usize, first: &[u8], words: &[&[u8]]) -> Result<Line, Lin
 }
 
 fn step_of(clients: usize, name: StepName, words: &[&[u8]]) -> Option<Line>
-    requires few { clients ≤ MAX_CLIENTS }
+    requires few { clients ≤ USUAL_CLIENTS }
     requires some { 0 < clients }
     ensures { result ≡ step_of clients name (map (λ word. word.now) words.now) }
 {
@@ -344,7 +344,7 @@ fn step_of(clients: usize, name: StepName, words: &[&[u8]]) -> Option<Line>
 
 /// What the words of a line ask for: nothing where there are none.
 pub fn line_of_words(clients: usize, words: &[&[u8]]) -> Result<Option<Line>, LineFault>
-    requires few { clients ≤ MAX_CLIENTS }
+    requires few { clients ≤ USUAL_CLIENTS }
     requires some { 0 < clients }
     ensures { result ≡ line_of_words clients (map (λ word. word.now) words.now) }
 {

@@ -8,7 +8,7 @@
 //! names of operations and pipes, and knows no bus.
 #![tactic(auto)]
 
-ghost use Rattle.uas_profile.specs.declared.TheConstants.{MAX_CLIENTS};
+ghost use Rattle.uas_profile.specs.declared.TheConstants.{USUAL_CLIENTS};
 ghost use Rattle.std.specs.Prelude.{◌≡◌, ℕ, ◌+◌, ◌-◌, ◌<◌, ◌≤◌, [], ◌++◌, map, IfOk, OnOk, option_to_list, length};
 ghost use Rattle.uas_script.specs.Script.{script, line_of, lines_after, listed, is_ascii, is_comment};
 
@@ -115,7 +115,7 @@ pub fn parse_script(
     clients: usize,
     text: &[u8],
 ) -> Result<Result<Vec<Line>, ScriptFault>, AllocError>
-    requires few { clients ≤ MAX_CLIENTS }
+    requires few { clients ≤ USUAL_CLIENTS }
     requires some { 0 < clients }
     ensures { IfOk result (λ read. listed read ≡ script clients text.now) }
 {
@@ -132,7 +132,7 @@ fn lines_of(
     clients: usize,
     pieces: &[&[u8]],
 ) -> Result<Result<Vec<Line>, ScriptFault>, AllocError>
-    requires few { clients ≤ MAX_CLIENTS }
+    requires few { clients ≤ USUAL_CLIENTS }
     requires some { 0 < clients }
     ensures { IfOk result (λ read. listed read ≡ lines_after clients [] 1 (map (λ piece. piece.now) pieces.now)) }
 {
@@ -166,7 +166,7 @@ fn parse_line(
     clients: usize,
     line: &[u8],
 ) -> Result<Result<Option<Line>, LineFault>, AllocError>
-    requires few { clients ≤ MAX_CLIENTS }
+    requires few { clients ≤ USUAL_CLIENTS }
     requires some { 0 < clients }
     ensures { IfOk result (λ read. read ≡ line_of clients line.now) }
 {

@@ -10,9 +10,9 @@ use Rattle.uas_iu.specs.Faults.{first_fault, identifier}
 use Rattle.uas_target.specs.declared.Overlap.{Overlap}
 use Rattle.uas_target.specs.declared.Took.{Took}
 use Rattle.uas_target.specs.declared.Took.TheVariants.{Began}
-use Rattle.uas_target.specs.Device.{Device, Receive, Give, Take, Send, aborted_on, dropped, executed, managed, on_its_tag, queried_on, received, received_unit}
+use Rattle.uas_target.specs.Device.{Device, Receive, Give, Take, Send, aborted_on, dropped, executed, has_place, managed, on_its_tag, queried_on, received, received_unit}
 use Rattle.uas_target.specs.Device.{received_unreadable, reset_on, task_of, with_code, with_response, with_units_and_task}
-use Rattle.uas_target.specs.Fields.{addressed, is_tag, tag_in, lun_in, cdb_in, function_in, task_tag_in}
+use Rattle.uas_target.specs.Fields.{addressed, tag_in, lun_in, cdb_in, function_in, task_tag_in}
 use Rattle.uas_target.specs.Laws.{OtherTagsAreKept, OtherUnitsAreKept, TagsAreKept}
 use Rattle.uas_target.specs.Tasks.{is_command_of, spared}
 use Rattle.uas_target.proofs.Managed.{held_under-map, held_under-spared, spared-same}
@@ -35,7 +35,7 @@ either P false first second one two = two
 
 on_its_tag_so : (P : Device → Type 0) (device after : Device) (tag : ℕ) → P device → P after → P (on_its_tag device tag after).0
 on_its_tag_so P device after tag same so =
-    either P (not (is_tag tag)) (dropped device) (cond (is_some (task_of device tag)) (device, Err (record {})) (after, Ok (Began tag))) (λ is. same)
+    either P (not (has_place device tag)) (dropped device) (cond (is_some (task_of device tag)) (device, Err (record {})) (after, Ok (Began tag))) (λ is. same)
     (either P (is_some (task_of device tag)) (device, Err (record {})) (after, Ok (Began tag)) (λ is. same) so)
 
 -- received bytes leave the device, execute a command, do a task management function or answer 02h
@@ -50,7 +50,7 @@ received_so P device bytes same run told unreadable =
     let after = with_code tag (managed device (function_in bytes) (task_tag_in bytes) (lun_in bytes)) in
     either P (is_some (first_fault bytes)) (received_unreadable device bytes tag) (received_unit device bytes tag)
     (λ fault.
-    either P (nat_le 4 (length bytes) && is_tag tag && not (is_some (task_of device tag))) (with_response device tag 2, Ok (Began tag)) (dropped device)
+    either P (nat_le 4 (length bytes) && has_place device tag && not (is_some (task_of device tag))) (with_response device tag 2, Ok (Began tag)) (dropped device)
     (λ is. unreadable) same)
     (either P (identifier bytes == 1) (on_its_tag device tag commanded) (cond (identifier bytes == 5) (on_its_tag device tag after) (dropped device))
     (λ is. on_its_tag_so P device commanded tag same run)

@@ -132,7 +132,7 @@ all_spared_sound units after held number sound same =
     record {
       some_unit = kept.some_unit;
       most_units = kept.most_units;
-      places = length-map held (spared number) ∙ kept.places;
+      places = rw (length-map held (spared number)) kept.places;
       tasks = AllHeld-spared (IsSoundTask (counts_of after)) number held kept.tasks;
     }
 

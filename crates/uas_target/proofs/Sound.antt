@@ -1,9 +1,9 @@
 -- Tasks stay sound. Cited by the answers of the receiver, of the chunks and of every call of a target.
-use Rattle.std.proofs.Common.{◌≡◌, ℕ, zero, suc, ◌<◌, Bool, true, false, ◌&&◌, cond, List, [], ◌∷◌, ◌++◌, length, take, drop, length-set, Option}
+use Rattle.std.proofs.Common.{◌≡◌, ℕ, zero, suc, ◌<◌, Bool, true, false, ◌&&◌, cond, List, [], ◌∷◌, ◌++◌, length, take, drop, replicate, length-set, ◌≤◌, Option}
 use Rattle.std.proofs.Common.{Some, None, IfSome, Result, Ok, Err, refl, arith, ap, sym, ◌∙◌, subst}
 use Rattle.std.specs.Prelude.{◌==◌, slice_get, slice_index_or, IsOk}
 use Rattle.std.proofs.lemmas.Bool.{eqb-false}
-use Rattle.std.proofs.lemmas.List.{length-map}
+use Rattle.std.proofs.lemmas.List.{length-map, length-replicate}
 use Rattle.std.proofs.Math.Seq.{take-append_seam}
 use Rattle.std.proofs.lemmas.Option.{slice_get-get_or}
 use Rattle.block_unit.specs.BlockMaps.{BlockMaps, with_attention}
@@ -26,6 +26,7 @@ use Rattle.uas_target.specs.declared.DeviceTask.TheVariants.{Moving, Ended}
 use Rattle.uas_target.specs.Moved.{HasLeft, gone_on}
 use Rattle.uas_target.specs.Soundness.{IsSoundTask, IsSoundDevice, IsOn, counts_of}
 use Rattle.uas_target.specs.Tasks.{task_in, begun_by}
+use Rattle.uas_profile.specs.declared.TheConstants.{MAX_CLIENTS, STREAMS}
 use Rattle.uas_target.proofs.Counts.{slice_get-counts_of}
 
 -- what a tag has is sound
@@ -137,7 +138,7 @@ IsSoundDevice-step units after held tag now sound same so =
     record {
       some_unit = omega (arith, many, sound.some_unit);
       most_units = omega (arith, many, sound.most_units);
-      places = length-with_held held tag now ∙ sound.places;
+      places = rw (length-with_held held tag now) sound.places;
       tasks = AllHeld-with (IsSoundTask (counts_of after)) held tag now (rw same sound.tasks) so;
     }
 
@@ -164,3 +165,26 @@ pub held_left : (units : List BlockMaps) (held : List (Option DeviceTask)) (tag 
     held_under held tag ≡ Some task → HasLeft task
 held_left units held tag task sound is =
     sound-left (counts_of units) task (AllHeld-under (IsSoundTask (counts_of units)) held tag task sound.tasks is)
+
+-- NO TASK YET
+
+AllHeld-none : {T : Type 0} (P : T → Type 0) (many : ℕ) → AllHeld P (replicate many None)
+AllHeld-none P zero = tt
+AllHeld-none P (suc many) = (tt, AllHeld-none P many)
+
+-- a device of so many tags opens sound
+pub opening_sound : (units : List BlockMaps) (len tags : ℕ) → len ≡ length units → 1 ≤ len → len ≤ MAX_CLIENTS → tags ≤ STREAMS →
+    IsSoundDevice units (replicate tags None)
+opening_sound units len tags long some most few = record {
+  some_unit = rw (← long) some;
+  most_units = rw (← long) most;
+  places = rw (length-replicate {A = Option DeviceTask} tags None) few;
+  tasks = AllHeld-none (IsSoundTask (counts_of units)) tags;
+}
+
+-- and is sound again once it was reset
+pub reset_sound : (units after : List BlockMaps) (held : List (Option DeviceTask)) → IsSoundDevice units held → counts_of after ≡ counts_of units →
+    IsSoundDevice after (replicate (length held) None)
+reset_sound units after held sound same =
+    let kept : IsSoundDevice after held = IsSoundDevice-step units after held 0 None sound same tt in
+    opening_sound after (length after) (length held) refl kept.some_unit kept.most_units kept.places

@@ -1,5 +1,5 @@
 -- The device: the units and the tasks by tag, and what each call makes of them.
-use Rattle.std.specs.Prelude.{ℕ, nat_le, ◌==◌, Bool, true, false, not, ◌&&◌, if◌then◌else◌, List, [], ◌∷◌, length, map, slice_set, slice_index, replicate}
+use Rattle.std.specs.Prelude.{ℕ, nat_lt, nat_le, ◌==◌, Bool, true, false, not, ◌&&◌, if◌then◌else◌, List, [], ◌∷◌, length, map, slice_set, slice_index, replicate}
 use Rattle.std.specs.Prelude.{Option, None, Some, is_some, option_and_then, Result, Ok, Err}
 use Rattle.std.specs.Option.{option_map_or}
 use Rattle.block_unit.specs.BlockMaps.{BlockMaps, with_attention}
@@ -15,20 +15,23 @@ use Rattle.uas_target.specs.declared.DeviceTask.TheVariants.{Ended}
 use Rattle.uas_target.specs.declared.Overlap.{Overlap}
 use Rattle.uas_target.specs.declared.Phase.{Phase}
 use Rattle.uas_target.specs.declared.Phase.TheVariants.{Absent}
-use Rattle.uas_profile.specs.declared.TheConstants.{GREATEST_TAG}
 use Rattle.uas_target.specs.declared.Took.{Took}
 use Rattle.uas_target.specs.declared.Took.TheVariants.{Began, Dropped}
-use Rattle.uas_target.specs.Fields.{is_tag, tag_in, lun_in, cdb_in, function_in, task_tag_in, addressed}
+use Rattle.uas_target.specs.Fields.{tag_in, lun_in, cdb_in, function_in, task_tag_in, addressed}
 use Rattle.uas_target.specs.Tasks.{task_in, begun_by, is_command_of, spared, task_wants, task_given, task_fits, task_taken, task_left, task_answer}
 
--- the units by number, and the task of each tag, tag 1 first
+-- the units by number, and the task of each tag, tag 1 first: the device has as many tags as this list has places
 pub record Device : Type 0 where
   pub units : List BlockMaps
   pub tasks : List (Option DeviceTask)
 
--- no task yet
-abbrev pub opening : List BlockMaps → Device
-opening units = record { units = units; tasks = replicate GREATEST_TAG None }
+-- the tags that a task may have: 1 to as many as the device has places
+abbrev pub has_place : Device → ℕ → Bool
+has_place device tag = nat_lt 0 tag && nat_le tag (length device.tasks)
+
+-- so many tags, and no task yet
+abbrev pub opening : ℕ → List BlockMaps → Device
+opening tags units = record { units = units; tasks = replicate tags None }
 
 -- these are the units now, and a tag has this task, or none
 abbrev pub with_units_and_task : Device → ℕ → List BlockMaps × Option DeviceTask → Device
@@ -88,9 +91,9 @@ abbrev pub reset_on : Device → ℕ → Option BlockMaps → Device × ℕ
 reset_on device number None = (device, 9)
 reset_on device number (Some unit) = (with_unit (without_commands_of device number) number (with_attention unit true), 0)
 
--- a reset of the whole device: no tag has a task any more, and every unit has an attention
+-- a reset of the whole device: no tag has a task any more, there are as many as before, and every unit has an attention
 abbrev pub reset_device : Device → Device
-reset_device device = record { units = map (λ unit. with_attention unit true) device.units; tasks = replicate GREATEST_TAG None }
+reset_device device = record { units = map (λ unit. with_attention unit true) device.units; tasks = replicate (length device.tasks) None }
 
 -- the tag has a command's task of the unit of this number, whose status wasn't sent
 abbrev pub has_command : Device → ℕ → ℕ → Bool
@@ -126,14 +129,14 @@ dropped device = (device, Ok Dropped)
 -- a readable unit that begins a task: it is dropped where no task may have its tag, and refused where a task has it
 abbrev pub on_its_tag : Device → ℕ → Device → Device × Result Took Overlap
 on_its_tag device tag after =
-    if not (is_tag tag) then dropped device
+    if not (has_place device tag) then dropped device
     else (if is_some (task_of device tag) then (device, Err (record {})) else (after, Ok (Began tag)))
 
 -- bytes that are no unit: where at least four came, the tag among them is free and a task may have it, the answer is 02h,
 -- INVALID INFORMATION UNIT
 abbrev pub received_unreadable : Device → List ℕ → ℕ → Device × Result Took Overlap
 received_unreadable device bytes tag =
-    if nat_le 4 (length bytes) && is_tag tag && not (is_some (task_of device tag))
+    if nat_le 4 (length bytes) && has_place device tag && not (is_some (task_of device tag))
     then (with_response device tag 2, Ok (Began tag)) else dropped device
 
 -- a readable unit, by its identifier: Command is executed, a Task Management function is done and answered with its code, and

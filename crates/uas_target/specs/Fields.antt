@@ -1,12 +1,7 @@
 -- The fields that the device reads of a received unit (INCITS 471, information units), and the unit that a LUN addresses (SAM).
-use Rattle.std.specs.Prelude.{ℕ, ◌*◌, ◌+◌, ◌==◌, nat_lt, nat_le, Bool, not, ◌&&◌, if◌then◌else◌, List, [], ◌∷◌, take, drop, slice_index, slice_get, Option}
+use Rattle.std.specs.Prelude.{ℕ, ◌*◌, ◌+◌, ◌==◌, Bool, not, if◌then◌else◌, List, [], ◌∷◌, take, drop, slice_index, slice_get, Option}
 use Rattle.std.specs.Prelude.{None}
 use Rattle.std.specs.List.{list_any}
-use Rattle.uas_profile.specs.declared.TheConstants.{GREATEST_TAG}
-
--- the tags that a task may have: 1 to 240 (GREATEST_TAG)
-abbrev pub is_tag : ℕ → Bool
-is_tag tag = nat_lt 0 tag && nat_le tag GREATEST_TAG
 
 -- the tag, bytes 2 and 3, big endian
 abbrev pub tag_in : List ℕ → ℕ

@@ -10,7 +10,7 @@ use Rattle.uas_target.specs.declared.DeviceTask.{DeviceTask}
 use Rattle.uas_target.specs.declared.DeviceTask.TheVariants.{Moving, Ended}
 use Rattle.uas_target.specs.declared.Phase.{Phase}
 use Rattle.uas_target.specs.declared.Phase.TheVariants.{Absent, Gives, Takes, Ends}
-use Rattle.uas_profile.specs.declared.TheConstants.{GREATEST_TAG, MAX_CLIENTS, CHUNK_BYTES}
+use Rattle.uas_profile.specs.declared.TheConstants.{STREAMS, MAX_CLIENTS, CHUNK_BYTES}
 
 -- how many blocks each unit has
 abbrev pub counts_of : List BlockMaps → List ℕ
@@ -33,9 +33,9 @@ IsChunk (Gives size) = (0 < size) × (size ≤ CHUNK_BYTES)
 IsChunk (Takes size) = (0 < size) × (size ≤ CHUNK_BYTES)
 IsChunk Ends = Unit {0}
 
--- 1 to MAX_CLIENTS units, a place for each tag, and every task is sound
+-- 1 to MAX_CLIENTS units, a place for each of at most STREAMS tags, and every task is sound
 pub record IsSoundDevice (units : List BlockMaps) (held : List (Option DeviceTask)) : Type 0 where
   pub some_unit : 1 ≤ length units
   pub most_units : length units ≤ MAX_CLIENTS
-  pub places : length held ≡ GREATEST_TAG
+  pub places : length held ≤ STREAMS
   pub tasks : AllHeld (IsSoundTask (counts_of units)) held

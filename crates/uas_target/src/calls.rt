@@ -17,18 +17,30 @@ use device_server::{Answer, status_and_sense};
 use scsi_cmd::{CHECK_CONDITION, GOOD};
 use std::alloc::{AllocError, Global};
 use uas_iu::{Iu, LUN_BYTES, write, write_sense};
-use uas_profile::{MAX_CLIENTS, STATUS_BYTES};
+use uas_profile::{GREATEST_TAG, MAX_CLIENTS, STATUS_BYTES, STREAMS};
 
 impl Target {
-    /// A device of these logical units, 1 to 15 (`MAX_CLIENTS`), without a task. The error is want of memory.
+    /// A device of these logical units, 1 to 31 (`MAX_CLIENTS`), and of the tags 1 to 240 (`GREATEST_TAG`), without a task. The
+    /// error is want of memory.
     pub fn new(alloc: Global, units: Vec<Unit>) -> Result<Target, AllocError>
         requires some { 1 ≤ vec_len units }
         requires most { vec_len units ≤ MAX_CLIENTS }
-        ensures { IfOk result (λ target. target ≡ opening units.items) }
+        ensures { IfOk result (λ target. target ≡ opening GREATEST_TAG units.items) }
+    {
+        Target::with_tags(alloc, units, GREATEST_TAG)
+    }
+
+    /// A device of these logical units, 1 to 31 (`MAX_CLIENTS`), and of the tags from 1 to `tags`, at most 248 (`STREAMS`),
+    /// without a task. The error is want of memory.
+    pub fn with_tags(alloc: Global, units: Vec<Unit>, tags: u16) -> Result<Target, AllocError>
+        requires some { 1 ≤ vec_len units }
+        requires most { vec_len units ≤ MAX_CLIENTS }
+        requires tags { tags ≤ STREAMS }
+        ensures { IfOk result (λ target. target ≡ opening tags units.items) }
     {
         Ok(Target {
             units,
-            tasks: TaskTable::new(alloc)?,
+            tasks: TaskTable::new(alloc, tags)?,
         })
     }
 

@@ -28,7 +28,10 @@
 //! (`begins_as_asked`), each chunk goes as in `device_server`, and a call leaves the tasks of all tags but its own alone, but
 //! for task management, which leaves the commands to other units alone (`other_tags_are_kept`).
 //!
-//! [`Target::new`] takes all memory that the device ever has; no later call takes any. Finding a tag's task is one index; a
+//! How many tags a device has is a number of its own, which [`Target::with_tags`] is told and no call changes: a task may have
+//! the tags from 1 to that number, at most 248 (`STREAMS`). [`Target::new`] opens one of 240 (`GREATEST_TAG`).
+//!
+//! [`Target::new`] and [`Target::with_tags`] take all memory that the device ever has; no later call takes any. Finding a tag's task is one index; a
 //! reset alone goes over all tags. Beside each task the table keeps what its data is, worked out once as the task begins, so a
 //! chunk of a READ or a WRITE looks at no operation, and changes the task in its place.
 //!
@@ -53,7 +56,6 @@ pub use receiver::unit_number;
 use scsi_cmd::Op;
 use std::marker::Model;
 use table::TaskTable;
-pub use table::is_tag;
 use thiserror::Error;
 
 /// How a task ended.

@@ -17,11 +17,10 @@ use uas_iu::{
     ABORT_TASK, INCORRECT_LUN, LOGICAL_UNIT_RESET, LUN_BYTES, NOT_SUPPORTED, QUERY_TASK,
     TASK_COMPLETE, TASK_SUCCEEDED,
 };
-use uas_profile::GREATEST_TAG;
 
 impl Target {
-    /// Resets the whole device (SAM): no tag has a task any more, and each logical unit has a unit attention. Blocks and medium
-    /// stay.
+    /// Resets the whole device (SAM): no tag has a task any more, and each logical unit has a unit attention. Blocks, medium and
+    /// the number of tags stay.
     pub fn reset(&mut self)
         ensures { self.new ≡ reset_device self.old }
     {
@@ -121,10 +120,9 @@ impl TaskTable {
 
     /// So is that of every tag.
     fn end_commands(&mut self, number: usize)
-        requires { length self.old ≡ GREATEST_TAG }
         ensures { self.new ≡ map (spared number) self.old }
     {
-        for slot in 0..GREATEST_TAG {
+        for slot in 0..self.tags() {
             self.end_command(number, slot + 1);
         }
     }

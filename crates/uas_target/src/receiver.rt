@@ -5,13 +5,12 @@ ghost use Rattle.scsi_cmd.specs.Meaning.{asked, op_fault};
 ghost use Rattle.scsi_cmd.specs.Work.{IsWorkOn, asked_without_unit, work_asked, work_asked_without_unit};
 ghost use Rattle.device_server.specs.Server.{progress_asked};
 ghost use Rattle.uas_target.specs.Device.{Device, executed, managed, on_its_tag, received, received_unreadable, task_of, with_code, with_response};
-ghost use Rattle.uas_target.specs.Device.{with_units_and_task};
-ghost use Rattle.uas_target.specs.Fields.{addressed, is_tag, tag_in};
+ghost use Rattle.uas_target.specs.Device.{has_place, with_units_and_task};
+ghost use Rattle.uas_target.specs.Fields.{addressed, tag_in};
 ghost use Rattle.uas_target.specs.Soundness.{IsSoundTask, counts_of};
 ghost use Rattle.uas_target.specs.Tasks.{begun_by, task_in};
 
 use crate::chunks::task_in;
-use crate::table::is_tag;
 use crate::{DeviceAnswer, DeviceTask, Overlap, Target, Took};
 use block_unit::Unit;
 use device_server::{begin, progress_asked};
@@ -127,10 +126,10 @@ impl Target {
     /// What comes of a readable unit that begins a task on a tag where none can begin: it is dropped where no task may have
     /// the tag, and an overlap where a task has it.
     fn refusal(&self, tag: u16) -> Option<Result<Took, Overlap>>
-        ensures free { IfNone result ((is_tag tag ≡ true) × (task_of self.now tag ≡ None)) }
+        ensures free { IfNone result ((has_place self.now tag ≡ true) × (task_of self.now tag ≡ None)) }
         ensures refused { IfSome result (λ refused. (after : Device) → on_its_tag self.now tag after ≡ (self.now, refused)) }
     {
-        if !is_tag(tag) {
+        if !self.tasks.has_place(tag) {
             Some(Ok(Took::Dropped))
         } else if self.tasks.get(tag).is_some() {
             Some(Err(Overlap))
@@ -179,7 +178,7 @@ impl Target {
             return Took::Dropped;
         };
         let tag = u16::from_be_bytes([*high, *low]);
-        if !is_tag(tag) || self.tasks.get(tag).is_some() {
+        if !self.tasks.has_place(tag) || self.tasks.get(tag).is_some() {
             return Took::Dropped;
         }
         self.respond(tag, INVALID_INFORMATION_UNIT);
@@ -188,7 +187,7 @@ impl Target {
 
     /// The task of a free tag has ended with a response code.
     fn respond(&mut self, tag: u16, code: u8)
-        requires { is_tag tag ≡ true }
+        requires { has_place self.old tag ≡ true }
         ensures { self.new ≡ with_response self.old tag code }
     {
         let answer = DeviceAnswer::Response(code);

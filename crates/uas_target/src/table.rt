@@ -1,9 +1,8 @@
 //! The tasks by tag, each as it is kept (`Kept`), with what its data is.
-ghost use Rattle.std.specs.Prelude.{◌≡◌, ℕ, ◌<◌, ◌≤◌, true, false, None, Some, IfOk, IfSome, IfNone, IsSome, is_some, length, option_and_then, replicate};
+ghost use Rattle.std.specs.Prelude.{◌≡◌, ℕ, ◌<◌, ◌≤◌, nat_lt, nat_le, ◌&&◌, false, None, Some, IfOk, IfSome, IfNone, IsSome, is_some, length, option_and_then, replicate};
 ghost use Rattle.std.specs.Option.{option_copied, option_map_or, unwrap_or};
 ghost use Rattle.scsi_cmd.specs.Held.{held_under, with_held_under};
 ghost use Rattle.uas_target.specs.Device.{task_of};
-ghost use Rattle.uas_target.specs.Fields.{is_tag};
 ghost use Rattle.uas_target.specs.Soundness.{IsSoundTask, counts_of};
 ghost use Rattle.uas_target.specs.Tasks.{task_fits, task_given, task_left, task_taken, task_wants};
 
@@ -14,14 +13,15 @@ use block_unit::Unit;
 use marks::Marks;
 use std::alloc::{AllocError, Global};
 use std::marker::Model;
-use uas_profile::GREATEST_TAG;
+use uas_profile::STREAMS;
 
-/// Words of 64 marks, enough for a place of each tag.
+/// Words of 64 marks, enough for the places of as many tags as there are streams.
 const TAG_WORDS: usize = 4;
 
-const _: () = prove!(TAG_WORDS == 4 && (GREATEST_TAG as usize) <= 64 * TAG_WORDS);
+const _: () = prove!(TAG_WORDS == 4 && (STREAMS as usize) <= 64 * TAG_WORDS);
 
-/// A place for the task of each tag, which stands there as it is kept; contracts see the list of the tasks, tag 1 first.
+/// A place for the task of each tag, 1 to as many as there are places, which stands there as it is kept; contracts see the list
+/// of the tasks, tag 1 first.
 #[derive(Debug, Drop)]
 pub(crate) struct TaskTable {
     places: Vec<Option<Kept>>,
@@ -30,41 +30,49 @@ pub(crate) struct TaskTable {
 }
 
 impl Model for TaskTable {
-    ghost use Rattle.std.specs.Prelude.{◌≡◌, ℕ, List, Option, length};
+    ghost use Rattle.std.specs.Prelude.{◌≤◌, List, Option, length};
     ghost use Rattle.uas_target.specs.declared.DeviceTask.{DeviceTask};
-    ghost use Rattle.uas_profile.specs.declared.TheConstants.{GREATEST_TAG};
+    ghost use Rattle.uas_profile.specs.declared.TheConstants.{STREAMS};
     ghost use Rattle.uas_target.specs.Marks.{MarksHeld};
 
     ghost Value = { List (Option DeviceTask) };
 
     ghost view = { λ table. table.places.items };
 
-    ghost invariant = { λ table. (length table.places.items ≡ GREATEST_TAG) × MarksHeld table.marks table.places.items };
-}
-
-/// Whether a task may have this tag.
-pub fn is_tag(tag: u16) -> bool
-    ensures { result ≡ is_tag tag }
-{
-    tag != 0 && tag <= GREATEST_TAG
+    ghost invariant = { λ table. (length table.places.items ≤ STREAMS) × MarksHeld table.marks table.places.items };
 }
 
 impl TaskTable {
-    /// No task of any tag.
-    pub(crate) fn new(alloc: Global) -> Result<TaskTable, AllocError>
-        ensures tasks { IfOk result (λ table. table ≡ replicate GREATEST_TAG None) }
-        ensures places { IfOk result (λ table. length table ≡ GREATEST_TAG) }
+    /// No task of any of so many tags.
+    pub(crate) fn new(alloc: Global, tags: u16) -> Result<TaskTable, AllocError>
+        requires { tags ≤ STREAMS }
+        ensures tasks { IfOk result (λ table. table ≡ replicate tags None) }
+        ensures places { IfOk result (λ table. length table ≡ tags) }
     {
         Ok(TaskTable {
-            places: Vec::from_array(alloc, [None; GREATEST_TAG as usize])?,
+            places: vec![in alloc; None; usize::from(tags)]?,
             marks: Marks::new(),
         })
+    }
+
+    /// How many tags there are.
+    pub(crate) fn tags(&self) -> u16
+        ensures { result ≡ length self.now }
+    {
+        self.places.len() as u16
+    }
+
+    /// Whether a task may have this tag: 1 to as many as there are places.
+    pub(crate) fn has_place(&self, tag: u16) -> bool
+        ensures { result ≡ (nat_lt 0 tag && nat_le tag (length self.now)) }
+    {
+        tag != 0 && usize::from(tag) <= self.places.len()
     }
 
     /// The task of a tag.
     pub(crate) fn get(&self, tag: u16) -> Option<DeviceTask>
         ensures task { result ≡ held_under self.now tag }
-        ensures tag { IfSome result (λ _. is_tag tag ≡ true) }
+        ensures tag { IfSome result (λ _. (1 ≤ tag) × (tag ≤ length self.now)) }
     {
         match self.kept(tag) {
             Some(kept) => Some(kept.task),
@@ -76,7 +84,7 @@ impl TaskTable {
     #[inline(always)]
     pub(crate) fn kept(&self, tag: u16) -> Option<&Kept>
         ensures task { option_copied result ≡ held_under self.now tag }
-        ensures tag { IfSome result (λ _. is_tag tag ≡ true) }
+        ensures tag { IfSome result (λ _. (1 ≤ tag) × (tag ≤ length self.now)) }
     {
         if tag == 0 {
             return None;
@@ -89,7 +97,7 @@ impl TaskTable {
 
     /// The least tag above this one that has a task.
     fn next(&self, tag: u16) -> Option<u16>
-        ensures next { IfSome result (λ next. (tag < next) × (next ≤ GREATEST_TAG) × IsSome (held_under self.now next)
+        ensures next { IfSome result (λ next. (tag < next) × (next ≤ length self.now) × IsSome (held_under self.now next)
             × ((other : ℕ) → tag < other → other < next → held_under self.now other ≡ None)) }
         ensures none { IfNone result ((other : ℕ) → tag < other → held_under self.now other ≡ None) }
     {
@@ -97,9 +105,9 @@ impl TaskTable {
         Some(place as u16 + 1)
     }
 
-    /// No tag has a task any more.
+    /// No tag has a task any more, and there are as many as before.
     pub(crate) fn clear(&mut self)
-        ensures { self.new ≡ replicate GREATEST_TAG None }
+        ensures { self.new ≡ replicate (length self.old) None }
     {
         self.marks = Marks::new();
         self.places.fill(None);
@@ -108,7 +116,8 @@ impl TaskTable {
     /// Gives a tag a task.
     #[inline(always)]
     pub(crate) fn put(&mut self, tag: u16, task: DeviceTask)
-        requires { is_tag tag ≡ true }
+        requires least { 1 ≤ tag }
+        requires most { tag ≤ length self.old }
         ensures task { self.new ≡ with_held_under self.old tag (Some task) }
         ensures places { length self.new ≡ length self.old }
     {
@@ -120,7 +129,8 @@ impl TaskTable {
     /// Takes the task of a tag away.
     #[inline(always)]
     pub(crate) fn remove(&mut self, tag: u16)
-        requires { is_tag tag ≡ true }
+        requires least { 1 ≤ tag }
+        requires most { tag ≤ length self.old }
         ensures task { self.new ≡ with_held_under self.old tag None }
         ensures places { length self.new ≡ length self.old }
     {
@@ -132,7 +142,8 @@ impl TaskTable {
     /// Gives a tag a task, or takes it away.
     #[inline(always)]
     pub(crate) fn set(&mut self, tag: u16, task: Option<DeviceTask>)
-        requires { is_tag tag ≡ true }
+        requires least { 1 ≤ tag }
+        requires most { tag ≤ length self.old }
         ensures task { self.new ≡ with_held_under self.old tag task }
         ensures places { length self.new ≡ length self.old }
     {
@@ -173,7 +184,7 @@ impl TaskTable {
 impl Target {
     /// The least tag above this one that has a task.
     pub fn next_task(&self, tag: u16) -> Option<u16>
-        ensures next { IfSome result (λ next. (tag < next) × (next ≤ GREATEST_TAG) × IsSome (task_of self.now next)
+        ensures next { IfSome result (λ next. (tag < next) × (next ≤ length self.now.tasks) × IsSome (task_of self.now next)
             × ((other : ℕ) → tag < other → other < next → task_of self.now other ≡ None)) }
         ensures none { IfNone result ((other : ℕ) → tag < other → task_of self.now other ≡ None) }
     {

@@ -6,7 +6,7 @@ use Rattle.std.specs.List.{list_any}
 use Rattle.std.proofs.lemmas.Bool.Decides.{nat_tests}
 use Rattle.std.proofs.lemmas.Option.{slice_get-get_or}
 use Rattle.host_commands.specs.declared.CommandSet.{CommandSet}
-use Rattle.uas_target.specs.Fields.{addressed, is_tag}
+use Rattle.uas_target.specs.Fields.{addressed}
 use Rattle.uas_profile.specs.declared.TheConstants.{GREATEST_TAG}
 use Rattle.uas_tasks.specs.declared.LogicalUnit.{LogicalUnit}
 use Rattle.host_commands.specs.declared.UnitAttention.{UnitAttention}
@@ -16,7 +16,7 @@ use Rattle.uas_tasks.specs.declared.Task.TheVariants.{Held}
 use Rattle.uas_tasks.specs.declared.Wants.TheVariants.{Asks}
 use Rattle.uas_tasks.specs.Machine.{Machine, aborted_on, attentive, begun, completed, executed_on, greatest_block, has_stale, has_task, made, managed, next_asked, next_by, no_slot}
 use Rattle.uas_tasks.specs.Machine.{queried_on, reset_on, responded, slot_of, slot_under, with_slot_under, without_command}
-use Rattle.uas_tasks.specs.Slots.{SlotState, asked_slot, fresh_slot, has_command, spared, spared_slot}
+use Rattle.uas_tasks.specs.Slots.{SlotState, asked_slot, fresh_slot, has_command, is_tag, spared, spared_slot}
 use Rattle.uas_tasks.specs.Soundness.{IsAnswer, IsSoundMachine, IsWithin}
 use Rattle.uas_tasks.proofs.Counts.{Keeps}
 use Rattle.uas_tasks.proofs.Keeping.{free_still, waits}

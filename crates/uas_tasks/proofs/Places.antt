@@ -12,7 +12,7 @@ use Rattle.std.proofs.Math.Seq.{map-set_same, take-append_seam}
 use Rattle.host_commands.specs.declared.BlockLength.{BlockLength}
 use Rattle.host_commands.specs.declared.BlockLength.TheVariants.{Bytes512, Bytes4096}
 use Rattle.host_commands.specs.Shapes.{block_bytes}
-use Rattle.uas_profile.specs.declared.TheConstants.{GREATEST_TAG, MAX_CLIENTS}
+use Rattle.uas_profile.specs.declared.TheConstants.{GREATEST_TAG, MAX_UNITS}
 use Rattle.uas_tasks.specs.declared.LogicalUnit.{LogicalUnit}
 use Rattle.uas_tasks.specs.declared.slot.Out.{Out}
 use Rattle.uas_tasks.specs.Machine.{attentive, greatest_block, is_long, is_long_block, no_slot, number_of, out_on, powered, slot_under, stale_from, with_slot_under}
@@ -227,7 +227,7 @@ fresh_counted many count chunk room number =
     zeros (suc many) (suc number) = zeros many number
 
 -- fresh slots have room for a chunk of each logical unit
-pub opening_sound : (units : List LogicalUnit) (chunk room : ℕ) → length units ≤ MAX_CLIENTS → room ≡ chunk * greatest_block units →
+pub opening_sound : (units : List LogicalUnit) (chunk room : ℕ) → length units ≤ MAX_UNITS → room ≡ chunk * greatest_block units →
     IsSoundMachine units (replicate (length units) 0) (replicate GREATEST_TAG (fresh_slot chunk room))
 opening_sound units chunk room most is =
     let P : SlotState → Type 0 = HasRoom (lengths_of units) in

@@ -21,7 +21,7 @@ use Rattle.uas_target.specs.declared.DeviceAnswer.TheVariants.{Response}
 use Rattle.uas_target.specs.declared.Overlap.{Overlap}
 use Rattle.uas_target.specs.declared.Took.{Took}
 use Rattle.uas_target.specs.declared.Took.TheVariants.{Began, Dropped}
-use Rattle.uas_target.specs.Fields.{is_tag, tag_in, lun_in, cdb_in, function_in, task_tag_in, addressed}
+use Rattle.uas_target.specs.Fields.{tag_in, lun_in, cdb_in, function_in, task_tag_in, addressed}
 use Rattle.uas_profile.specs.declared.TheConstants.{GREATEST_TAG}
 use Rattle.uas_tasks.specs.declared.AnswerFault.{AnswerFault}
 use Rattle.uas_tasks.specs.declared.AnswerFault.TheVariants.{NotOut, WrongLength}
@@ -35,7 +35,7 @@ use Rattle.uas_tasks.specs.declared.Task.TheVariants.{Ended, Held}
 use Rattle.uas_tasks.specs.declared.Wants.{Wants}
 use Rattle.uas_tasks.specs.declared.Wants.TheVariants.{Absent, Asks, Waits, Gives, Takes, Ends}
 use Rattle.uas_tasks.specs.declared.slot.Out.{Out}
-use Rattle.uas_tasks.specs.Slots.{SlotState, answered_slot, asked_slot, fresh_slot, gave_slot, has_command, is_wrong_length, next_bytes, slot_wants}
+use Rattle.uas_tasks.specs.Slots.{SlotState, answered_slot, asked_slot, fresh_slot, gave_slot, has_command, is_tag, is_wrong_length, next_bytes, slot_wants}
 use Rattle.uas_tasks.specs.Slots.{spared_slot, started, started_none, task_answer, took_slot, with_task}
 use Rattle.uas_tasks.specs.Stale.{held_by, is_stale, stale_unit}
 

@@ -1,5 +1,5 @@
 -- What the device has for one tag, and what each call makes of it.
-use Rattle.std.specs.Prelude.{ℕ, ◌+◌, ◌-◌, ◌*◌, ◌%◌, ◌^◌, ◌==◌, nat_lt, min, Bool, true, false, not, ◌&&◌, if◌then◌else◌, List, [], length, take, drop, replicate}
+use Rattle.std.specs.Prelude.{ℕ, ◌+◌, ◌-◌, ◌*◌, ◌%◌, ◌^◌, ◌==◌, nat_lt, nat_le, min, Bool, true, false, not, ◌&&◌, if◌then◌else◌, List, [], length, take, drop, replicate}
 use Rattle.std.specs.Prelude.{Option, Some, None, is_some, option_map, option_and_then, Result, Ok, Err}
 use Rattle.std.specs.Option.{option_map_or}
 use Rattle.scsi_cmd.specs.Buffers.{with_bytes_at}
@@ -13,6 +13,7 @@ use Rattle.host_commands.specs.declared.Work.TheVariants.{Verifies as VerifiesWo
 use Rattle.host_commands.specs.Data.{given_bytes}
 use Rattle.host_commands.specs.Shapes.{Shape, block_bytes}
 use Rattle.uas_iu.specs.declared.Iu.{Iu}
+use Rattle.uas_profile.specs.declared.TheConstants.{GREATEST_TAG}
 use Rattle.uas_target.specs.declared.DeviceAnswer.TheVariants.{Status, Response}
 use Rattle.uas_target.specs.Tasks.{answer_unit, is_at}
 use Rattle.uas_tasks.specs.declared.Job.{Job}
@@ -29,6 +30,10 @@ use Rattle.uas_tasks.specs.declared.Task.TheVariants.{Giving, Blocks, Ended, Hel
 use Rattle.uas_tasks.specs.declared.Wants.{Wants}
 use Rattle.uas_tasks.specs.declared.Wants.TheVariants.{Absent, Asks, Waits, Gives, Takes, Ends}
 use Rattle.uas_tasks.specs.declared.slot.Out.{Out}
+
+-- the tags that a task may have: 1 to 240 (GREATEST_TAG)
+abbrev pub is_tag : ℕ → Bool
+is_tag tag = nat_lt 0 tag && nat_le tag GREATEST_TAG
 
 -- the most blocks of a chunk, the task, how many requests of the tag were asked, the one that is out, the data of the device that
 -- the task gives, and the chunk buffer

@@ -6,7 +6,7 @@ use Rattle.host_commands.specs.declared.Work.TheVariants.{Nothing, Gives as Give
 use Rattle.host_commands.specs.declared.Work.TheVariants.{Verifies as VerifiesWork, Compares as ComparesWork}
 use Rattle.host_commands.specs.Data.{IsOfDevice}
 use Rattle.host_commands.specs.Shapes.{block_bytes}
-use Rattle.uas_profile.specs.declared.TheConstants.{GREATEST_TAG, MAX_CLIENTS}
+use Rattle.uas_profile.specs.declared.TheConstants.{GREATEST_TAG, MAX_UNITS}
 use Rattle.uas_tasks.specs.declared.Job.{Job}
 use Rattle.uas_tasks.specs.declared.LogicalUnit.{LogicalUnit}
 use Rattle.uas_tasks.specs.declared.Stage.{Stage}
@@ -129,9 +129,9 @@ abbrev pub counted_down : List ℕ → Option ℕ → List ℕ
 counted_down stale None = stale
 counted_down stale (Some unit) = slice_set stale unit (slice_index_or stale unit 0 - 1)
 
--- at most MAX_CLIENTS logical units, a slot for each tag, and the count of stale requests of each logical unit
+-- at most MAX_UNITS logical units, a slot for each tag, and the count of stale requests of each logical unit
 pub record IsSoundMachine (units : List LogicalUnit) (stale : List ℕ) (slots : List SlotState) : Type 0 where
-  pub most_units : length units ≤ MAX_CLIENTS
+  pub most_units : length units ≤ MAX_UNITS
   pub places : length slots ≡ GREATEST_TAG
   pub rooms : All (HasRoom (lengths_of units)) slots
   pub many : length stale ≡ length units

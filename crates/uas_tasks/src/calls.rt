@@ -2,7 +2,7 @@
 ghost use Rattle.std.specs.Prelude.{◌≡◌, ◌*◌, ◌≤◌, IfOk, MatchOption, Some, false, length, map, replicate};
 ghost use Rattle.std.specs.List.{list_any};
 ghost use Rattle.std.specs.Option.{option_copied};
-ghost use Rattle.uas_profile.specs.declared.TheConstants.{GREATEST_TAG, MAX_CLIENTS};
+ghost use Rattle.uas_profile.specs.declared.TheConstants.{GREATEST_TAG, MAX_UNITS};
 ghost use Rattle.uas_tasks.specs.Machine.{answered, attention_on, bytes_out, gave, given, greatest_block, is_long, next_asked, next_by, next_of, no_slot, opening};
 ghost use Rattle.uas_tasks.specs.Machine.{out_of_number, quiet, request_out, slot_of, slot_under, took, wanted, with_slot, without_task};
 ghost use Rattle.uas_tasks.specs.Slots.{answered_slot, fresh_slot, is_wrong_length};
@@ -19,7 +19,7 @@ use uas_profile::GREATEST_TAG;
 pub(crate) const TAG_PLACES: u64 = 256;
 
 impl Tasks {
-    /// A device of these logical units, at most 15 (`MAX_CLIENTS`), without a task, that knows the commands of a set and moves
+    /// A device of these logical units, at most 15 (`MAX_UNITS`), without a task, that knows the commands of a set and moves
     /// chunks of at most so many blocks, 1 to 128. The error is want of memory: each tag has a buffer of one chunk.
     pub fn new(
         alloc: Global,
@@ -27,7 +27,7 @@ impl Tasks {
         set: CommandSet,
         chunk: u16,
     ) -> Result<Tasks, AllocError>
-        requires units { length shapes.now ≤ MAX_CLIENTS }
+        requires units { length shapes.now ≤ MAX_UNITS }
         requires some { 1 ≤ chunk }
         requires most { chunk ≤ 128 }
         ensures { IfOk result (λ tasks. tasks ≡ opening (map quiet shapes.now) set chunk (chunk * greatest_block (map quiet shapes.now))) }

@@ -1,7 +1,8 @@
 //! What comes of received bytes.
 ghost use Rattle.std.specs.Prelude.{◌≡◌, ℕ, ◌<◌, true, false, None, Ok, IfNone, IfSome, length, slice_get};
-ghost use Rattle.uas_target.specs.Fields.{is_tag, tag_in};
+ghost use Rattle.uas_target.specs.Fields.{tag_in};
 ghost use Rattle.uas_tasks.specs.Machine.{Machine, executed, executed_on, has_task, managed, on_its_tag, received, received_unreadable, with_answer, with_task_on};
+ghost use Rattle.uas_tasks.specs.Slots.{is_tag};
 ghost use Rattle.uas_tasks.specs.Soundness.{IsAnswer};
 
 use crate::management::responded;
@@ -9,7 +10,15 @@ use crate::starts::begin;
 use crate::{LogicalUnit, Overlap, Task, Tasks, Took};
 use host_commands::read_without_logical_unit;
 use uas_iu::{CDB_BYTES, INVALID_INFORMATION_UNIT, Iu, LUN_BYTES, read};
-use uas_target::{is_tag, unit_number};
+use uas_profile::GREATEST_TAG;
+use uas_target::unit_number;
+
+/// Whether a task may have this tag.
+fn is_tag(tag: u16) -> bool
+    ensures { result ≡ is_tag tag }
+{
+    tag != 0 && tag <= GREATEST_TAG
+}
 
 impl Tasks {
     /// Receives the bytes of an information unit (INCITS 471): `Began` where a task began on its tag, which may have ended at

@@ -1,7 +1,7 @@
 //! How a command begins: its unit attention, and what it asks.
 ghost use Rattle.std.specs.Prelude.{◌≡◌, ◌+◌, ◌*◌, ◌≤◌, IfOk, None, Some, length};
 ghost use Rattle.host_commands.specs.Shapes.{block_bytes};
-ghost use Rattle.uas_profile.specs.declared.TheConstants.{MAX_CLIENTS};
+ghost use Rattle.uas_profile.specs.declared.TheConstants.{MAX_UNITS};
 ghost use Rattle.uas_tasks.specs.Machine.{begun, kept_attention};
 ghost use Rattle.uas_tasks.specs.Slots.{blocks_synchronized, job_task, started, started_none, started_work, with_task};
 ghost use Rattle.uas_tasks.specs.Soundness.{StartsOn};
@@ -14,7 +14,7 @@ use host_commands::{
 };
 use scsi_cmd::Sense;
 use uas_iu::CDB_BYTES;
-use uas_profile::MAX_CLIENTS;
+use uas_profile::MAX_UNITS;
 
 /// A logical unit begins what a CDB asks of it, on the slot of a tag: the unit attention that it has then (SAM). An attention
 /// comes before a fault, ends a command that reports it and is then gone; REQUEST SENSE gives it, and it is gone then too.
@@ -27,7 +27,7 @@ pub(crate) fn begin(
     count: u8,
     cdb: &[u8; CDB_BYTES],
 ) -> Option<UnitAttention>
-    requires most { count ≤ MAX_CLIENTS }
+    requires most { count ≤ MAX_UNITS }
     requires room { slot.old.chunk * block_bytes unit.now.shape.block_length ≤ length slot.old.bytes }
     ensures begun { (result, slot.new) ≡ begun unit.now number set.now count cdb.now slot.old }
     ensures chunk { slot.new.chunk ≡ slot.old.chunk }

@@ -1,7 +1,7 @@
 -- What a CDB asks of a logical unit as C has it, and the data that it is given.
 use Rattle.std.specs.Prelude.{ℕ, ◌%◌, ◌==◌, nat_lt, not, ◌||◌, if◌then◌else◌, List, length, drop, ◌++◌, Option, None, Some, Result, Ok, Err}
 use Rattle.c_common.specs.Bytes.{yes}
-use Rattle.c_faults.specs.declared.TheConstants.{BLOCKS, CDB_CHECK, TASKS_BLOCK_BYTES, TASKS_LENGTH, TASKS_SERIAL, TASKS_SET, UNITS}
+use Rattle.c_common.specs.declared.faults.TheConstants.{BLOCKS, CDB_CHECK, TASKS_BLOCK_BYTES, TASKS_LENGTH, TASKS_SERIAL, TASKS_SET, UNITS}
 use Rattle.c_tasks.specs.declared.UasTasksUnit.{UasTasksUnit}
 use Rattle.c_tasks.specs.Making.{has_block_bytes, has_blocks, has_serial, is_set, set_of, shape_of}
 use Rattle.host_commands.specs.Data.{IsOfDevice, given_bytes}
@@ -14,7 +14,7 @@ use Rattle.host_commands.specs.declared.UnitAttention.TheVariants.{PowerOn, Rese
 use Rattle.host_commands.specs.declared.Work.{Work}
 use Rattle.host_commands.specs.declared.Work.TheVariants.{Nothing, Gives, Reads, Writes, Synchronizes, Verifies, Compares}
 use Rattle.scsi_cmd.specs.declared.Sense.{Sense}
-use Rattle.uas_profile.specs.declared.TheConstants.{MAX_CLIENTS}
+use Rattle.uas_profile.specs.declared.TheConstants.{MAX_UNITS}
 use Rattle.uas_tasks_c.specs.declared.cdb.Asked.{Asked}
 use Rattle.uas_tasks_c.specs.declared.cdb.Asked.TheVariants.{Fault, Refused, Does}
 use Rattle.uas_tasks_c.specs.declared.cdb.UasTasksSense.{UasTasksSense}
@@ -51,7 +51,7 @@ of_one cdb target (Ok shape) (Ok set) = is_told (asked_of cdb set shape target.u
 -- what a CDB asks of a logical unit that is there, or of one that isn't
 abbrev pub asked_of_target : List ℕ → UasTasksTarget → Asked
 asked_of_target cdb target =
-    if target.units == 0 || nat_lt MAX_CLIENTS target.units then Fault UNITS
+    if target.units == 0 || nat_lt MAX_UNITS target.units then Fault UNITS
     else (if target.there == 0 then of_none cdb target (set_asked target)
     else of_one cdb target (unit_asked target.unit) (set_asked target))
 

@@ -5,7 +5,7 @@ ghost use Rattle.host_commands.specs.declared.Data.{Data};
 ghost use Rattle.uas_tasks_c.specs.Cdb.{IsGiven, asked_of_target, attention_of, given_told, is_told, parsed, set_asked, unit_asked, work_record};
 
 use arrayvec::ArrayVec;
-use c_faults::{
+use c_common::faults::{
     BLOCKS, CDB_CHECK, TASKS_BLOCK_BYTES, TASKS_LENGTH, TASKS_SERIAL, TASKS_SET, UNITS,
 };
 use c_tasks::UasTasksUnit;
@@ -14,7 +14,7 @@ use host_commands::{
     Work, read, read_without_logical_unit, write_data,
 };
 use scsi_cmd::Sense;
-use uas_profile::MAX_CLIENTS;
+use uas_profile::MAX_UNITS;
 
 /// A logical unit of which a CDB asks, and its device.
 #[repr(C)]
@@ -154,7 +154,7 @@ fn ask(cdb: &[u8; 16], target: &UasTasksTarget) -> Asked
     ensures asked { result ≡ asked_of_target cdb.now target.now }
     ensures given { IsGiven result }
 {
-    if target.units == 0 || target.units as usize > MAX_CLIENTS {
+    if target.units == 0 || target.units as usize > MAX_UNITS {
         return Asked::Fault(UNITS);
     }
     if target.there == 0 {

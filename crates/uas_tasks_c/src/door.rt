@@ -3,8 +3,8 @@ ghost use Rattle.std.specs.Prelude.{◌≡◌};
 ghost use Rattle.uas_tasks_c.specs.TasksCall.{after_answer, after_call, after_data, after_give, after_next, after_receive, after_sent, after_stale, after_status};
 ghost use Rattle.uas_tasks_c.specs.TasksCall.{after_take, answer_told, call_numbered, outcome_numbered, with_next, with_request, with_took};
 
+use c_common::faults::{TASKS_CALL, TASKS_LENGTH, TASKS_NOT_OUT, TASKS_OVERLAP, TASKS_PHASE};
 use c_common::put_unit;
-use c_faults::{TASKS_CALL, TASKS_LENGTH, TASKS_NOT_OUT, TASKS_OVERLAP, TASKS_PHASE};
 use std::marker::Model;
 use uas_tasks::{AnswerFault, Next, Outcome, Request, Tasks, Took, Wants};
 

@@ -6,8 +6,8 @@ ghost use Rattle.c_tasks.specs.Making.{made_tasks, making_fault, tells};
 ghost use Rattle.uas_tasks_c.specs.contracts.door.KeptTasks.{the_row as tasks_row};
 
 use crate::door::KeptTasks;
+use c_common::faults::NO_MEMORY;
 use c_common::hand_out_made;
-use c_faults::NO_MEMORY;
 use c_tasks::{UasTasksUnit, make_tasks, making_fault};
 use std::alloc::Global;
 

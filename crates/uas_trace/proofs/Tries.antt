@@ -7,9 +7,9 @@ use Rattle.std.proofs.lemmas.Bool.{eq-eqb, ne_eqb}
 use Rattle.uas_profile.specs.declared.Pipe.TheVariants.{Status, DataIn, DataOut}
 use Rattle.shared_machine.specs.declared.Step.{Step}
 use Rattle.shared_machine.specs.declared.Step.TheVariants.{CommandPipe, Data, Status as StatusStep, Engine, Event, Retire}
-use Rattle.shared_machine.specs.Shared.{Shared, due}
+use Rattle.shared_machine.specs.Shared.{Shared, due, greatest_tag}
 use Rattle.shared_machine.specs.Drain.{all_tags, round, tried, tried_one}
-use Rattle.shared_machine.proofs.Drains.{tried-parts}
+use Rattle.shared_machine.proofs.Drains.{tried-greatest}
 use Rattle.shared_machine.proofs.Rounds.{tried-append, tried-skip}
 use Rattle.uas_replay.specs.Walks.{Moment, tries as tries_step}
 use Rattle.uas_replay.specs.Told.{is_due}
@@ -121,10 +121,10 @@ moments-off kind now count all at is within quiet =
 record Reached (now at : Shared × ℕ) (steps : List Step) (moments : List Moment) : Type 0 where
   pub state : at ≡ tried now steps
   pub are : moments ≡ tried_moments now steps
-  pub parts : length at.0.parts ≡ length now.0.parts
+  pub greatest : greatest_tag at.0 ≡ greatest_tag now.0
 
 reached-nothing : (now : Shared × ℕ) → Reached now now [] []
-reached-nothing now = record { state = refl; are = refl; parts = refl }
+reached-nothing now = record { state = refl; are = refl; greatest = refl }
 
 -- one more part
 reached-on : (now at after : Shared × ℕ) (steps more : List Step) (moments : List Moment) → Reached now at steps moments → after ≡ tried at more
@@ -135,7 +135,7 @@ reached-on now at after steps more moments reached is = record {
       ap (λ (m : List Moment). m ++ tried_moments at more) reached.are
       ∙ ap (λ (s : Shared × ℕ). tried_moments now steps ++ tried_moments s more) reached.state
       ∙ sym (tried_moments-append now steps more);
-  parts = ap (λ (s : Shared × ℕ). length s.0.parts) is ∙ tried-parts at more ∙ reached.parts;
+  greatest = ap (λ (s : Shared × ℕ). greatest_tag s.0) is ∙ tried-greatest at more ∙ reached.greatest;
 }
 
 reached-step : (now at after : Shared × ℕ) (steps : List Step) (step : Step) (moments : List Moment) → Reached now at steps moments
@@ -145,20 +145,20 @@ reached-step now at after steps step moments reached is =
     (reached-on now at after steps (step ∷ []) moments reached is)
 
 reached-tags : (now at after : Shared × ℕ) (steps : List Step) (kind : ℕ → Step) (moments : List Moment) → Reached now at steps moments
-    → after ≡ tried at (map kind (all_tags (length at.0.parts)))
-    → Reached now after (steps ++ map kind (all_tags (length now.0.parts))) (moments ++ tried_moments at (map kind (all_tags (length at.0.parts))))
+    → after ≡ tried at (map kind (all_tags (greatest_tag at.0)))
+    → Reached now after (steps ++ map kind (all_tags (greatest_tag now.0))) (moments ++ tried_moments at (map kind (all_tags (greatest_tag at.0))))
 reached-tags now at after steps kind moments reached is =
-    subst (λ (n : ℕ). Reached now after (steps ++ map kind (all_tags n)) (moments ++ tried_moments at (map kind (all_tags (length at.0.parts)))))
-    reached.parts (reached-on now at after steps (map kind (all_tags (length at.0.parts))) moments reached is)
+    subst (λ (n : ℕ). Reached now after (steps ++ map kind (all_tags n)) (moments ++ tried_moments at (map kind (all_tags (greatest_tag at.0)))))
+    reached.greatest (reached-on now at after steps (map kind (all_tags (greatest_tag at.0))) moments reached is)
 
 abbrev tag_moments : Shared × ℕ → (ℕ → Step) → List Moment
-tag_moments now kind = tried_moments now (map kind (all_tags (length now.0.parts)))
+tag_moments now kind = tried_moments now (map kind (all_tags (greatest_tag now.0)))
 
 -- a round's moments by its eight parts, each of which knows its own number of tags
 pub round_moments-by : (now one two three four five six seven : Shared × ℕ) →
     one ≡ tried_one now CommandPipe → two ≡ tried_one one Engine → three ≡ tried_one two Event
-    → four ≡ tried three (map Data (all_tags (length three.0.parts))) → five ≡ tried four (map StatusStep (all_tags (length four.0.parts)))
-    → six ≡ tried five (map (Retire Status) (all_tags (length five.0.parts))) → seven ≡ tried six (map (Retire DataIn) (all_tags (length six.0.parts)))
+    → four ≡ tried three (map Data (all_tags (greatest_tag three.0))) → five ≡ tried four (map StatusStep (all_tags (greatest_tag four.0)))
+    → six ≡ tried five (map (Retire Status) (all_tags (greatest_tag five.0))) → seven ≡ tried six (map (Retire DataIn) (all_tags (greatest_tag six.0)))
     → try_moments now CommandPipe ++ try_moments one Engine ++ try_moments two Event ++ tag_moments three Data ++ tag_moments four StatusStep
     ++ tag_moments five (Retire Status) ++ tag_moments six (Retire DataIn) ++ tag_moments seven (Retire DataOut)
     ≡ round_moments now

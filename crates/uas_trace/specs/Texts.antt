@@ -2,6 +2,7 @@
 use Rattle.std.specs.Prelude.{◌≡◌, ℕ, List, Option, IsSome, Result, Ok, Err}
 use Rattle.std.specs.Io.KnownBytes.{Appends}
 use Rattle.block_unit.specs.BlockMaps.{BlockMaps}
+use Rattle.uas_profile.specs.declared.TheConstants.{TAGS}
 use Rattle.shared_machine.specs.declared.Step.{Step}
 use Rattle.shared_machine.specs.declared.Outcome.{Outcome}
 use Rattle.bus_core.specs.World.{World}
@@ -24,14 +25,14 @@ step_text world step =
     with_writes (step_line step) (seen_before world.lines step) after.lines after.frames (outcome_in world step)
 
 -- The whole text of a run of lines on these units, over new rings: the script's moments in their order, each step by its text and
--- behind it what the run told by it. It is a function of the units and the lines.
+-- behind it what the run told by it. It is a function of the units and the lines, with TAGS tags of each client.
 unfoldable pub traced_text : List BlockMaps → List Line → List ℕ
-traced_text units lines = shown_along step_text (opening_walk units) (moments_of units lines)
+traced_text units lines = shown_along step_text (opening_walk TAGS units) (moments_of TAGS units lines)
 
 -- All that a run of lines prints is that text, and the moments that it shows have told what the lines tell.
 pub record TracesAll (units : List BlockMaps) (lines : List Line) (old new : Option (List ℕ)) : Type 0 where
   pub added : Appends old new (traced_text units lines)
-  pub told : IsSome old → (walked (opening_walk units) (moments_of units lines)).telling ≡ whole_run units lines
+  pub told : IsSome old → (walked (opening_walk TAGS units) (moments_of TAGS units lines)).telling ≡ whole_run TAGS units lines
 
 abbrev pub TracesScript : List BlockMaps → Result (List Line) ScriptFault → Option (List ℕ) → Option (List ℕ) → Type 0
 TracesScript units (Ok lines) old new = TracesAll units lines old new

@@ -10,6 +10,7 @@ use Rattle.scsi_cmd.specs.declared.Op.TheVariants.{TestUnitReady, Inquiry, ReadC
 use Rattle.scsi_cmd.specs.declared.Task.{Task}
 use Rattle.scsi_cmd.specs.declared.Task.TheVariants.{Abort, Reset, Query}
 use Rattle.uas_profile.specs.declared.Pipe.{Pipe}
+use Rattle.uas_profile.specs.declared.TheConstants.{TAGS}
 use Rattle.uas_profile.specs.Pipes.{number_of}
 use Rattle.shared_machine.specs.Shared.{Shared, due}
 use Rattle.shared_machine.specs.declared.Step.{Step}
@@ -108,7 +109,7 @@ AreNotDue machine kind tag next = (other : ℕ) → tag < other → other < next
 
 -- A run of a script that was traced: the exit status is that of the lines' own run.
 abbrev pub Traces : List BlockMaps → Result (List Line) ScriptFault → ℕ → Type 0
-Traces units (Ok lines) status = status ≡ (told units lines).1
+Traces units (Ok lines) status = status ≡ (told TAGS units lines).1
 Traces units (Err fault) status = ⊥
 
 -- A run of a script that is traced and gives up: nothing was printed at a fault of the script or of its reader.

@@ -27,7 +27,7 @@ use Rattle.xhci_ctl.specs.Doorbells.{pipe_at}
 use Rattle.shared_machine.specs.declared.Step.{Step}
 use Rattle.shared_machine.specs.declared.Step.TheVariants as step
 use Rattle.shared_machine.specs.declared.Outcome.{Outcome}
-use Rattle.uas_profile.specs.declared.TheConstants.{MAX_CLIENTS}
+use Rattle.uas_profile.specs.declared.TheConstants.{USUAL_CLIENTS}
 use Rattle.uas_trace.specs.declared.put_ring.PutRing.{PutRing}
 use Rattle.uas_trace.specs.declared.put_ring.PutRing.TheVariants as put
 use Rattle.uas_trace.specs.declared.writes.Before.{Before}
@@ -123,7 +123,7 @@ abbrev pub seen_writes : LinesState → Step → Writes
 seen_writes lines (step.Submit client tag ticket command) =
     if has_stream tag then writes.CommandUnit tag (ends_of lines tag) else writes.Nothing
 seen_writes lines (step.Task client ticket task) =
-    if nat_lt client MAX_CLIENTS then writes.TaskUnit (task_tag client) (ends_of lines (task_tag client)) else writes.Nothing
+    if nat_lt client USUAL_CLIENTS then writes.TaskUnit (task_tag client) (ends_of lines (task_tag client)) else writes.Nothing
 seen_writes lines step.CommandPipe = writes.Nothing
 seen_writes lines (step.Data tag) =
     if has_stream tag then writes.Chunk tag (front_on lines pipe.DataIn tag) (front_on lines pipe.DataOut tag) else writes.Nothing

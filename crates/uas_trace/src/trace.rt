@@ -4,8 +4,7 @@
 //! come of. A drain is run by single tries in the order of the bus's own. What a step wrote is read off the bus after it, and
 //! goes to the writer behind what was told before, in large pieces: no text of the whole is kept but the lines of `replay`.
 
-ghost use Rattle.uas_profile.specs.declared.TheConstants.{MAX_CLIENTS};
-ghost use Rattle.uas_profile.specs.declared.TheConstants.{MAX_BLOCKS};
+ghost use Rattle.uas_profile.specs.declared.TheConstants.{MAX_BLOCKS, TAGS, USUAL_CLIENTS};
 ghost use Rattle.std.specs.Prelude.{◌≡◌, ◌*◌, ◌≤◌, ◌<◌, ◌^◌, Ok, [], fold, map, length, suc, IfOk, OnOk, IfErr, IfSome, IfNone};
 ghost use Rattle.std.specs.Io.KnownBytes.{Appends};
 ghost use Rattle.shared_machine.specs.Bus.{HasTicket};
@@ -13,7 +12,7 @@ ghost use Rattle.shared_machine.specs.Drain.{all_tags, round, tried, tried_one};
 ghost use Rattle.uas_replay.specs.Told.{drained_machine, step_of, told, zeroed_units};
 ghost use Rattle.uas_replay.specs.Runs.{StopsBy};
 ghost use Rattle.uas_trace.specs.Traced.{AreNotDue, step_of_tag, with_waiting};
-ghost use Rattle.uas_profile.specs.declared.TheConstants.{TAGS};
+ghost use Rattle.shared_machine.specs.Shared.{greatest_tag};
 ghost use Rattle.uas_trace.specs.Texts.{TracesAll, step_text};
 ghost use Rattle.uas_replay.specs.Walks.{Shows, acted};
 ghost use Rattle.uas_replay.specs.Moments.{drain_moments, round_moments, tried_moments, try_moments};
@@ -53,8 +52,8 @@ impl TagStep {
 
     /// The least tag above this one whose step may be due.
     fn next(self, run: &ScriptRun, tag: u16) -> Option<u16>
-        ensures next { IfSome result (λ next. (tag < next) × (next ≤ length run.now.telling.machine.parts * TAGS) × AreNotDue run.now.telling.machine self tag next) }
-        ensures none { IfNone result (AreNotDue run.now.telling.machine self tag (suc (length run.now.telling.machine.parts * TAGS))) }
+        ensures next { IfSome result (λ next. (tag < next) × (next ≤ greatest_tag run.now.telling.machine) × AreNotDue run.now.telling.machine self tag next) }
+        ensures none { IfNone result (AreNotDue run.now.telling.machine self tag (suc (greatest_tag run.now.telling.machine))) }
     {
         match self {
             TagStep::Data | TagStep::Status => run.next_busy(tag),
@@ -191,10 +190,10 @@ impl Tracer {
         left: usize,
     ) -> Result<usize, RunFault>
         ensures machine { IfOk result (λ after. (run.new.telling.machine, after) ≡ tried (run.old.telling.machine, left)
-            (map (step_of_tag kind) (all_tags (length run.old.telling.machine.parts)))) }
+            (map (step_of_tag kind) (all_tags (greatest_tag run.old.telling.machine)))) }
         ensures rest { OnOk result (run.new.telling ≡ record run.old.telling { machine = run.new.telling.machine }) }
         ensures shown { OnOk result (Shows step_text (tried_moments (run.old.telling.machine, left)
-            (map (step_of_tag kind) (all_tags (length run.old.telling.machine.parts)))) run.old run.new
+            (map (step_of_tag kind) (all_tags (greatest_tag run.old.telling.machine)))) run.old run.new
             (with_waiting (O.written writer.old) self.old.waiting.items)
             (with_waiting (O.written writer.new) self.new.waiting.items)) }
         ensures same { O.can_fail writer.new ≡ O.can_fail writer.old }
@@ -302,10 +301,10 @@ pub fn trace<O: Sink>(
     lines: &[Line],
 ) -> Result<u8, RunFault>
     requires some_clients { 1 ≤ clients }
-    requires most_clients { clients ≤ MAX_CLIENTS }
+    requires most_clients { clients ≤ USUAL_CLIENTS }
     requires some_blocks { 1 ≤ blocks }
     requires most_blocks { blocks ≤ MAX_BLOCKS }
-    ensures number { IfOk result (λ status. status ≡ (told (zeroed_units clients blocks bad) lines.now).1) }
+    ensures number { IfOk result (λ status. status ≡ (told TAGS (zeroed_units clients blocks bad) lines.now).1) }
     ensures text { OnOk result (TracesAll (zeroed_units clients blocks bad) lines.now (O.written writer.old) (O.written writer.new)) }
     ensures status { IfOk result (λ status. status ≤ 1) }
     ensures fault { IfErr result (StopsBy (O.can_fail writer.old)) }

@@ -11,7 +11,7 @@ ghost use Rattle.uas_profile.specs.Pipes.{HasStreams};
 ghost use Rattle.uas_trace.specs.Written.{chunk_lines, ends_of, is_at, moved_line, moved_on, own_lines, posted_at, residual_in, seen_before};
 ghost use Rattle.uas_trace.specs.Written.{seen_writes, status_len, taken_line, task_tag, tds_lines, unit_line, with_writes};
 ghost use Rattle.stream_array.specs.Rings.{IsLines};
-ghost use Rattle.uas_profile.specs.declared.TheConstants.{MAX_CLIENTS};
+ghost use Rattle.uas_profile.specs.declared.TheConstants.{USUAL_CLIENTS};
 ghost use Rattle.xhci_ctl.specs.Doorbells.{pipe_at};
 
 use crate::events::{event_at, newest_event, push_event};
@@ -23,8 +23,8 @@ use std::alloc::AllocError;
 use stream_array::{Lines, Pipe};
 use uas_iu::TASK_BYTES;
 use uas_profile::{
-    COMMAND_BYTES, DATA_IN_ENDPOINT, DATA_OUT_ENDPOINT, MAX_CLIENTS, STATUS_BYTES, STATUS_ENDPOINT,
-    STREAMS, TAGS,
+    COMMAND_BYTES, DATA_IN_ENDPOINT, DATA_OUT_ENDPOINT, STATUS_BYTES, STATUS_ENDPOINT, STREAMS,
+    TAGS, USUAL_CLIENTS,
 };
 use xhci_trb::Trb;
 
@@ -140,7 +140,7 @@ impl Writes {
                 tag: *tag,
                 ends: Ends::of(lines, *tag),
             },
-            Step::Task { client, .. } if *client < MAX_CLIENTS => {
+            Step::Task { client, .. } if *client < USUAL_CLIENTS => {
                 let tag = task_tag(*client);
                 Writes::TaskUnit {
                     tag,
@@ -239,7 +239,7 @@ fn is_stream(tag: u16) -> bool
 
 /// A client's tag for task management, the last of its own.
 fn task_tag(client: usize) -> u16
-    requires { client < MAX_CLIENTS }
+    requires { client < USUAL_CLIENTS }
     ensures tag { result ≡ task_tag client }
     ensures some { 0 < result }
     ensures most { result ≤ STREAMS }

@@ -12,7 +12,7 @@ use Rattle.clap.specs.Simple.{Shape, built, entered, label_of}
 use Rattle.clap.specs.Walk.{answers_to, finished, nothing_held, settled, walk, walk_from}
 use Rattle.std.specs.Option.{option_map_or}
 use Rattle.std.specs.Prelude.{find}
-use Rattle.uas_profile.specs.declared.TheConstants.{MAX_CLIENTS}
+use Rattle.uas_profile.specs.declared.TheConstants.{USUAL_CLIENTS}
 use Rattle.uas_words.specs.declared.Run.{Run}
 use Rattle.byte_io.specs.Words.{number_in}
 use Rattle.uas_words.specs.CommandLine.{Asked, AsksPlainly, AsksWork, asked_by, asked_for, asked_in, extent_from, program_app, refusals}
@@ -65,11 +65,11 @@ worked_by_numbers clients rounds log = option_and_then (λ c. option_and_then (�
 
 work_rows : (d : ℕ) (ds : Text) (e : ℕ) (es : Text) → (d == 45) ≡ false → (d == 43) ≡ false → (e == 45) ≡ false → (e == 43) ≡ false
     → asked_in (entered (built program_app) (Some (codes "work", (d ∷ ds) ∷ (e ∷ es) ∷ [])))
-    ≡ worked_by_numbers (number_in 1 MAX_CLIENTS (d ∷ ds)) (number_in 1 1000 (e ∷ es)) None
+    ≡ worked_by_numbers (number_in 1 USUAL_CLIENTS (d ∷ ds)) (number_in 1 1000 (e ∷ es)) None
 work_rows d ds e es hyphen plus hyphen' plus' =
     simp (walked-plain d ds hyphen, walked-plain e es hyphen') (simp hyphen (simp plus (simp hyphen' (simp plus'))))
 
-work_faults : (d : ℕ) (ds : Text) (e : ℕ) (es : Text) → IsIn 1 MAX_CLIENTS d ds → IsIn 1 1000 e es
+work_faults : (d : ℕ) (ds : Text) (e : ℕ) (es : Text) → IsIn 1 USUAL_CLIENTS d ds → IsIn 1 1000 e es
     → entered_fault (built program_app) (Some (codes "work", (d ∷ ds) ∷ (e ∷ es) ∷ [])) ≡ []
 unfolding defaults_fault
 work_faults d ds e es m n =
@@ -79,7 +79,7 @@ work_faults d ds e es m n =
 
 logged_rows : (d : ℕ) (ds : Text) (e : ℕ) (es : Text) (f : ℕ) (fs : Text) → (d == 45) ≡ false → (d == 43) ≡ false → (e == 45) ≡ false → (e == 43) ≡ false
     → (f == 45) ≡ false → asked_in (entered (built program_app) (Some (codes "work", (d ∷ ds) ∷ (e ∷ es) ∷ (f ∷ fs) ∷ [])))
-    ≡ worked_by_numbers (number_in 1 MAX_CLIENTS (d ∷ ds)) (number_in 1 1000 (e ∷ es)) (Some (f ∷ fs))
+    ≡ worked_by_numbers (number_in 1 USUAL_CLIENTS (d ∷ ds)) (number_in 1 1000 (e ∷ es)) (Some (f ∷ fs))
 logged_rows d ds e es f fs hyphen plus hyphen' plus' plain =
     simp (walked-plain d ds hyphen, walked-plain e es hyphen', walked-plain f fs plain) (simp (hyphen, plus) (simp (hyphen', plus')))
 
@@ -93,7 +93,7 @@ work_level words = refl
 abbrev logged_words : (d : ℕ) (ds : Text) (e : ℕ) (es : Text) (f : ℕ) (fs : Text) → List Text
 logged_words d ds e es f fs = (d ∷ ds) ∷ (e ∷ es) ∷ (f ∷ fs) ∷ []
 
-logged_walk : (d : ℕ) (ds : Text) (e : ℕ) (es : Text) (f : ℕ) (fs : Text) → IsIn 1 MAX_CLIENTS d ds → IsIn 1 1000 e es → (f == 45) ≡ false
+logged_walk : (d : ℕ) (ds : Text) (e : ℕ) (es : Text) (f : ℕ) (fs : Text) → IsIn 1 USUAL_CLIENTS d ds → IsIn 1 1000 e es → (f == 45) ≡ false
     → walk_fault work_shape [] (walk_from nothing_held) (logged_words d ds e es f fs) ≡ []
 logged_walk d ds e es f fs m n plain =
     simp (fault-plain d ds m.hyphen) (simp (fault-plain e es n.hyphen) (simp (fault-plain f fs plain) (simp fault-end
@@ -112,7 +112,7 @@ logged_given : (d : ℕ) (ds : Text) (e : ℕ) (es : Text) (f : ℕ) (fs : Text)
     → check_fault work_shape (finished work_shape.rules (walk work_shape.rules [] nothing_held (logged_words d ds e es f fs)).held) false ≡ []
 logged_given d ds e es f fs hyphen hyphen' plain = simp (walked-plain d ds hyphen, walked-plain e es hyphen', walked-plain f fs plain)
 
-logged_faults : (d : ℕ) (ds : Text) (e : ℕ) (es : Text) (f : ℕ) (fs : Text) → IsIn 1 MAX_CLIENTS d ds → IsIn 1 1000 e es → (f == 45) ≡ false
+logged_faults : (d : ℕ) (ds : Text) (e : ℕ) (es : Text) (f : ℕ) (fs : Text) → IsIn 1 USUAL_CLIENTS d ds → IsIn 1 1000 e es → (f == 45) ≡ false
     → entered_fault (built program_app) (Some (codes "work", logged_words d ds e es f fs)) ≡ []
 logged_faults d ds e es f fs m n plain =
     work_level (logged_words d ds e es f fs) ∙ level_nothing work_shape (logged_words d ds e es f fs) (logged_walk d ds e es f fs m n plain)
@@ -206,24 +206,24 @@ fill_faults d ds e es f fs h hs plain m n o =
 work_asked : (clients rounds : ℕ) (log : Option Text) (words : List Text) → AsksWork clients rounds log words
     → (asked_for words ≡ Some (work clients rounds log)) × (fault_of program_app words ≡ [])
 work_asked clients rounds None words plain =
-    let m = number_is_in 1 MAX_CLIENTS clients plain.1 (omega arith) plain.4 in
+    let m = number_is_in 1 USUAL_CLIENTS clients plain.1 (omega arith) plain.4 in
     let n = number_is_in 1 1000 rounds plain.2 (omega arith) plain.5 in
     let is : words ≡ plain.0 ∷ codes "work" ∷ (m.0 ∷ m.1) ∷ (n.0 ∷ n.1) ∷ [] =
     plain.3 ∙ ap₂ (λ (a b : Text). plain.0 ∷ codes "work" ∷ a ∷ b ∷ []) m.2 n.2 in (
       ap asked_for is ∙ ((work_enters (m.0 ∷ m.1) (n.0 ∷ n.1) plain.0).0 ∙ (work_rows m.0 m.1 n.0 n.1 m.3.hyphen m.3.plus n.3.hyphen n.3.plus
-          ∙ worked_asks clients rounds None _ _ (ap (number_in 1 MAX_CLIENTS) (sym m.2) ∙ plain.4) (ap (number_in 1 1000) (sym n.2) ∙ plain.5))),
+          ∙ worked_asks clients rounds None _ _ (ap (number_in 1 USUAL_CLIENTS) (sym m.2) ∙ plain.4) (ap (number_in 1 1000) (sym n.2) ∙ plain.5))),
       ap (fault_of program_app) is ∙ ((work_enters (m.0 ∷ m.1) (n.0 ∷ n.1) plain.0).1 ∙ ap (λ (k : Kinds). or_else k []) (work_faults m.0 m.1 n.0 n.1 m.3 n.3)),
     )
 work_asked clients rounds (Some []) words plain = absurd (true≢false (sym plain.4))
 work_asked clients rounds (Some (d ∷ ds)) words plain =
-    let m = number_is_in 1 MAX_CLIENTS clients plain.1 (omega arith) plain.5 in
+    let m = number_is_in 1 USUAL_CLIENTS clients plain.1 (omega arith) plain.5 in
     let n = number_is_in 1 1000 rounds plain.2 (omega arith) plain.6 in
     let hyphen : (d == 45) ≡ false = not-true (d == 45) plain.4 in
     let is : words ≡ plain.0 ∷ codes "work" ∷ (m.0 ∷ m.1) ∷ (n.0 ∷ n.1) ∷ (d ∷ ds) ∷ [] =
     plain.3 ∙ ap₂ (λ (a b : Text). plain.0 ∷ codes "work" ∷ a ∷ b ∷ (d ∷ ds) ∷ []) m.2 n.2 in (
       ap asked_for is ∙ ((logged_enters (m.0 ∷ m.1) (n.0 ∷ n.1) (d ∷ ds) plain.0).0
           ∙ (logged_rows m.0 m.1 n.0 n.1 d ds m.3.hyphen m.3.plus n.3.hyphen n.3.plus hyphen
-          ∙ worked_asks clients rounds (Some (d ∷ ds)) _ _ (ap (number_in 1 MAX_CLIENTS) (sym m.2) ∙ plain.5) (ap (number_in 1 1000) (sym n.2) ∙ plain.6))),
+          ∙ worked_asks clients rounds (Some (d ∷ ds)) _ _ (ap (number_in 1 USUAL_CLIENTS) (sym m.2) ∙ plain.5) (ap (number_in 1 1000) (sym n.2) ∙ plain.6))),
       ap (fault_of program_app) is ∙ ((logged_enters (m.0 ∷ m.1) (n.0 ∷ n.1) (d ∷ ds) plain.0).1
           ∙ ap (λ (k : Kinds). or_else k []) (logged_faults m.0 m.1 n.0 n.1 d ds m.3 n.3 hyphen)),
     )

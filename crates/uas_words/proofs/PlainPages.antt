@@ -13,7 +13,7 @@ use Rattle.clap.specs.declared.builder.value_parser.Reading.TheVariants.{AsWritt
 use Rattle.clap.specs.declared.parser.matches.ValueSource.TheVariants.{CommandLine, DefaultValue}
 use Rattle.std.specs.Option.{option_map_or}
 use Rattle.std.specs.Prelude.{find}
-use Rattle.uas_profile.specs.declared.TheConstants.{MAX_CLIENTS}
+use Rattle.uas_profile.specs.declared.TheConstants.{USUAL_CLIENTS}
 use Rattle.byte_io.specs.Words.{number_in}
 use Rattle.uas_words.specs.CommandLine.{AsksPage, AsksScript, asked_for, asked_in, bad_of, blocks_of, clients_of, draw, draw_of, has_page, page, program_app}
 use Rattle.uas_words.proofs.Levels.{Enters}
@@ -79,7 +79,7 @@ both : (d : ℕ) (ds : Text) (e : ℕ) (es : Text) → (d == 45) ≡ false → (
 both d ds e es hyphen hyphen' = ap (λ (w : Walk). walked draw_shape.rules [] w (e ∷ es)) (to_clients d ds hyphen) ∙ to_blocks (d ∷ ds) e es hyphen'
 
 -- a word of these that is refused is none
-no_clients : (d : ℕ) (ds : Text) → IsIn 1 MAX_CLIENTS d ds → settle_fault draw_shape.rules draw_shape.args_override_self (behind_clients (d ∷ ds)).held ≡ []
+no_clients : (d : ℕ) (ds : Text) → IsIn 1 USUAL_CLIENTS d ds → settle_fault draw_shape.rules draw_shape.args_override_self (behind_clients (d ∷ ds)).held ≡ []
 no_clients d ds m = simp (m.hyphen, m.plus, m.some, m.first, m.rest, m.fits, m.low, m.high)
 
 no_blocks : (c : Text) (e : ℕ) (es : Text) → IsIn 1 65536 e es → settle_fault draw_shape.rules draw_shape.args_override_self (behind_blocks c (e ∷ es)).held ≡ []
@@ -97,7 +97,7 @@ from_clients : (d : ℕ) (ds : Text) (rest : List Text) → (d == 45) ≡ false
     → walk_fault draw_shape [] (walk_from nothing_held) ((d ∷ ds) ∷ rest) ≡ walk_fault draw_shape [] (behind_clients (d ∷ ds)) rest
 from_clients d ds rest hyphen = fault-plain d ds hyphen draw_shape nothing_held 1 rest
 
-from_blocks : (d : ℕ) (ds : Text) (e : ℕ) (es : Text) (rest : List Text) → IsIn 1 MAX_CLIENTS d ds → (e == 45) ≡ false
+from_blocks : (d : ℕ) (ds : Text) (e : ℕ) (es : Text) (rest : List Text) → IsIn 1 USUAL_CLIENTS d ds → (e == 45) ≡ false
     → walk_fault draw_shape [] (behind_clients (d ∷ ds)) ((e ∷ es) ∷ rest) ≡ walk_fault draw_shape [] (behind_blocks (d ∷ ds) (e ∷ es)) rest
 from_blocks d ds e es rest m hyphen = fault-plain e es hyphen draw_shape (behind_clients (d ∷ ds)).held 2 rest
     ∙ on (settle_fault draw_shape.rules draw_shape.args_override_self (behind_clients (d ∷ ds)).held)
@@ -207,13 +207,13 @@ bad_page_defaults : (c b l : Text) → defaults_fault (settled draw_shape.rules 
 unfolding defaults_fault
 bad_page_defaults c b l = refl
 
-picture_faults : (d : ℕ) (ds : Text) (e : ℕ) (es : Text) → IsIn 1 MAX_CLIENTS d ds → IsIn 1 65536 e es
+picture_faults : (d : ℕ) (ds : Text) (e : ℕ) (es : Text) → IsIn 1 USUAL_CLIENTS d ds → IsIn 1 65536 e es
     → level_fault draw_shape [] nothing_held (picture_words (d ∷ ds) (e ∷ es)) false [] ≡ []
 picture_faults d ds e es m n = ends draw_shape (picture_words (d ∷ ds) (e ∷ es)) (behind_blocks (d ∷ ds) (e ∷ es)) (picture_end d ds e es m.hyphen n.hyphen)
     (from_clients d ds ((e ∷ es) ∷ []) m.hyphen ∙ (from_blocks d ds e es [] m n.hyphen ∙ fault-end draw_shape (behind_blocks (d ∷ ds) (e ∷ es))))
     (no_blocks (d ∷ ds) e es n) (picture_defaults (d ∷ ds) (e ∷ es)) refl
 
-bad_picture_faults : (d : ℕ) (ds : Text) (e : ℕ) (es : Text) (f : ℕ) (fs : Text) → IsIn 1 MAX_CLIENTS d ds → IsIn 1 65536 e es → IsIn 0 65535 f fs
+bad_picture_faults : (d : ℕ) (ds : Text) (e : ℕ) (es : Text) (f : ℕ) (fs : Text) → IsIn 1 USUAL_CLIENTS d ds → IsIn 1 65536 e es → IsIn 0 65535 f fs
     → level_fault draw_shape [] nothing_held (bad_picture_words (d ∷ ds) (e ∷ es) (f ∷ fs)) false [] ≡ []
 bad_picture_faults d ds e es f fs m n o =
     ends draw_shape (bad_picture_words (d ∷ ds) (e ∷ es) (f ∷ fs)) (behind_bad (numbers (d ∷ ds) (e ∷ es)) (f ∷ fs) 3) (bad_picture_end d ds e es f fs m.hyphen n.hyphen o.hyphen)
@@ -221,14 +221,14 @@ bad_picture_faults d ds e es f fs m n o =
     ∙ (from_bad (d ∷ ds) e es ((f ∷ fs) ∷ []) n ∙ from_lba (numbers (d ∷ ds) (e ∷ es)) f fs o.hyphen)))
     (no_bad (d ∷ ds) (e ∷ es) f fs o) (bad_picture_defaults (d ∷ ds) (e ∷ es) (f ∷ fs)) refl
 
-page_faults : (d : ℕ) (ds : Text) (e : ℕ) (es : Text) → IsIn 1 MAX_CLIENTS d ds → IsIn 1 65536 e es
+page_faults : (d : ℕ) (ds : Text) (e : ℕ) (es : Text) → IsIn 1 USUAL_CLIENTS d ds → IsIn 1 65536 e es
     → level_fault draw_shape [] nothing_held (page_words (d ∷ ds) (e ∷ es)) false [] ≡ []
 page_faults d ds e es m n = ends draw_shape (page_words (d ∷ ds) (e ∷ es)) (behind_page (d ∷ ds) (e ∷ es)) (page_end d ds e es m.hyphen n.hyphen)
     (from_clients d ds ((e ∷ es) ∷ codes "--page" ∷ []) m.hyphen ∙ (from_blocks d ds e es (codes "--page" ∷ []) m n.hyphen
     ∙ (from_page (d ∷ ds) e es [] n ∙ fault-end draw_shape (behind_page (d ∷ ds) (e ∷ es)))))
     refl (page_defaults (d ∷ ds) (e ∷ es)) refl
 
-bad_page_faults : (d : ℕ) (ds : Text) (e : ℕ) (es : Text) (f : ℕ) (fs : Text) → IsIn 1 MAX_CLIENTS d ds → IsIn 1 65536 e es → IsIn 0 65535 f fs
+bad_page_faults : (d : ℕ) (ds : Text) (e : ℕ) (es : Text) (f : ℕ) (fs : Text) → IsIn 1 USUAL_CLIENTS d ds → IsIn 1 65536 e es → IsIn 0 65535 f fs
     → level_fault draw_shape [] nothing_held (bad_page_words (d ∷ ds) (e ∷ es) (f ∷ fs)) false [] ≡ []
 bad_page_faults d ds e es f fs m n o =
     ends draw_shape (bad_page_words (d ∷ ds) (e ∷ es) (f ∷ fs)) (behind_bad (paged (d ∷ ds) (e ∷ es)) (f ∷ fs) 3) (bad_page_end d ds e es f fs m.hyphen n.hyphen o.hyphen)
@@ -243,20 +243,20 @@ bad_page_faults d ds e es f fs m n o =
 pub draw_asked : (clients blocks : ℕ) (bad : Option ℕ) (words : List Text) → AsksScript (codes "draw") clients blocks bad words
     → (asked_for words ≡ Some (draw clients blocks bad)) × (fault_of program_app words ≡ [])
 draw_asked clients blocks None words plain =
-    let m = number_is_in 1 MAX_CLIENTS clients plain.1 (omega arith) plain.4 in
+    let m = number_is_in 1 USUAL_CLIENTS clients plain.1 (omega arith) plain.4 in
     let n = number_is_in 1 65536 blocks plain.2 (omega arith) plain.5 in
     let is : words ≡ plain.0 ∷ codes "draw" ∷ picture_words (m.0 ∷ m.1) (n.0 ∷ n.1) =
     plain.3 ∙ ap₂ (λ (a b : Text). plain.0 ∷ codes "draw" ∷ a ∷ b ∷ []) m.2 n.2 in (
       ap asked_for is ∙ ((draw_enters.0 (m.0 ∷ m.1) (n.0 ∷ n.1) plain.0).0 ∙ (asks (picture_words (m.0 ∷ m.1) (n.0 ∷ n.1)) (behind_blocks (m.0 ∷ m.1) (n.0 ∷ n.1)) (clients_row (m.0 ∷ m.1) ∷ blocks_row (n.0 ∷ n.1) ∷ no_page_row ∷ []) (picture_end m.0 m.1 n.0 n.1 m.3.hyphen n.3.hyphen) (picture_found (m.0 ∷ m.1) (n.0 ∷ n.1))
           ∙ picture_by clients blocks None (clients_row (m.0 ∷ m.1) ∷ blocks_row (n.0 ∷ n.1) ∷ no_page_row ∷ [])
-          (clients_in m.0 m.1 (blocks_row (n.0 ∷ n.1) ∷ no_page_row ∷ []) m.3.hyphen m.3.plus ∙ (ap (number_in 1 MAX_CLIENTS) (sym m.2) ∙ plain.4))
+          (clients_in m.0 m.1 (blocks_row (n.0 ∷ n.1) ∷ no_page_row ∷ []) m.3.hyphen m.3.plus ∙ (ap (number_in 1 USUAL_CLIENTS) (sym m.2) ∙ plain.4))
           (blocks_in (m.0 ∷ m.1) n.0 n.1 (no_page_row ∷ []) n.3.hyphen n.3.plus ∙ (ap (number_in 1 65536) (sym n.2) ∙ plain.5))
           refl refl)),
       ap (fault_of program_app) is ∙ ((draw_enters.0 (m.0 ∷ m.1) (n.0 ∷ n.1) plain.0).1
           ∙ ap (λ (k : Kinds). or_else k []) (draw_level (picture_words (m.0 ∷ m.1) (n.0 ∷ n.1)) ∙ picture_faults m.0 m.1 n.0 n.1 m.3 n.3)),
     )
 draw_asked clients blocks (Some bad) words plain =
-    let m = number_is_in 1 MAX_CLIENTS clients plain.1 (omega arith) plain.5 in
+    let m = number_is_in 1 USUAL_CLIENTS clients plain.1 (omega arith) plain.5 in
     let n = number_is_in 1 65536 blocks plain.2 (omega arith) plain.6 in
     let o = number_is_in 0 65535 bad plain.3 (omega arith) plain.7 in
     let is : words ≡ plain.0 ∷ codes "draw" ∷ bad_picture_words (m.0 ∷ m.1) (n.0 ∷ n.1) (o.0 ∷ o.1) =
@@ -266,7 +266,7 @@ draw_asked clients blocks (Some bad) words plain =
     ap (option_map (λ k. Some k)) (ap (number_in 0 65535) (sym o.2) ∙ plain.7) in (
       ap asked_for is ∙ ((draw_enters.2 (m.0 ∷ m.1) (n.0 ∷ n.1) (codes "--bad") (o.0 ∷ o.1) plain.0).0 ∙ (asks (bad_picture_words (m.0 ∷ m.1) (n.0 ∷ n.1) (o.0 ∷ o.1)) (behind_bad (numbers (m.0 ∷ m.1) (n.0 ∷ n.1)) (o.0 ∷ o.1) 3) (clients_row (m.0 ∷ m.1) ∷ blocks_row (n.0 ∷ n.1) ∷ bad_row (o.0 ∷ o.1) ∷ no_page_row ∷ []) (bad_picture_end m.0 m.1 n.0 n.1 o.0 o.1 m.3.hyphen n.3.hyphen o.3.hyphen) (bad_picture_found (m.0 ∷ m.1) (n.0 ∷ n.1) (o.0 ∷ o.1))
           ∙ picture_by clients blocks (Some bad) (clients_row (m.0 ∷ m.1) ∷ blocks_row (n.0 ∷ n.1) ∷ bad_row (o.0 ∷ o.1) ∷ no_page_row ∷ [])
-          (clients_in m.0 m.1 (blocks_row (n.0 ∷ n.1) ∷ bad_row (o.0 ∷ o.1) ∷ no_page_row ∷ []) m.3.hyphen m.3.plus ∙ (ap (number_in 1 MAX_CLIENTS) (sym m.2) ∙ plain.5))
+          (clients_in m.0 m.1 (blocks_row (n.0 ∷ n.1) ∷ bad_row (o.0 ∷ o.1) ∷ no_page_row ∷ []) m.3.hyphen m.3.plus ∙ (ap (number_in 1 USUAL_CLIENTS) (sym m.2) ∙ plain.5))
           (blocks_in (m.0 ∷ m.1) n.0 n.1 (bad_row (o.0 ∷ o.1) ∷ no_page_row ∷ []) n.3.hyphen n.3.plus ∙ (ap (number_in 1 65536) (sym n.2) ∙ plain.6))
           (bad_in o.0 o.1 (no_page_row ∷ []) o.3.hyphen o.3.plus ∙ third) refl)),
       ap (fault_of program_app) is ∙ ((draw_enters.2 (m.0 ∷ m.1) (n.0 ∷ n.1) (codes "--bad") (o.0 ∷ o.1) plain.0).1
@@ -277,20 +277,20 @@ draw_asked clients blocks (Some bad) words plain =
 pub page_asked : (clients blocks : ℕ) (bad : Option ℕ) (words : List Text) → AsksPage clients blocks bad words
     → (asked_for words ≡ Some (page clients blocks bad)) × (fault_of program_app words ≡ [])
 page_asked clients blocks None words plain =
-    let m = number_is_in 1 MAX_CLIENTS clients plain.1 (omega arith) plain.4 in
+    let m = number_is_in 1 USUAL_CLIENTS clients plain.1 (omega arith) plain.4 in
     let n = number_is_in 1 65536 blocks plain.2 (omega arith) plain.5 in
     let is : words ≡ plain.0 ∷ codes "draw" ∷ page_words (m.0 ∷ m.1) (n.0 ∷ n.1) =
     plain.3 ∙ ap₂ (λ (a b : Text). plain.0 ∷ codes "draw" ∷ a ∷ b ∷ codes "--page" ∷ []) m.2 n.2 in (
       ap asked_for is ∙ ((draw_enters.1 (m.0 ∷ m.1) (n.0 ∷ n.1) (codes "--page") plain.0).0 ∙ (asks (page_words (m.0 ∷ m.1) (n.0 ∷ n.1)) (behind_page (m.0 ∷ m.1) (n.0 ∷ n.1)) (paged (m.0 ∷ m.1) (n.0 ∷ n.1)) (page_end m.0 m.1 n.0 n.1 m.3.hyphen n.3.hyphen) (page_found (m.0 ∷ m.1) (n.0 ∷ n.1))
           ∙ page_by clients blocks None (paged (m.0 ∷ m.1) (n.0 ∷ n.1))
-          (clients_in m.0 m.1 (blocks_row (n.0 ∷ n.1) ∷ page_row ∷ []) m.3.hyphen m.3.plus ∙ (ap (number_in 1 MAX_CLIENTS) (sym m.2) ∙ plain.4))
+          (clients_in m.0 m.1 (blocks_row (n.0 ∷ n.1) ∷ page_row ∷ []) m.3.hyphen m.3.plus ∙ (ap (number_in 1 USUAL_CLIENTS) (sym m.2) ∙ plain.4))
           (blocks_in (m.0 ∷ m.1) n.0 n.1 (page_row ∷ []) n.3.hyphen n.3.plus ∙ (ap (number_in 1 65536) (sym n.2) ∙ plain.5))
           refl refl)),
       ap (fault_of program_app) is ∙ ((draw_enters.1 (m.0 ∷ m.1) (n.0 ∷ n.1) (codes "--page") plain.0).1
           ∙ ap (λ (k : Kinds). or_else k []) (draw_level (page_words (m.0 ∷ m.1) (n.0 ∷ n.1)) ∙ page_faults m.0 m.1 n.0 n.1 m.3 n.3)),
     )
 page_asked clients blocks (Some bad) words plain =
-    let m = number_is_in 1 MAX_CLIENTS clients plain.1 (omega arith) plain.5 in
+    let m = number_is_in 1 USUAL_CLIENTS clients plain.1 (omega arith) plain.5 in
     let n = number_is_in 1 65536 blocks plain.2 (omega arith) plain.6 in
     let o = number_is_in 0 65535 bad plain.3 (omega arith) plain.7 in
     let is : words ≡ plain.0 ∷ codes "draw" ∷ bad_page_words (m.0 ∷ m.1) (n.0 ∷ n.1) (o.0 ∷ o.1) =
@@ -300,7 +300,7 @@ page_asked clients blocks (Some bad) words plain =
     ap (option_map (λ k. Some k)) (ap (number_in 0 65535) (sym o.2) ∙ plain.7) in (
       ap asked_for is ∙ ((draw_enters.3 (m.0 ∷ m.1) (n.0 ∷ n.1) (codes "--page") (codes "--bad") (o.0 ∷ o.1) plain.0).0 ∙ (asks (bad_page_words (m.0 ∷ m.1) (n.0 ∷ n.1) (o.0 ∷ o.1)) (behind_bad (paged (m.0 ∷ m.1) (n.0 ∷ n.1)) (o.0 ∷ o.1) 3) (clients_row (m.0 ∷ m.1) ∷ blocks_row (n.0 ∷ n.1) ∷ page_row ∷ bad_row (o.0 ∷ o.1) ∷ []) (bad_page_end m.0 m.1 n.0 n.1 o.0 o.1 m.3.hyphen n.3.hyphen o.3.hyphen) (bad_page_found (m.0 ∷ m.1) (n.0 ∷ n.1) (o.0 ∷ o.1))
           ∙ page_by clients blocks (Some bad) (clients_row (m.0 ∷ m.1) ∷ blocks_row (n.0 ∷ n.1) ∷ page_row ∷ bad_row (o.0 ∷ o.1) ∷ [])
-          (clients_in m.0 m.1 (blocks_row (n.0 ∷ n.1) ∷ page_row ∷ bad_row (o.0 ∷ o.1) ∷ []) m.3.hyphen m.3.plus ∙ (ap (number_in 1 MAX_CLIENTS) (sym m.2) ∙ plain.5))
+          (clients_in m.0 m.1 (blocks_row (n.0 ∷ n.1) ∷ page_row ∷ bad_row (o.0 ∷ o.1) ∷ []) m.3.hyphen m.3.plus ∙ (ap (number_in 1 USUAL_CLIENTS) (sym m.2) ∙ plain.5))
           (blocks_in (m.0 ∷ m.1) n.0 n.1 (page_row ∷ bad_row (o.0 ∷ o.1) ∷ []) n.3.hyphen n.3.plus ∙ (ap (number_in 1 65536) (sym n.2) ∙ plain.6))
           (bad_in o.0 o.1 [] o.3.hyphen o.3.plus ∙ third) refl)),
       ap (fault_of program_app) is ∙ ((draw_enters.3 (m.0 ∷ m.1) (n.0 ∷ n.1) (codes "--page") (codes "--bad") (o.0 ∷ o.1) plain.0).1

@@ -10,7 +10,7 @@ use Rattle.clap.specs.Simple.{Shape, built, entered, label_of}
 use Rattle.clap.specs.Walk.{answers_to, finished, nothing_held, rows_after, settled, walk, walk_from}
 use Rattle.std.specs.Option.{option_map_or}
 use Rattle.std.specs.Prelude.{find}
-use Rattle.uas_profile.specs.declared.TheConstants.{MAX_CLIENTS}
+use Rattle.uas_profile.specs.declared.TheConstants.{USUAL_CLIENTS}
 use Rattle.byte_io.specs.Words.{number_in}
 use Rattle.uas_words.specs.CommandLine.{Asked, AsksScript, asked_for, asked_in, program_app, replay, script_of}
 use Rattle.uas_words.proofs.Levels.{Enters, level_nothing}
@@ -31,7 +31,7 @@ script_shape name = record (option_map_or (λ s. s) (find (λ s. answers_to (cod
 abbrev numbers : (d : ℕ) (ds : Text) (e : ℕ) (es : Text) → List Text
 numbers d ds e es = (d ∷ ds) ∷ (e ∷ es) ∷ []
 
-numbers_walk : (name : Text) (d : ℕ) (ds : Text) (e : ℕ) (es : Text) → IsIn 1 MAX_CLIENTS d ds → (e == 45) ≡ false
+numbers_walk : (name : Text) (d : ℕ) (ds : Text) (e : ℕ) (es : Text) → IsIn 1 USUAL_CLIENTS d ds → (e == 45) ≡ false
     → walk_fault (script_shape name) [] (walk_from nothing_held) (numbers d ds e es) ≡ []
 numbers_walk name d ds e es m hyphen =
     simp (fault-plain d ds m.hyphen) (simp (fault-plain e es hyphen) (simp fault-end
@@ -54,7 +54,7 @@ numbers_checked : (name : Text) (d : ℕ) (ds : Text) (e : ℕ) (es : Text) → 
     false ≡ []
 numbers_checked name d ds e es hyphen hyphen' = simp (walked-plain d ds hyphen, walked-plain e es hyphen')
 
-numbers_faults : (name : Text) (d : ℕ) (ds : Text) (e : ℕ) (es : Text) → IsIn 1 MAX_CLIENTS d ds → IsIn 1 65536 e es
+numbers_faults : (name : Text) (d : ℕ) (ds : Text) (e : ℕ) (es : Text) → IsIn 1 USUAL_CLIENTS d ds → IsIn 1 65536 e es
     → level_fault (script_shape name) [] nothing_held (numbers d ds e es) false [] ≡ []
 numbers_faults name d ds e es m n =
     level_nothing (script_shape name) (numbers d ds e es) (numbers_walk name d ds e es m n.hyphen) (numbers_last name d ds e es m.hyphen n)
@@ -63,7 +63,7 @@ numbers_faults name d ds e es m n =
 numbers_rows : (run : ℕ → ℕ → Option ℕ → Asked) (name : Text) (d : ℕ) (ds : Text) (e : ℕ) (es : Text)
     → (d == 45) ≡ false → (d == 43) ≡ false → (e == 45) ≡ false → (e == 43) ≡ false
     → script_of run (rows_after (script_shape name).rules [] (numbers d ds e es))
-    ≡ asked_by_numbers run (number_in 1 MAX_CLIENTS (d ∷ ds)) (number_in 1 65536 (e ∷ es)) (Some None)
+    ≡ asked_by_numbers run (number_in 1 USUAL_CLIENTS (d ∷ ds)) (number_in 1 65536 (e ∷ es)) (Some None)
 numbers_rows run name d ds e es hyphen plus hyphen' plus' =
     simp (walked-plain d ds hyphen, walked-plain e es hyphen') (simp hyphen (simp plus (simp hyphen' (simp plus'))))
 
@@ -74,12 +74,12 @@ with_bad d ds e es f fs = (d ∷ ds) ∷ (e ∷ es) ∷ codes "--bad" ∷ (f ∷
 bad_rows : (run : ℕ → ℕ → Option ℕ → Asked) (name : Text) (d : ℕ) (ds : Text) (e : ℕ) (es : Text) (f : ℕ) (fs : Text)
     → (d == 45) ≡ false → (d == 43) ≡ false → (e == 45) ≡ false → (e == 43) ≡ false → (f == 45) ≡ false → (f == 43) ≡ false
     → script_of run (rows_after (script_shape name).rules [] (with_bad d ds e es f fs))
-    ≡ asked_by_numbers run (number_in 1 MAX_CLIENTS (d ∷ ds)) (number_in 1 65536 (e ∷ es)) (option_map (λ n. Some n) (number_in 0 65535 (f ∷ fs)))
+    ≡ asked_by_numbers run (number_in 1 USUAL_CLIENTS (d ∷ ds)) (number_in 1 65536 (e ∷ es)) (option_map (λ n. Some n) (number_in 0 65535 (f ∷ fs)))
 bad_rows run name d ds e es f fs hyphen plus hyphen' plus' hyphen″ plus″ =
     simp (walked-plain d ds hyphen, walked-plain e es hyphen', walked-bad, walked-value f fs hyphen″)
     (simp hyphen (simp plus (simp hyphen' (simp plus' (simp hyphen″ (simp plus″))))))
 
-bad_walk : (name : Text) (d : ℕ) (ds : Text) (e : ℕ) (es : Text) (f : ℕ) (fs : Text) → IsIn 1 MAX_CLIENTS d ds → IsIn 1 65536 e es → (f == 45) ≡ false
+bad_walk : (name : Text) (d : ℕ) (ds : Text) (e : ℕ) (es : Text) (f : ℕ) (fs : Text) → IsIn 1 USUAL_CLIENTS d ds → IsIn 1 65536 e es → (f == 45) ≡ false
     → walk_fault (script_shape name) [] (walk_from nothing_held) (with_bad d ds e es f fs) ≡ []
 bad_walk name d ds e es f fs m n hyphen =
     simp (fault-plain d ds m.hyphen) (simp (fault-plain e es n.hyphen) (simp fault-bad (simp (fault-value f fs hyphen) (simp fault-end
@@ -105,7 +105,7 @@ bad_given : (name : Text) (d : ℕ) (ds : Text) (e : ℕ) (es : Text) (f : ℕ) 
 bad_given name d ds e es f fs hyphen hyphen' hyphen″ =
     simp (walked-plain d ds hyphen, walked-plain e es hyphen', walked-bad, walked-value f fs hyphen″)
 
-bad_faults : (name : Text) (d : ℕ) (ds : Text) (e : ℕ) (es : Text) (f : ℕ) (fs : Text) → IsIn 1 MAX_CLIENTS d ds → IsIn 1 65536 e es → IsIn 0 65535 f fs
+bad_faults : (name : Text) (d : ℕ) (ds : Text) (e : ℕ) (es : Text) (f : ℕ) (fs : Text) → IsIn 1 USUAL_CLIENTS d ds → IsIn 1 65536 e es → IsIn 0 65535 f fs
     → level_fault (script_shape name) [] nothing_held (with_bad d ds e es f fs) false [] ≡ []
 bad_faults name d ds e es f fs m n o =
     level_nothing (script_shape name) (with_bad d ds e es f fs) (bad_walk name d ds e es f fs m n o.hyphen)
@@ -137,10 +137,10 @@ replay_is_script = record { enters = replay_enters; asks = λ words. refl; fault
 pub script_asked : (name : Text) (run : ℕ → ℕ → Option ℕ → Asked) → IsScript name run → (clients blocks : ℕ) (bad : Option ℕ) (words : List Text)
     → AsksScript name clients blocks bad words → (asked_for words ≡ Some (run clients blocks bad)) × (fault_of program_app words ≡ [])
 script_asked name run it clients blocks None words plain =
-    let m = number_is_in 1 MAX_CLIENTS clients plain.1 (omega arith) plain.4 in
+    let m = number_is_in 1 USUAL_CLIENTS clients plain.1 (omega arith) plain.4 in
     let n = number_is_in 1 65536 blocks plain.2 (omega arith) plain.5 in
     let is : words ≡ plain.0 ∷ name ∷ numbers m.0 m.1 n.0 n.1 = plain.3 ∙ ap₂ (λ (a b : Text). plain.0 ∷ name ∷ a ∷ b ∷ []) m.2 n.2 in
-    let first : number_in 1 MAX_CLIENTS (m.0 ∷ m.1) ≡ Some clients = ap (number_in 1 MAX_CLIENTS) (sym m.2) ∙ plain.4 in
+    let first : number_in 1 USUAL_CLIENTS (m.0 ∷ m.1) ≡ Some clients = ap (number_in 1 USUAL_CLIENTS) (sym m.2) ∙ plain.4 in
     let second : number_in 1 65536 (n.0 ∷ n.1) ≡ Some blocks = ap (number_in 1 65536) (sym n.2) ∙ plain.5 in (
       ap asked_for is ∙ ((it.enters.0 (m.0 ∷ m.1) (n.0 ∷ n.1) plain.0).0 ∙ (it.asks (numbers m.0 m.1 n.0 n.1)
           ∙ (numbers_rows run name m.0 m.1 n.0 n.1 m.3.hyphen m.3.plus n.3.hyphen n.3.plus ∙ numbers_ask run clients blocks None _ _ _ first second refl))),
@@ -148,7 +148,7 @@ script_asked name run it clients blocks None words plain =
           ∙ ap (λ (k : Kinds). or_else k []) (it.faults (numbers m.0 m.1 n.0 n.1) ∙ numbers_faults name m.0 m.1 n.0 n.1 m.3 n.3)),
     )
 script_asked name run it clients blocks (Some bad) words plain =
-    let m = number_is_in 1 MAX_CLIENTS clients plain.1 (omega arith) plain.5 in
+    let m = number_is_in 1 USUAL_CLIENTS clients plain.1 (omega arith) plain.5 in
     let n = number_is_in 1 65536 blocks plain.2 (omega arith) plain.6 in
     let o = number_is_in 0 65535 bad plain.3 (omega arith) plain.7 in
     let is : words ≡ plain.0 ∷ name ∷ with_bad m.0 m.1 n.0 n.1 o.0 o.1 =
@@ -159,7 +159,7 @@ script_asked name run it clients blocks (Some bad) words plain =
       ap asked_for is ∙ ((it.enters.1 (m.0 ∷ m.1) (n.0 ∷ n.1) (codes "--bad") (o.0 ∷ o.1) plain.0).0 ∙ (it.asks (with_bad m.0 m.1 n.0 n.1 o.0 o.1)
           ∙ (bad_rows run name m.0 m.1 n.0 n.1 o.0 o.1 m.3.hyphen m.3.plus n.3.hyphen n.3.plus o.3.hyphen o.3.plus
           ∙ numbers_ask run clients blocks (Some bad) _ _ _
-          (ap (number_in 1 MAX_CLIENTS) (sym m.2) ∙ plain.5) (ap (number_in 1 65536) (sym n.2) ∙ plain.6) third))),
+          (ap (number_in 1 USUAL_CLIENTS) (sym m.2) ∙ plain.5) (ap (number_in 1 65536) (sym n.2) ∙ plain.6) third))),
       ap (fault_of program_app) is ∙ ((it.enters.1 (m.0 ∷ m.1) (n.0 ∷ n.1) (codes "--bad") (o.0 ∷ o.1) plain.0).1
           ∙ ap (λ (k : Kinds). or_else k []) (it.faults (with_bad m.0 m.1 n.0 n.1 o.0 o.1) ∙ bad_faults name m.0 m.1 n.0 n.1 o.0 o.1 m.3 n.3 o.3)),
     )

@@ -12,7 +12,7 @@ use Rattle.clap.specs.declared.builder.ArgAction.TheVariants.{Set, SetTrue}
 use Rattle.clap.specs.declared.builder.value_parser.ValueParser.TheVariants as parser
 use Rattle.clap.specs.declared.error.kind.ErrorKind.{ErrorKind}
 use Rattle.clap.specs.declared.error.kind.ErrorKind.TheVariants.{DisplayHelp, DisplayVersion, OutOfMemory, ValueValidation}
-use Rattle.uas_profile.specs.declared.TheConstants.{MAX_BLOCKS, MAX_CLIENTS, MOST_BLOCKS_MOVED}
+use Rattle.uas_profile.specs.declared.TheConstants.{MAX_BLOCKS, USUAL_CLIENTS, MOST_BLOCKS_MOVED}
 use Rattle.byte_io.specs.declared.disks.Extent.{Extent}
 use Rattle.uas_words.specs.declared.Run.{Run}
 use Rattle.uas_words.specs.declared.Run.TheVariants.{Replay, Trace, Work, Keep, Decode, Make, Info, Dump, Fill, Audit, Draw, Page, Capture}
@@ -62,7 +62,7 @@ number_of least most word = number_in least most (without_leading_plus word)
 
 -- CLIENTS is a number from 1 to 15
 abbrev pub clients_of : List Row → Option ℕ
-clients_of rows = option_and_then (number_of 1 MAX_CLIENTS) (one_of (codes "CLIENTS") rows)
+clients_of rows = option_and_then (number_of 1 USUAL_CLIENTS) (one_of (codes "CLIENTS") rows)
 
 -- BLOCKS is a number from 1 to 65,536
 abbrev pub blocks_of : List Row → Option ℕ
@@ -251,7 +251,7 @@ abbrev pub number_rule : Text → ℕ → ℕ → Rule
 number_rule name least most = record (required_rule name) { parser = Some (parser.Signed (pos least) (pos most)) }
 
 abbrev pub clients_rule : Rule
-clients_rule = number_rule (codes "CLIENTS") 1 MAX_CLIENTS
+clients_rule = number_rule (codes "CLIENTS") 1 USUAL_CLIENTS
 
 abbrev pub rounds_rule : Rule
 rounds_rule = number_rule (codes "ROUNDS") 1 max_rounds
@@ -390,33 +390,33 @@ is_plain_name (byte ∷ bytes) = not (byte == 45)
 -- the words ask to run a script by the subcommand of this name: `NAME CLIENTS BLOCKS`, or `NAME CLIENTS BLOCKS --bad LBA`
 abbrev pub AsksScript : Text → ℕ → ℕ → Option ℕ → List Text → Type 0
 AsksScript name clients blocks None words = (program first second : Text) × (words ≡ program ∷ name ∷ first ∷ second ∷ [])
-    × (number_in 1 MAX_CLIENTS first ≡ Some clients) × (number_in 1 MAX_BLOCKS second ≡ Some blocks)
+    × (number_in 1 USUAL_CLIENTS first ≡ Some clients) × (number_in 1 MAX_BLOCKS second ≡ Some blocks)
 AsksScript name clients blocks (Some bad) words =
     (program first second third : Text) × (words ≡ program ∷ name ∷ first ∷ second ∷ codes "--bad" ∷ third ∷ [])
-    × (number_in 1 MAX_CLIENTS first ≡ Some clients) × (number_in 1 MAX_BLOCKS second ≡ Some blocks) × (number_in 0 last_block third ≡ Some bad)
+    × (number_in 1 USUAL_CLIENTS first ≡ Some clients) × (number_in 1 MAX_BLOCKS second ≡ Some blocks) × (number_in 0 last_block third ≡ Some bad)
 
 -- the words ask for a page: `draw CLIENTS BLOCKS --page`, or `draw CLIENTS BLOCKS --page --bad LBA`
 abbrev pub AsksPage : ℕ → ℕ → Option ℕ → List Text → Type 0
 AsksPage clients blocks None words = (program first second : Text) × (words ≡ program ∷ codes "draw" ∷ first ∷ second ∷ codes "--page" ∷ [])
-    × (number_in 1 MAX_CLIENTS first ≡ Some clients) × (number_in 1 MAX_BLOCKS second ≡ Some blocks)
+    × (number_in 1 USUAL_CLIENTS first ≡ Some clients) × (number_in 1 MAX_BLOCKS second ≡ Some blocks)
 AsksPage clients blocks (Some bad) words =
     (program first second third : Text) × (words ≡ program ∷ codes "draw" ∷ first ∷ second ∷ codes "--page" ∷ codes "--bad" ∷ third ∷ [])
-    × (number_in 1 MAX_CLIENTS first ≡ Some clients) × (number_in 1 MAX_BLOCKS second ≡ Some blocks) × (number_in 0 last_block third ≡ Some bad)
+    × (number_in 1 USUAL_CLIENTS first ≡ Some clients) × (number_in 1 MAX_BLOCKS second ≡ Some blocks) × (number_in 0 last_block third ≡ Some bad)
 
 -- the words ask to let clients work: `work CLIENTS ROUNDS`, or `work CLIENTS ROUNDS LOG`
 abbrev pub AsksWork : ℕ → ℕ → Option Text → List Text → Type 0
 AsksWork clients rounds None words = (program first second : Text) × (words ≡ program ∷ codes "work" ∷ first ∷ second ∷ [])
-    × (number_in 1 MAX_CLIENTS first ≡ Some clients) × (number_in 1 max_rounds second ≡ Some rounds)
+    × (number_in 1 USUAL_CLIENTS first ≡ Some clients) × (number_in 1 max_rounds second ≡ Some rounds)
 AsksWork clients rounds (Some log) words = (program first second : Text) × (words ≡ program ∷ codes "work" ∷ first ∷ second ∷ log ∷ [])
-    × (is_plain_name log ≡ true) × (number_in 1 MAX_CLIENTS first ≡ Some clients) × (number_in 1 max_rounds second ≡ Some rounds)
+    × (is_plain_name log ≡ true) × (number_in 1 USUAL_CLIENTS first ≡ Some clients) × (number_in 1 max_rounds second ≡ Some rounds)
 
 -- the words ask to capture a run: `capture CLIENTS BLOCKS FILE`, or `capture CLIENTS BLOCKS FILE --bad LBA`
 abbrev pub AsksCapture : ℕ → ℕ → Text → Option ℕ → List Text → Type 0
 AsksCapture clients blocks file None words = (program first second : Text) × (words ≡ program ∷ codes "capture" ∷ first ∷ second ∷ file ∷ [])
-    × (is_plain_name file ≡ true) × (number_in 1 MAX_CLIENTS first ≡ Some clients) × (number_in 1 MAX_BLOCKS second ≡ Some blocks)
+    × (is_plain_name file ≡ true) × (number_in 1 USUAL_CLIENTS first ≡ Some clients) × (number_in 1 MAX_BLOCKS second ≡ Some blocks)
 AsksCapture clients blocks file (Some bad) words =
     (program first second third : Text) × (words ≡ program ∷ codes "capture" ∷ first ∷ second ∷ file ∷ codes "--bad" ∷ third ∷ [])
-    × (is_plain_name file ≡ true) × (number_in 1 MAX_CLIENTS first ≡ Some clients) × (number_in 1 MAX_BLOCKS second ≡ Some blocks)
+    × (is_plain_name file ≡ true) × (number_in 1 USUAL_CLIENTS first ≡ Some clients) × (number_in 1 MAX_BLOCKS second ≡ Some blocks)
     × (number_in 0 last_block third ≡ Some bad)
 
 -- the words ask to audit a log: `audit LOG`, or `audit LOG --head HEX`

@@ -6,15 +6,15 @@ ghost use Rattle.uas_words.specs.CommandLine.{replay_app, top_app, trace_app, wi
 
 use crate::arguments::{flag, log, number, number_option, option, required};
 use crate::helps::{
-    AUDIT_HELP, BYTE_HELP, CAPTURE_HELP, COLOR_HELP, DRAW_HELP, DUMP_HELP, FILL_HELP, HEAD_HELP,
-    INFO_HELP, LBA_HELP, LOG_HELP, MAKE_HELP, PAGE_HELP, PROGRAM_HELP, ROUNDS_HELP, SCRIPT_HELP,
-    SYNC_HELP, TRACE_HELP, WORK_HELP,
+    AUDIT_HELP, BYTE_HELP, CAPTURE_HELP, CLIENTS_HELP, COLOR_HELP, DRAW_HELP, DUMP_HELP, FILL_HELP,
+    HEAD_HELP, INFO_HELP, LBA_HELP, LOG_HELP, MAKE_HELP, PAGE_HELP, PROGRAM_HELP, ROUNDS_HELP,
+    SCRIPT_HELP, SYNC_HELP, TRACE_HELP, WORK_HELP,
 };
 use crate::{LAST_BLOCK, MAX_BYTE, MAX_ROUNDS, MOST_CLIENTS, MOST_MOVED, VERSION};
 use clap::Command;
 use decode_help::DECODE_HELP;
 use std::alloc::{AllocError, Global};
-use uas_profile::{CLIENTS_HELP, MAX_BLOCKS};
+use uas_profile::MAX_BLOCKS;
 
 /// The program's command, with its subcommands.
 pub(crate) fn command<'a>(alloc: Global) -> Result<Command<'a>, AllocError>

@@ -1,5 +1,8 @@
 //! The texts of help that are no one line of a subcommand.
 
+pub(crate) const CLIENTS_HELP: &str =
+    "How many clients there are, each with a unit of its own: 1 to 15";
+
 pub(crate) const LBA_HELP: &str = "The number of the first block: 0 to 4294967295";
 
 pub(crate) const BYTE_HELP: &str = "The byte that the blocks are filled with: 0 to 255";

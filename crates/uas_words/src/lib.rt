@@ -29,12 +29,12 @@ use clap::{ArgMatches, Command, Error};
 use commands::command;
 pub use laws::plain_lines_ask;
 use std::alloc::Global;
-use uas_profile::{MAX_BLOCKS, MAX_CLIENTS, MOST_BLOCKS_MOVED};
+use uas_profile::{MAX_BLOCKS, MOST_BLOCKS_MOVED, USUAL_CLIENTS};
 
 /// The most clients, as a word of the command line.
-pub(crate) const MOST_CLIENTS: u32 = MAX_CLIENTS as u32;
+pub(crate) const MOST_CLIENTS: u32 = USUAL_CLIENTS as u32;
 
-const _: () = prove!(MOST_CLIENTS as usize == MAX_CLIENTS);
+const _: () = prove!(MOST_CLIENTS as usize == USUAL_CLIENTS);
 
 const _: () = prove!(MAX_BLOCKS == 65_536);
 

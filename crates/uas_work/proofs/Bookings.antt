@@ -21,6 +21,7 @@ acted_state old step = record old {
 pub acted-booked : (old : BookedState) (step : Step) → IsBooked old → HasTicket step → due old.bus step ≡ true → length old.log.steps < old.limit
     → IsBooked (acted_state old step)
 acted-booked old step it has is room = record {
+  tags = it.tags;
   bus = with_entry-state old.log step (shared_step old.bus step).1 old.bus it.bus;
   log = with_entry-true old.log step old.bus it.log it.bus has is;
   within = omega (arith, length-append old.log.steps (step ∷ []));

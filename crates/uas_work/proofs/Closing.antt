@@ -1,6 +1,6 @@
 -- A desk that is closed once no pump's line is out: no claim is left there.
-use Rattle.std.proofs.Common.{◌≡◌, ℕ, zero, suc, ◌+◌, ◌*◌, ◌/◌, ◌%◌, ◌<◌, ◌==◌, Bool, true, false, List, [], ◌++◌, Option, Some, None, get_or, if◌then◌else◌, refl, sym, ap, subst, ◌∙◌, arith}
-use Rattle.uas_profile.specs.declared.TheConstants.{TAGS}
+use Rattle.std.proofs.Common.{◌≡◌, ℕ, zero, suc, ◌+◌, ◌*◌, ◌%◌, ◌<◌, ◌==◌, Bool, true, false, List, [], ◌++◌, Option, Some, None, get_or, if◌then◌else◌, refl, sym, ap, subst, ◌∙◌, arith}
+use Rattle.uas_profile.specs.Tags.{client_of}
 use Rattle.tag_desk.specs.declared.Slip.{Slip}
 use Rattle.tag_desk.specs.declared.rule.ClientView.{ClientView}
 use Rattle.tag_desk.specs.declared.rule.ClientView.TheVariants.{Waiting, Free, Open}
@@ -41,10 +41,10 @@ mod_below t n some = grind arith
 
 -- the line of each tag, at the pump that serves it
 line_home : (desk : MadeDesk) (seats : List Server) (t : ℕ) → 0 < desk.pumps → IsAllPumpsOf desk seats → ArePumpsHome desk seats
-    → t < TAGS * desk.clients → IsHomeLine (work_line desk seats t)
+    → t < desk.tags * desk.clients → IsHomeLine (work_line desk seats t)
 line_home desk seats t some all home within =
-    let p : ℕ = t / TAGS % desk.pumps in
-    let below : p < desk.pumps = mod_below (t / TAGS) desk.pumps some in
+    let p : ℕ = client_of desk.tags (suc t) % desk.pumps in
+    let below : p < desk.pumps = mod_below (client_of desk.tags (suc t)) desk.pumps some in
     let first : IsFirst pump_number seats p p = record {
       within = omega (arith, all.count, below);
       is = λ d. all.order p d below;
@@ -58,5 +58,5 @@ line_home desk seats t some all home within =
 pub none_held : (desk : MadeDesk) (clients : List Customer) (seats : List Server) → 0 < desk.pumps → IsAllPumpsOf desk seats → ArePumpsHome desk seats
     → (left_of desk clients seats).held ≡ []
 none_held desk clients seats some all home =
-    joined-empty (λ (t : ℕ). held_at (t + 1) (standing (client_view clients t) (work_line desk seats t))) (TAGS * desk.clients)
-    (λ t within. not_held (t + 1) (client_view clients t) (work_line desk seats t) (line_home desk seats t some all home within))
+    joined-empty (λ (t : ℕ). held_at (t + 1) (standing (client_view desk.tags clients t) (work_line desk seats t))) (desk.tags * desk.clients)
+    (λ t within. not_held (t + 1) (client_view desk.tags clients t) (work_line desk seats t) (line_home desk seats t some all home within))

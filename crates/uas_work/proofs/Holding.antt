@@ -5,11 +5,10 @@ use native.Mathlib.Decide.{ℕ_discrete}
 use Rattle.std.proofs.Math.ListN.{length-set}
 use Rattle.std.proofs.lemmas.Grind.{get_or-set_at}
 use Rattle.std.proofs.lemmas.List.{get_or-set_other}
-use Rattle.uas_profile.specs.declared.TheConstants.{TAGS}
 use Rattle.tag_desk.specs.declared.Slip.{Slip}
 use Rattle.tag_desk.specs.declared.rule.WorkView.TheVariants.{Finished}
 use Rattle.tag_desk.specs.Seats.{finishing, MadeDesk, Server, WorkLine, HeldClaim, IsAway, IsServed}
-use Rattle.uas_work.specs.Held.{AreHeldBy, AreNone, AreUnserved, IsHeldAt, unserved_line, unserving}
+use Rattle.uas_work.specs.Held.{AreHeldBy, AreNone, AreUnserved, IsHeldAt, IsTaggedAsBus, unserved_line, unserving}
 
 -- LINES THAT ARE OUT
 
@@ -47,6 +46,7 @@ at_moved desk old new k (Some claim) same keeps h = (h.0, h.1, (h.2.0, h.2.1, h.
 pub held-given : (desk : MadeDesk) (seat : Server) (held : List (Option HeldClaim)) (k : ℕ) → AreHeldBy desk seat held
     → AreHeldBy desk (record seat { lines = set seat.lines k None }) held
 held-given desk seat held k it = record {
+  tags = it.tags;
   count = it.count;
   each =
       λ j within.
@@ -59,6 +59,7 @@ pub held-put : (desk : MadeDesk) (seat : Server) (held : List (Option HeldClaim)
     → claim.table ≡ desk.table → IsServed desk seat claim.tag → IsAway seat claim.tag
     → AreHeldBy desk seat (set held (claim.tag - 1) (Some claim))
 held-put desk seat held claim it table served is = record {
+  tags = it.tags;
   count = length-set held (claim.tag - 1) (Some claim) ∙ it.count;
   each =
       λ j within.
@@ -70,6 +71,7 @@ held-put desk seat held claim it table served is = record {
 pub held-taken : (desk : MadeDesk) (seat : Server) (held : List (Option HeldClaim)) (k : ℕ) → AreHeldBy desk seat held
     → AreHeldBy desk seat (set held k None)
 held-taken desk seat held k it = record {
+  tags = it.tags;
   count = length-set held k None ∙ it.count;
   each = λ j within. holds_set (IsHeldAt desk seat j) held k j None None (λ here. tt) (it.each j within);
 }
@@ -80,6 +82,7 @@ pub held-finished : (desk : MadeDesk) (seat : Server) (held : List (Option HeldC
 held-finished desk seat held k line none it =
     let new : Server = record seat { lines = set seat.lines k line } in
     record {
+      tags = it.tags;
       count = it.count;
       each =
           λ j within.
@@ -101,9 +104,10 @@ none_at (x ∷ xs) zero = refl
 none_at (x ∷ xs) (suc k) = none_at xs k
 
 -- nothing is held by anybody
-pub held-none : (desk : MadeDesk) (seat : Server) (held : List (Option HeldClaim)) → AreNone held → length held ≡ TAGS * desk.clients
-    → AreHeldBy desk seat held
-held-none desk seat held none count = record {
+pub held-none : (desk : MadeDesk) (seat : Server) (held : List (Option HeldClaim)) → AreNone held → IsTaggedAsBus desk
+    → length held ≡ desk.tags * desk.clients → AreHeldBy desk seat held
+held-none desk seat held none tags count = record {
+  tags = tags;
   count = count;
   each = λ j within. subst (IsHeldAt desk seat j) (sym (none j None (omega arith))) tt;
 }

@@ -1,5 +1,5 @@
 -- The lines of a pump: each is home, or out with a claim that is held.
-use Rattle.std.proofs.Common.{◌≡◌, ◌≢◌, ℕ, zero, suc, ◌-◌, ◌*◌, ◌/◌, ◌%◌, ◌<◌, ◌==◌, Bool, true, false, List, [], ◌∷◌, Option, Some, None, Result, Ok, Err, IfOk, IfErr, length, set, get_or, if◌then◌else◌, refl, sym, ap, subst, ◌∙◌, arith, eq-eqb}
+use Rattle.std.proofs.Common.{◌≡◌, ◌≢◌, ℕ, zero, suc, ◌-◌, ◌*◌, ◌%◌, ◌<◌, ◌==◌, Bool, true, false, List, [], ◌∷◌, Option, Some, None, Result, Ok, Err, IfOk, IfErr, length, set, get_or, if◌then◌else◌, refl, sym, ap, subst, ◌∙◌, arith, eq-eqb}
 use Rattle.std.specs.Prelude.{nat_lt, slice_index_or}
 use mathlib.Core.Logic.{dite}
 use native.Mathlib.Decide.{ℕ_discrete}
@@ -7,7 +7,7 @@ use Rattle.std.proofs.Math.ListN.{length-set}
 use Rattle.std.proofs.lemmas.Bool.{lt-ltb}
 use Rattle.std.proofs.lemmas.Grind.{get_or-set_at}
 use Rattle.std.proofs.lemmas.List.{get_or-set_other}
-use Rattle.uas_profile.specs.declared.TheConstants.{TAGS}
+use Rattle.uas_profile.specs.Tags.{client_of}
 use Rattle.scsi_cmd.specs.declared.Reply.{Reply}
 use Rattle.scsi_cmd.specs.Replies.{reply_tag}
 use Rattle.shared_machine.specs.declared.Refusal.{Refusal}
@@ -41,13 +41,13 @@ pub home_accounted : (desk : MadeDesk) (seat : Server) (held : List (Option Held
 home_accounted desk seat held all k within serves none = all k within serves
 
 -- what was out is home once every claim that was held is given back
-pub given_back_home : (desk : MadeDesk) (old new : Server) (held : List (Option HeldClaim)) → length old.lines ≡ TAGS * desk.clients
+pub given_back_home : (desk : MadeDesk) (old new : Server) (held : List (Option HeldClaim)) → length old.lines ≡ desk.tags * desk.clients
     → AreAccounted desk old held → AreUnserved old held new → AreAllHome desk new
 given_back_home desk old new held count it ends k within serves =
     subst IsHomeLine (sym (ends.each k None (omega (arith, count, within))))
     (unserved_home (get_or held k None) (get_or old.lines k None) (λ none. it k within (serves ∙ ends.pump) none))
 
-gave_up_accounted : (desk : MadeDesk) (old new : Pump) → length old.seat.lines ≡ TAGS * desk.clients → AreAccounted desk old.seat old.held
+gave_up_accounted : (desk : MadeDesk) (old new : Pump) → length old.seat.lines ≡ desk.tags * desk.clients → AreAccounted desk old.seat old.held
     → GaveUp old new → AreAccounted desk new.seat new.held
 gave_up_accounted desk old new count it gave =
     home_accounted desk new.seat new.held (given_back_home desk old.seat new.seat old.held count it gave.ends)
@@ -62,7 +62,7 @@ finished_accounted desk tag ticket end old it k within serves none =
 
 -- IT IS HELD
 
-held_accounted : (desk : MadeDesk) (tag ticket : ℕ) (old : Pump) → length old.held ≡ TAGS * desk.clients → AreAccounted desk old.seat old.held
+held_accounted : (desk : MadeDesk) (tag ticket : ℕ) (old : Pump) → length old.held ≡ desk.tags * desk.clients → AreAccounted desk old.seat old.held
     → AreAccounted desk (claiming tag old).seat (set old.held (tag - 1) (Some (emptied desk tag ticket)))
 held_accounted desk tag ticket old count it k within serves none =
     dite (ℕ_discrete k (tag - 1))
@@ -74,21 +74,21 @@ held_accounted desk tag ticket old count it k within serves none =
     let was : get_or old.held k None ≡ None = sym (get_or-set_other old.held (tag - 1) k (Some (emptied desk tag ticket)) None e) ∙ none in
     subst IsHomeLine (sym (get_or-set_other old.seat.lines (tag - 1) k None None e)) (it k within serves was))
 
-submitted_accounted : (desk : MadeDesk) (tag ticket : ℕ) (refused : Option Refusal) (old : Pump) → length old.held ≡ TAGS * desk.clients
+submitted_accounted : (desk : MadeDesk) (tag ticket : ℕ) (refused : Option Refusal) (old : Pump) → length old.held ≡ desk.tags * desk.clients
     → AreAccounted desk old.seat old.held
     → AreAccounted desk (submitted refused (emptied desk tag ticket) (claiming tag old)).seat (submitted refused (emptied desk tag ticket) (claiming tag old)).held
 submitted_accounted desk tag ticket None old count it = held_accounted desk tag ticket old count it
 submitted_accounted desk tag ticket (Some refusal) old count it = finished_accounted desk tag ticket _ old it
 
 took_accounted : (took : Bool) (desk : MadeDesk) (client ticket : ℕ) (before after : BookedState) (old new : Pump)
-    → length old.held ≡ TAGS * desk.clients → AreAccounted desk old.seat old.held → TookInOrLeft desk client ticket before after old new took
+    → length old.held ≡ desk.tags * desk.clients → AreAccounted desk old.seat old.held → TookInOrLeft desk client ticket before after old new took
     → AreAccounted desk new.seat new.held
 took_accounted true desk client ticket before after old new count it took =
     subst (λ (p : Pump). AreAccounted desk p.seat p.held) (sym took.pump) (submitted_accounted desk took.tag ticket _ old count it)
 took_accounted false desk client ticket before after old new count it left =
     subst (λ (p : Pump). AreAccounted desk p.seat p.held) (sym left.1) it
 
-gave_up_in_accounted : (desk : MadeDesk) (client ticket : ℕ) (old new : Pump) → length old.seat.lines ≡ TAGS * desk.clients
+gave_up_in_accounted : (desk : MadeDesk) (client ticket : ℕ) (old new : Pump) → length old.seat.lines ≡ desk.tags * desk.clients
     → AreAccounted desk old.seat old.held → GaveUpIn desk client ticket old new → AreAccounted desk new.seat new.held
 gave_up_in_accounted desk client ticket old new count it gave =
     let claim : HeldClaim = emptied desk gave.tag ticket in
@@ -102,7 +102,7 @@ gave_up_in_accounted desk client ticket old new count it gave =
 
 -- what `pump_in` leaves
 pub in_accounted : (result : Result Bool Booking) (desk : MadeDesk) (client ticket : ℕ) (before after : BookedState) (old new : Pump)
-    → length old.seat.lines ≡ TAGS * desk.clients → length old.held ≡ TAGS * desk.clients → AreAccounted desk old.seat old.held
+    → length old.seat.lines ≡ desk.tags * desk.clients → length old.held ≡ desk.tags * desk.clients → AreAccounted desk old.seat old.held
     → IfOk result (TookInOrLeft desk client ticket before after old new) → IfErr result (λ booking. GaveUpIn desk client ticket old new)
     → AreAccounted desk new.seat new.held
 in_accounted (Ok took) desk client ticket before after old new lines count it done gave_up =
@@ -112,7 +112,7 @@ in_accounted (Err booking) desk client ticket before after old new lines count i
 
 -- A REPLY
 
-answered_claim : (desk : MadeDesk) (claim : HeldClaim) (end : Slip) (old : Pump) → length old.seat.lines ≡ TAGS * desk.clients
+answered_claim : (desk : MadeDesk) (claim : HeldClaim) (end : Slip) (old : Pump) → length old.seat.lines ≡ desk.tags * desk.clients
     → AreAccounted desk old.seat old.held → AreAccounted desk (finishing old.seat claim end) (set old.held (claim.tag - 1) None)
 answered_claim desk claim end old count it k within serves none =
     let line : Option WorkLine = Some (record { table = claim.table; index = claim.tag - 1; view = Finished claim.ticket end }) in
@@ -128,7 +128,7 @@ if_accounted : (b : Bool) (desk : MadeDesk) (one other : Pump) → AreAccounted 
 if_accounted true desk one other left right = left
 if_accounted false desk one other left right = right
 
-answered_at_accounted : (claim : Option HeldClaim) (desk : MadeDesk) (reply : Reply) (old : Pump) → length old.seat.lines ≡ TAGS * desk.clients
+answered_at_accounted : (claim : Option HeldClaim) (desk : MadeDesk) (reply : Reply) (old : Pump) → length old.seat.lines ≡ desk.tags * desk.clients
     → AreAccounted desk old.seat old.held → AreAccounted desk (answered_at claim reply old).seat (answered_at claim reply old).held
 answered_at_accounted None desk reply old count it = it
 answered_at_accounted (Some claim) desk reply old count it =
@@ -136,7 +136,7 @@ answered_at_accounted (Some claim) desk reply old count it =
     (record { seat = finishing old.seat claim (Answer reply); held = set old.held (claim.tag - 1) None }) old
     (answered_claim desk claim (Answer reply) old count it) it
 
-answered_accounted : (reply : Option Reply) (desk : MadeDesk) (old : Pump) → length old.seat.lines ≡ TAGS * desk.clients
+answered_accounted : (reply : Option Reply) (desk : MadeDesk) (old : Pump) → length old.seat.lines ≡ desk.tags * desk.clients
     → AreAccounted desk old.seat old.held → AreAccounted desk (answered reply old).seat (answered reply old).held
 answered_accounted None desk old count it = it
 answered_accounted (Some reply) desk old count it =
@@ -144,7 +144,7 @@ answered_accounted (Some reply) desk old count it =
 
 -- what `pump_out` leaves
 pub out_accounted : (result : Result Bool Booking) (desk : MadeDesk) (reply : Option Reply) (old new : Pump)
-    → length old.seat.lines ≡ TAGS * desk.clients → AreAccounted desk old.seat old.held → IfOk result (λ took. new ≡ answered reply old)
+    → length old.seat.lines ≡ desk.tags * desk.clients → AreAccounted desk old.seat old.held → IfOk result (λ took. new ≡ answered reply old)
     → IfErr result (λ booking. GaveUp old new) → AreAccounted desk new.seat new.held
 out_accounted (Ok took) desk reply old new count it done gave_up =
     subst (λ (p : Pump). AreAccounted desk p.seat p.held) (sym done) (answered_accounted reply desk old count it)
@@ -155,11 +155,11 @@ out_accounted (Err booking) desk reply old new count it done gave_up = gave_up_a
 if_lt : (a b : ℕ) (x y : Option WorkLine) → a < b → (if nat_lt a b then x else y) ≡ x
 if_lt a b x y h = ap (λ c. if c then x else y) (lt-ltb a b h)
 
-pub new_home : (desk : MadeDesk) (p : ℕ) (seat : Server) → IsServerBelow desk (TAGS * desk.clients) p seat → AreAllHome desk seat
+pub new_home : (desk : MadeDesk) (p : ℕ) (seat : Server) → IsServerBelow desk (desk.tags * desk.clients) p seat → AreAllHome desk seat
 new_home desk p seat new k within serves =
-    let mine : k / TAGS % desk.pumps ≡ p = serves ∙ new.pump in
+    let mine : client_of desk.tags (suc k) % desk.pumps ≡ p = serves ∙ new.pump in
     let line : Option WorkLine = Some (record { table = desk.table; index = k; view = Idle }) in
-    let here : (if k / TAGS % desk.pumps == p then line else None) ≡ line =
-    ap (λ b. if b then line else None) (eq-eqb (k / TAGS % desk.pumps) p mine) in
+    let here : (if client_of desk.tags (suc k) % desk.pumps == p then line else None) ≡ line =
+    ap (λ b. if b then line else None) (eq-eqb (client_of desk.tags (suc k) % desk.pumps) p mine) in
     subst IsHomeLine
-    (sym (new.lines k None within ∙ if_lt k (TAGS * desk.clients) (if k / TAGS % desk.pumps == p then line else None) None within ∙ here)) tt
+    (sym (new.lines k None within ∙ if_lt k (desk.tags * desk.clients) (if client_of desk.tags (suc k) % desk.pumps == p then line else None) None within ∙ here)) tt

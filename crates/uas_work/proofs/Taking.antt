@@ -1,34 +1,40 @@
 -- A client's slip is claimed and booked: from the claim to what `pump_in` tells.
-use Rattle.std.proofs.Common.{◌≡◌, ℕ, ◌+◌, ◌-◌, ◌*◌, ◌/◌, ◌%◌, ◌<◌, Bool, true, false, List, Option, Some, None, Result, Ok, Err, IfOk, IfErr, get_or, refl, sym, ap, subst, ◌∙◌, arith}
+use Rattle.std.proofs.Common.{◌≡◌, ℕ, ◌+◌, ◌-◌, ◌*◌, ◌/◌, ◌%◌, ◌<◌, ◌≤◌, Bool, true, false, List, Option, Some, None, Result, Ok, Err, IfOk, IfErr, get_or, refl, sym, ap, subst, ◌∙◌, arith}
 use Rattle.uas_profile.specs.declared.TheConstants.{TAGS}
+use Rattle.uas_profile.specs.Tags.{client_of}
+use Rattle.uas_profile.proofs.TagLaws.{client-of_some}
 use Rattle.shared_machine.specs.declared.Step.{Step}
 use Rattle.tag_desk.specs.declared.Slip.{Slip}
 use Rattle.tag_desk.specs.Slips.{IsAsk}
 use Rattle.tag_desk.specs.Seats.{MadeDesk, Server, HeldClaim, ClaimsAt, IsAway, IsServed, IsTagOf}
 use Rattle.uas_work.specs.declared.Booking.{Booking}
 use Rattle.uas_work.specs.Booked.{BookedState, booked_step}
-use Rattle.uas_work.specs.Held.{Pump, AreHeldBy, ServesClient}
+use Rattle.uas_work.specs.Held.{Pump, AreHeldBy, IsTaggedAsBus, ServesClient}
 use Rattle.uas_work.specs.Pumps.{Given, GaveUpIn, GaveUpWith, TookInOrLeft, asked, brought, claiming, emptied, submitted}
 use Rattle.uas_work.proofs.Holding.{held-given}
 
 -- THE TAGS OF A CLIENT
 
-pub client_at : (client index tag : ℕ) → index < TAGS → tag ≡ TAGS * client + index + 1 → (tag - 1) / TAGS ≡ client
-client_at client index tag within is = omega arith
+pub client_at : (client index tag : ℕ) → index < TAGS → tag ≡ TAGS * client + index + 1 → client_of TAGS tag ≡ client
+client_at client index tag within is = let first : (tag - 1) / TAGS ≡ client = omega arith in sym (client-of_some TAGS tag (omega arith)) ∙ first
 
-pub served_at : (desk : MadeDesk) (seat : Server) (client index tag : ℕ) → ServesClient desk seat client → index < TAGS
+pub served_at : (desk : MadeDesk) (seat : Server) (client index tag : ℕ) → IsTaggedAsBus desk → ServesClient desk seat client → index < TAGS
     → tag ≡ TAGS * client + index + 1 → IsServed desk seat tag
-served_at desk seat client index tag serves within is =
+served_at desk seat client index tag tags serves within is =
     let below : client < desk.clients = serves.0 in
-    (omega arith, omega arith, ap (λ c. c % desk.pumps) (client_at client index tag within is) ∙ serves.2)
+    let most : tag ≤ TAGS * desk.clients = omega arith in (
+      omega arith,
+      subst (λ n. tag ≤ n * desk.clients) (sym tags) most,
+      ap (λ n. client_of n tag % desk.pumps) tags ∙ ap (λ c. c % desk.pumps) (client_at client index tag within is) ∙ serves.2,
+    )
 
 -- THE CLAIM
 
 pub given_at : (desk : MadeDesk) (ticket tag : ℕ) (full empty : HeldClaim) (slip : Slip) (seat new : Server) (held : List (Option HeldClaim))
-    → IsServed desk seat tag → get_or held (tag - 1) None ≡ None → full.table ≡ desk.table → ClaimsAt seat new tag ticket full → IsAway new tag
+    → IsTaggedAsBus desk → IsServed desk seat tag → get_or held (tag - 1) None ≡ None → full.table ≡ desk.table → ClaimsAt desk.tags seat new tag ticket full → IsAway new tag
     → full.slip ≡ Some slip → empty ≡ record full { slip = None }
-    → Given desk ((tag - 1) / TAGS) ticket empty slip (record { seat = seat; held = held }) new
-given_at desk ticket tag full empty slip seat new held served free table claims away has is =
+    → Given desk (client_of TAGS tag) ticket empty slip (record { seat = seat; held = held }) new
+given_at desk ticket tag full empty slip seat new held tags served free table claims away has is =
     let named : empty.tag ≡ tag = ap (λ (k : HeldClaim). k.tag) is ∙ claims.3 in
     let same : claims.0 ≡ slip = let e : Some claims.0 ≡ Some slip = sym claims.2 ∙ has in cc in
     record {
@@ -36,9 +42,9 @@ given_at desk ticket tag full empty slip seat new held served free table claims 
           is ∙ (λ i. record { table = table i; tag = claims.3 i; ticket = claims.4 i; slip = None })
           ∙ ap (λ t. emptied desk t ticket) (sym named);
       asks = record {
-        own = subst (λ t. IsTagOf ((tag - 1) / TAGS) t) (sym named) (served.0, refl);
+        own = subst (λ t. IsTagOf TAGS (client_of TAGS tag) t) (sym named) (served.0, refl);
         free = subst (λ t. get_or held (t - 1) None ≡ None) (sym named) free;
-        ask = subst (λ t. IsAsk t ticket slip) (sym named) (subst (λ x. IsAsk tag ticket x) same claims.1);
+        ask = subst (λ t. IsAsk TAGS t ticket slip) (sym named) (subst (λ (p : ℕ × Slip). IsAsk p.0 tag ticket p.1) (λ i. (tags i, same i)) claims.1);
       };
       served = subst (IsServed desk seat) (sym named) served;
       away = subst (IsAway new) (sym named) away;

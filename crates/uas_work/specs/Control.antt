@@ -3,18 +3,17 @@
 use Rattle.std.specs.Prelude.{◌≡◌, ℕ, ◌*◌, ◌<◌, ◌≤◌, Bool, true, false, length}
 use Rattle.uas_profile.specs.declared.Pipe.{Pipe}
 use Rattle.uas_profile.specs.declared.Pipe.TheVariants.{Command, Status as StatusPipe, DataIn, DataOut}
-use Rattle.uas_profile.specs.declared.TheConstants.{TAGS}
 use Rattle.shared_machine.specs.declared.Step.{Step}
 use Rattle.shared_machine.specs.declared.Step.TheVariants.{Submit, Task, CommandPipe, Data, Status, Engine, Event, Retire, Take}
 use Rattle.shared_machine.specs.Bus.{HasTicket}
-use Rattle.shared_machine.specs.Shared.{Shared, due}
+use Rattle.shared_machine.specs.Shared.{Shared, due, greatest_tag}
 use Rattle.uas_work.specs.Booked.{BookedState, booked_step}
 
 -- WHOSE A STEP IS
 
 -- the tag is one of a client that is there
 abbrev pub IsTag : Shared → ℕ → Type 0
-IsTag state tag = (0 < tag) × (tag ≤ length state.parts * TAGS)
+IsTag state tag = (0 < tag) × (tag ≤ greatest_tag state)
 
 -- what the controller and the device do
 abbrev pub IsControl : Shared → Step → Type 0
@@ -67,7 +66,7 @@ AreLeftBelow step says state below = (tag : ℕ) → 0 < tag → tag < below →
 
 -- and of all tags
 abbrev pub AllAreLeft : (ℕ → Step) → (Step → Bool → Type 0) → Shared → Type 0
-AllAreLeft step says state = AreLeftUpTo step says state (length state.parts * TAGS)
+AllAreLeft step says state = AreLeftUpTo step says state (greatest_tag state)
 
 -- what comes before a retirement of a tag on a pipe isn't due, or wasn't allowed
 abbrev pub AreLeftBeforeRetirement : (Step → Bool → Type 0) → Shared → Pipe → ℕ → Type 0

@@ -4,6 +4,7 @@ use Rattle.std.specs.Option.{option_map_or}
 use Rattle.shared_machine.specs.declared.Refusal.{Refusal}
 use Rattle.shared_machine.specs.declared.Step.{Step}
 use Rattle.shared_machine.specs.declared.Step.TheVariants.{Submit, Task, CommandPipe, Data, Status, Engine, Event, Retire, Take}
+use Rattle.uas_profile.specs.declared.TheConstants.{TAGS}
 use Rattle.tag_desk.specs.declared.Slip.{Slip}
 use Rattle.tag_desk.specs.declared.Slip.TheVariants.{Ask, AskTask, Answer, Refused, Unserved}
 use Rattle.tag_desk.specs.Slips.{IsAsk}
@@ -58,9 +59,9 @@ pub record GaveUpWith (claim : HeldClaim) (buffer : List ℕ) (old new : Pump) :
 
 -- a slip with this ticket can be claimed on a tag: the tag is the client's, and no claim of it is held
 pub record Asks (client ticket tag : ℕ) (slip : Slip) (old : Pump) : Type 0 where
-  pub own : IsTagOf client tag
+  pub own : IsTagOf TAGS client tag
   pub free : slice_index_or old.held (tag - 1) None ≡ None
-  pub ask : IsAsk tag ticket slip
+  pub ask : IsAsk TAGS tag ticket slip
 
 -- the claim of a client's ticket was given, and its slip taken out
 pub record Given (desk : MadeDesk) (client ticket : ℕ) (claim : HeldClaim) (slip : Slip) (old : Pump) (new : Server) : Type 0 where
@@ -96,7 +97,7 @@ pub record GaveUpIn (desk : MadeDesk) (client ticket : ℕ) (old new : Pump) : T
 pub record Entered (client : ℕ) (before after : BookedState) : Type 0 where
   pub tag : ℕ
   pub slip : Slip
-  pub ask : IsAsk tag (turns_in client before.log.steps) slip
+  pub ask : IsAsk TAGS tag (turns_in client before.log.steps) slip
   pub booked : after ≡ (booked_step before (asked client tag slip)).0
 
 abbrev pub EnteredOrLeft : ℕ → BookedState → BookedState → Type 0

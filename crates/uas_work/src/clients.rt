@@ -1,6 +1,7 @@
 //! The part of a client: it posts its commands on the desk and looks for what they came to.
 ghost use Rattle.std.specs.Prelude.{◌≡◌, ◌+◌, ◌≤◌, ◌<◌, ◌^◌, IfSome, vec_len, vec_capacity};
 ghost use Rattle.tag_desk.specs.Seats.{IsClientOf, IsTagOf};
+ghost use Rattle.uas_profile.specs.declared.TheConstants.{TAGS};
 ghost use Rattle.uas_work.specs.Parts.{HasRoomForRounds, IsClientPart, IsSeatOfClient};
 
 use crate::desk_and_board::DeskAndBoard;
@@ -104,7 +105,7 @@ impl ClientPart {
         ensures part { IsClientPart shared.now.desk shared.now.board self.new }
         ensures same { self.new.client ≡ self.old.client }
         ensures room { self.new.replies ≡ self.old.replies }
-        ensures tag { IfSome result (IsTagOf self.new.client) }
+        ensures tag { IfSome result (IsTagOf TAGS self.new.client) }
     {
         let (tag, ticket) = self.tags.issue().ok()?;
         if !self.seat.is_free(tag) {
@@ -115,7 +116,9 @@ impl ClientPart {
             .post(&mut self.seat, tag, Slip::Ask { ticket, command });
         let client = usize::from(self.client);
         let index = usize::from(tag) - TAGS * client;
-        shared.board.ring(&mut self.bell, place(client, index));
+        shared
+            .board
+            .ring(&mut self.bell, place(TAGS, client, index));
         Some(tag)
     }
 
@@ -129,7 +132,7 @@ impl ClientPart {
         tag: u16,
     ) -> Option<Slip>
         requires part { IsClientPart shared.now.desk shared.now.board self.old }
-        requires tag { IsTagOf self.old.client tag }
+        requires tag { IsTagOf TAGS self.old.client tag }
         ensures part { IsClientPart shared.now.desk shared.now.board self.new }
         ensures same { self.new.client ≡ self.old.client }
         ensures room { self.new.replies ≡ self.old.replies }

@@ -1,6 +1,6 @@
 //! Where clients and pumps meet: the desk of slips, and the board of doorbells.
 ghost use Rattle.std.specs.Prelude.{◌≡◌, ◌*◌, ◌≤◌, All, IfOk};
-ghost use Rattle.uas_profile.specs.declared.TheConstants.{MAX_CLIENTS, TAGS};
+ghost use Rattle.uas_profile.specs.declared.TheConstants.{USUAL_CLIENTS, TAGS};
 ghost use Rattle.tag_desk.specs.Seats.{AreNewCustomers, AreServersBelow, IsClientOf, IsPumpOf};
 ghost use Rattle.door_board.specs.Counts.{IsSeatOf};
 ghost use Rattle.uas_work.specs.Parts.{AreClientParts, ArePumpParts, IsDeskFor};
@@ -38,7 +38,7 @@ pub(crate) fn open_desk_and_board(
     rounds: u32,
 ) -> Result<Opened, AllocError>
     requires some { 1 ≤ clients }
-    requires most { clients ≤ MAX_CLIENTS }
+    requires most { clients ≤ USUAL_CLIENTS }
     ensures number { IfOk result (λ opened. opened.shared.clients ≡ clients) }
     ensures clients { IfOk result (λ opened. AreClientParts opened.shared.desk opened.shared.board rounds opened.clients.items) }
     ensures pumps { IfOk result (λ opened. ArePumpParts opened.shared.desk opened.shared.board opened.pumps.items) }
@@ -74,7 +74,7 @@ impl DeskAndBoard {
         bells: &mut Vec<Seat>,
         rounds: u32,
     ) -> Result<Vec<ClientPart>, AllocError>
-        requires seats { AreNewCustomers self.now.desk.table self.now.clients seats.items }
+        requires seats { AreNewCustomers self.now.desk.table TAGS self.now.clients seats.items }
         requires own { All (IsClientOf self.now.desk) seats.items }
         requires bells { All (IsSeatOf self.now.board) bells.old.items }
         ensures bells { All (IsSeatOf self.now.board) bells.new.items }

@@ -22,9 +22,10 @@ pub(crate) trait Origin {
 impl Origin for Brand {
     ghost use Rattle.std.specs.Prelude.{[]};
     ghost use Rattle.shared_machine.specs.Shared.{opening};
+    ghost use Rattle.uas_profile.specs.declared.TheConstants.{TAGS};
     ghost use Rattle.uas_log.specs.Booking.{empty_log};
 
-    ghost first = { record { bus = opening []; log = empty_log []; limit = 0 } };
+    ghost first = { record { bus = opening TAGS []; log = empty_log TAGS []; limit = 0 } };
 }
 
 /// The bus that was handed in, with more steps.

@@ -1,6 +1,6 @@
 //! A bus and its log as they begin.
 ghost use Rattle.std.specs.Prelude.{◌≡◌, ℕ, ◌<◌, ◌≤◌, ◌^◌, All, IfOk, length, map, vec_len};
-ghost use Rattle.uas_profile.specs.declared.TheConstants.{MAX_CLIENTS};
+ghost use Rattle.uas_profile.specs.declared.TheConstants.{USUAL_CLIENTS, TAGS};
 ghost use Rattle.uas_log.specs.Booking.{empty_log, first_maps};
 ghost use Rattle.uas_work.specs.Booked.{IsNew, first_unit, new_booked};
 
@@ -11,14 +11,14 @@ use std::alloc::{AllocError, Global};
 use uas_log::{
     BlockBytes, BlockNumbers, FirstUnit, FirstUnits, Log, RefusalNumbers, Replies, Steps,
 };
-use uas_profile::{MAX_CLIENTS, TAGS};
+use uas_profile::{TAGS, USUAL_CLIENTS};
 
 impl Booked {
     /// The bus of these units, the unit of client c at place c, whose log may hold `limit` steps. Asks for 1 to 15 units that
     /// are as new: the blocks of each are its medium's, and no attention is established. `AllocError` where there is no memory.
     pub fn new(alloc: Global, units: Vec<Unit>, limit: usize) -> Result<Booked, AllocError>
         requires some { 1 ≤ vec_len units }
-        requires most { vec_len units ≤ MAX_CLIENTS }
+        requires most { vec_len units ≤ USUAL_CLIENTS }
         requires fresh { All IsNew units.items }
         requires limit { limit < 2 ^ 32 }
         ensures { IfOk result (λ booked. booked ≡ new_booked units.items limit) }
@@ -30,14 +30,14 @@ impl Booked {
             bus,
             log,
             limit,
-            turns: [0; MAX_CLIENTS],
+            turns: [0; USUAL_CLIENTS],
         })
     }
 }
 
 /// The log of these first units that has no step; takes no memory.
 fn new_log(alloc: Global, units: Vec<FirstUnit>) -> Log
-    ensures { result ≡ empty_log units.items }
+    ensures { result ≡ empty_log TAGS units.items }
 {
     Log {
         tags: TAGS,

@@ -3,7 +3,7 @@ use std::array;
 use std::sync::Wait;
 use std::thread::Parker;
 use std::time::Duration;
-use uas_profile::MAX_CLIENTS;
+use uas_profile::USUAL_CLIENTS;
 
 const MOST_PUMPS: usize = 4;
 
@@ -25,7 +25,7 @@ pub(crate) enum Worker {
 /// A parker for each worker.
 #[derive(Drop)]
 pub(crate) struct Parkers {
-    clients: [Parker; MAX_CLIENTS],
+    clients: [Parker; USUAL_CLIENTS],
     pumps: [Parker; MOST_PUMPS],
     controllers: [Parker; MOST_CONTROLLERS],
     dispatcher: Parker,
@@ -76,7 +76,7 @@ impl Parkers {
     }
 
     /// Unparks the clients that have a reply.
-    pub(crate) fn unpark_replied(&self, replied: &[bool; MAX_CLIENTS]) {
+    pub(crate) fn unpark_replied(&self, replied: &[bool; USUAL_CLIENTS]) {
         for (parker, has_reply) in self.clients.iter().zip(replied) {
             if *has_reply {
                 parker.unpark();

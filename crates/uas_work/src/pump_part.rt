@@ -19,7 +19,7 @@ use door_board::WORDS;
 use std::alloc::Global;
 use std::sync::Wait;
 use tag_desk::WorkSeat;
-use uas_profile::MAX_CLIENTS;
+use uas_profile::USUAL_CLIENTS;
 
 /// The most rounds that a pump takes in one hold of the lock: what its clients post meanwhile is served with it.
 const MOST_ROUNDS: u32 = 8;
@@ -81,7 +81,7 @@ impl PumpPart {
             if !self.is_called(shared) && !is_busy {
                 locked.park(rt, Worker::Pump(self.pump));
             }
-            let mut replied = [false; MAX_CLIENTS];
+            let mut replied = [false; USUAL_CLIENTS];
             match self.served_all(rt, locked, shared, gate, &mut replied) {
                 Ok(served) => is_busy = served,
                 Err(booking) => locked.end(Ended::from_booking(booking)),
@@ -112,7 +112,7 @@ impl PumpPart {
         locked: &LockedBus<J>,
         shared: &DeskAndBoard,
         gate: &G,
-        replied: &mut [bool; MAX_CLIENTS],
+        replied: &mut [bool; USUAL_CLIENTS],
     ) -> Result<bool, Booking>
         requires part { IsPumpPart shared.now.desk shared.now.board self.old }
         ensures part { IsPumpPart shared.now.desk shared.now.board self.new }
@@ -135,7 +135,7 @@ impl PumpPart {
         handed: &mut Handed<J>,
         shared: &DeskAndBoard,
         gate: &G,
-        replied: &mut [bool; MAX_CLIENTS],
+        replied: &mut [bool; USUAL_CLIENTS],
     ) -> Result<bool, Booking>
         requires part { IsPumpPart shared.now.desk shared.now.board self.old }
         ensures part { IsPumpPart shared.now.desk shared.now.board self.new }

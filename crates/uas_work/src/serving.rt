@@ -1,13 +1,14 @@
 //! The part of a pump: it books what its clients posted on the desk, and brings home what it came to.
 ghost use Rattle.std.specs.Prelude.{◌≡◌, ℕ, ◌+◌, ◌-◌, ◌*◌, ◌/◌, ◌<◌, ◌≤◌, ◌^◌, IfOk, IfErr, IfSome, IfNone, IsErrAnd, MatchResult, None, Some, false, true, length, slice_index_or};
-ghost use Rattle.uas_profile.specs.declared.TheConstants.{MAX_CLIENTS, TAGS};
+ghost use Rattle.uas_profile.specs.declared.TheConstants.{USUAL_CLIENTS, TAGS};
+ghost use Rattle.uas_profile.specs.Tags.{client_of};
 ghost use Rattle.shared_machine.specs.declared.Step.{Step};
 ghost use Rattle.shared_machine.specs.Bus.{HasTicket};
 ghost use Rattle.shared_machine.specs.Shared.{due};
 ghost use Rattle.tag_desk.specs.Slips.{IsAsk};
 ghost use Rattle.tag_desk.specs.Seats.{IsPumpOf, IsServed, IsAway};
 ghost use Rattle.uas_work.specs.Booked.{booked_step, turns_in};
-ghost use Rattle.uas_work.specs.Held.{AreHeldBy, ServesClient, GaveUp, answered};
+ghost use Rattle.uas_work.specs.Held.{AreHeldBy, IsTaggedAsBus, ServesClient, GaveUp, answered};
 ghost use Rattle.uas_work.specs.Pumps.{TookInOrLeft, GaveUpIn, GaveUpWith, Given, asked, brought, handed_back, submitted};
 
 use crate::{Booked, Booking, Held};
@@ -131,7 +132,7 @@ fn claimed(
 
 /// The tag at an index of a client's, the first at 0.
 fn tag_at(client: usize, index: usize) -> u16
-    requires client { client < MAX_CLIENTS }
+    requires client { client < USUAL_CLIENTS }
     requires index { index < TAGS }
     ensures { result ≡ TAGS * client + index + 1 }
 {
@@ -147,12 +148,13 @@ fn claimed_at(
     ticket: u64,
 ) -> Option<(Claim, Slip)>
     requires own { IsPumpOf desk.now seat.old }
-    requires count { length held.now ≡ TAGS * desk.now.clients }
+    requires tags { IsTaggedAsBus desk.now }
+    requires count { length held.now ≡ desk.now.tags * desk.now.clients }
     requires served { IsServed desk.now seat.old tag }
     requires ticket { ticket < 2 ^ 60 }
     ensures none { IfNone result (seat.new ≡ seat.old) }
     ensures own { IsPumpOf desk.now seat.new }
-    ensures given { IfSome result (λ given. Given desk.now ((tag - 1) / TAGS) ticket given.0 given.1 (record { seat = seat.old; held = held.now }) seat.new) }
+    ensures given { IfSome result (λ given. Given desk.now (client_of TAGS tag) ticket given.0 given.1 (record { seat = seat.old; held = held.now }) seat.new) }
 {
     if !held.is_free(tag) {
         return None;
@@ -238,7 +240,7 @@ fn settle(
 
 /// The step that a client's slip on a tag asks for. Asks for a slip that a client posts there with the ticket.
 fn asked(client: usize, tag: u16, ticket: u64, slip: Slip) -> Step
-    requires ask { IsAsk tag ticket slip }
+    requires ask { IsAsk TAGS tag ticket slip }
     requires ticket { ticket < 2 ^ 60 }
     ensures step { result ≡ asked client tag slip }
     ensures ticket { HasTicket result }

@@ -1,7 +1,7 @@
 //! Steps of a bus that are booked.
-ghost use Rattle.std.specs.Prelude.{◌≡◌, ℕ, ◌<◌, ◌^◌, true, IfOk, IfErr, OnErr, IsErrAnd, length};
+ghost use Rattle.std.specs.Prelude.{◌≡◌, ℕ, ◌<◌, ◌≤◌, ◌^◌, true, IfOk, IfErr, OnErr, IsErrAnd, length};
 ghost use Rattle.shared_machine.specs.Bus.{HasTicket};
-ghost use Rattle.uas_profile.specs.declared.TheConstants.{MAX_CLIENTS};
+ghost use Rattle.uas_profile.specs.declared.TheConstants.{USUAL_CLIENTS};
 ghost use Rattle.shared_machine.specs.Shared.{due};
 ghost use Rattle.shared_machine.specs.Rooms.{step_len};
 ghost use Rattle.uas_work.specs.Booked.{IsBooked, booked_step, turns_in};
@@ -11,7 +11,7 @@ use crate::{Booked, Booking};
 use bus_core::{Bus, Outcome, Step};
 use std::alloc::Global;
 use uas_log::{Growth, Log};
-use uas_profile::MAX_CLIENTS;
+use uas_profile::USUAL_CLIENTS;
 
 impl Booked {
     /// The bus.
@@ -19,6 +19,15 @@ impl Booked {
         ensures { result.now ≡ self.now.bus }
     {
         &self.bus
+    }
+
+    /// How many clients the bus has: 1 to 15.
+    pub(crate) fn clients(&self) -> usize
+        ensures count { result ≡ length self.now.bus.parts }
+        ensures some { 1 ≤ result }
+        ensures most { result ≤ USUAL_CLIENTS }
+    {
+        self.bus.clients()
     }
 
     /// The log: the bus is what its replay comes to, and its refusals and replies are that replay's.
@@ -45,7 +54,7 @@ impl Booked {
 
     /// How many submissions of a client the log has, refused ones too.
     pub fn turn(&self, client: usize) -> u64
-        requires { client < MAX_CLIENTS }
+        requires { client < USUAL_CLIENTS }
         ensures turns { result ≡ turns_in client self.now.log.steps }
         ensures small { result < 2 ^ 32 }
     {

@@ -97,8 +97,7 @@ pub fn spawn_all<R: Threads + Wait + Sync, G: Gate + Sync>(
     ensures held { IfOk result (λ finished. IfSome finished.left (λ left. left.held ≡ [])) }
     ensures err { IfErr result (λ back. back.1 ≡ booked) }
 {
-    let Ok(opened) = open_desk_and_board(alloc, booked.bus().clients(), plan.pumps, plan.rounds)
-    else {
+    let Ok(opened) = open_desk_and_board(alloc, booked.clients(), plan.pumps, plan.rounds) else {
         return Err((AllocError, booked));
     };
     let Ok(lists) = make_lists(alloc, opened.shared.clients, opened.shared.pumps) else {

@@ -47,8 +47,8 @@ use denote.Triple.Walked.{says, Stay, Stays, stay_none, walk_of, Goes, Goes-none
 use Rattle.c_common.proofs.ExportCode.{copied, one_local}
 use Rattle.guest_memory.specs.declared.lend.Lent.{Lent}
 use Rattle.guest_memory.specs.contracts.lend.Lent.{the_row as lent_row}
-use Rattle.guest_notes.specs.declared.WrittenRange.{WrittenRange}
-use Rattle.guest_notes.specs.contracts.WrittenRange.{the_row as range_row}
+use Rattle.guest_memory.specs.declared.notes.WrittenRange.{WrittenRange}
+use Rattle.guest_memory.specs.contracts.notes.WrittenRange.{the_row as range_row}
 
 -- THE CODE
 

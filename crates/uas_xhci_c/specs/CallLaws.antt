@@ -7,7 +7,7 @@ use Rattle.std.proofs.lemmas.Bool.{and_parts, cases_Bool, false≢true}
 use Rattle.std.proofs.lemmas.Option.{none-some, same_Some}
 use Rattle.c_common.specs.Bytes.{yes}
 use Rattle.c_common.specs.Door.{After, with_bytes}
-use Rattle.c_faults.specs.declared.TheConstants.{TASKS_CALL, TASKS_LENGTH, TASKS_NOT_OUT}
+use Rattle.c_common.specs.declared.faults.TheConstants.{TASKS_CALL, TASKS_LENGTH, TASKS_NOT_OUT}
 use Rattle.guest_tasks.specs.Active.{asks_on, is_asking}
 use Rattle.uas_tasks.specs.declared.AnswerFault.{AnswerFault}
 use Rattle.uas_tasks.specs.declared.AnswerFault.TheVariants.{NotOut, WrongLength}

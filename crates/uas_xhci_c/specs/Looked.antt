@@ -4,7 +4,7 @@ use Rattle.guest_memory.specs.Bytes.{is_there}
 use Rattle.guest_memory.specs.Held.{held}
 use Rattle.guest_memory.specs.Lend.{lent_in}
 use Rattle.guest_memory.specs.declared.lend.Lent.{Lent}
-use Rattle.guest_rings.specs.declared.wanting.Range.{Range}
+use Rattle.guest_memory.specs.declared.rings.wanting.Range.{Range}
 use Rattle.xhci_machine.specs.declared.Machine.{Machine}
 use Rattle.xhci_machine.specs.Wanted.{wanted}
 use Rattle.uas_xhci_c.specs.declared.wants.UasXhciRange.{UasXhciRange}

@@ -4,8 +4,8 @@ use Rattle.guest_memory.specs.Bytes.{Memory}
 use Rattle.guest_memory.specs.Held.{held}
 use Rattle.guest_memory.specs.Lend.{lent_in}
 use Rattle.guest_memory.specs.declared.lend.Lent.{Lent}
-use Rattle.guest_notes.specs.declared.WrittenRange.{WrittenRange}
-use Rattle.guest_notes.specs.Notes.{AreNoted, notes}
+use Rattle.guest_memory.specs.declared.notes.WrittenRange.{WrittenRange}
+use Rattle.guest_memory.specs.notes.Notes.{AreNoted, notes}
 use Rattle.xhci_machine.specs.declared.Machine.{Machine}
 use Rattle.xhci_machine.specs.declared.work.Worked.{Worked}
 use Rattle.xhci_machine.specs.Worked.{IsWorked}

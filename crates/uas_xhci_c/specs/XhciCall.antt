@@ -4,7 +4,7 @@ use Rattle.std.specs.List.{find, range_with_len}
 use Rattle.std.specs.Option.{option_map_or}
 use Rattle.c_common.specs.Bytes.{yes}
 use Rattle.c_common.specs.Door.{After, DoorAfter, numbered, refused, with_bytes}
-use Rattle.c_faults.specs.declared.TheConstants.{TASKS_CALL, TASKS_LENGTH, TASKS_NOT_OUT}
+use Rattle.c_common.specs.declared.faults.TheConstants.{TASKS_CALL, TASKS_LENGTH, TASKS_NOT_OUT}
 use Rattle.guest_tasks.specs.Active.{asks_on}
 use Rattle.guest_tasks.specs.declared.GuestTasks.{GuestTasks}
 use Rattle.uas_tasks.specs.declared.AnswerFault.{AnswerFault}

@@ -4,7 +4,7 @@ ghost use Rattle.uas_xhci_c.specs.CallLaws.{IsTold, IsWhole};
 ghost use Rattle.uas_xhci_c.specs.XhciCall.{after_answer, after_call, after_data, after_read, after_request, after_stale, after_write, call_numbered};
 ghost use Rattle.uas_xhci_c.specs.XhciCall.{outcome_numbered, width_of, with_next, with_request};
 
-use c_faults::{TASKS_CALL, TASKS_LENGTH, TASKS_NOT_OUT};
+use c_common::faults::{TASKS_CALL, TASKS_LENGTH, TASKS_NOT_OUT};
 use std::marker::Model;
 use uas_tasks::{AnswerFault, Next, Outcome, Request};
 use xhci_machine::{Machine, Width};

@@ -7,8 +7,8 @@ ghost use Rattle.uas_xhci_c.specs.Made.{IsMade};
 ghost use Rattle.uas_xhci_c.specs.contracts.door.KeptXhci.{the_row as xhci_row};
 
 use crate::door::KeptXhci;
+use c_common::faults::NO_MEMORY;
 use c_common::hand_out_made;
-use c_faults::NO_MEMORY;
 use c_tasks::{UasTasksUnit, make_tasks, making_fault};
 use std::alloc::Global;
 use xhci_machine::Machine;

@@ -1,6 +1,6 @@
 //! The regions of memory that are lent for a call, and what is refused of them.
 ghost use Rattle.std.specs.Prelude.{◌≡◌, ◌∷◌, [], nat_lt, not, true};
-ghost use Rattle.c_faults.specs.Faults.{all_faults, is_among};
+ghost use Rattle.c_common.specs.faults.Faults.{all_faults, is_among};
 ghost use Rattle.uas_xhci_c.specs.RegionLaws.{OverlapIsCommon};
 ghost use Rattle.std.specs.List.{list_all};
 ghost use Rattle.uas_xhci_c.specs.Regions.{are_apart, end, fits, overlap, region_faults, regions_fault};

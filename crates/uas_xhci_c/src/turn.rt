@@ -1,6 +1,6 @@
 //! A turn of the controller's steps over regions of memory that are lent for it.
 ghost use Rattle.std.specs.Prelude.{◌≡◌, ◌≤◌, false, length};
-ghost use Rattle.guest_notes.specs.Notes.{AreNoted, notes};
+ghost use Rattle.guest_memory.specs.notes.Notes.{AreNoted, notes};
 ghost use types.Logic.{sem};
 ghost use base.Fraction.{full_share};
 ghost use denote.RawPtr.{lies_at};
@@ -14,8 +14,8 @@ ghost use Rattle.uas_xhci_c.specs.Turned.{AreTold, Turned};
 use crate::door::KeptXhci;
 use crate::making::UasXhci;
 use crate::regions::regions_fault;
+use guest_memory::notes::{Beginning, Noted, WrittenRange};
 use guest_memory::{GuestMemory, Lent, Pieces};
-use guest_notes::{Beginning, Noted, WrittenRange};
 use std::marker::{Brand, PhantomData};
 use xhci_machine::{Machine, Worked};
 
@@ -122,7 +122,7 @@ fn work_plainly(machine: &mut Machine, regions: &mut [Lent], budget: u32) -> Wor
 }
 
 /// Steps over a memory whose writes are noted.
-#[tactic(auto, using(guest_notes::specs::Laws::same_first, guest_notes::specs::Laws::same_second))]
+#[tactic(auto, using(guest_memory::specs::notes::Laws::same_first, guest_memory::specs::notes::Laws::same_second))]
 fn work_noting<B: Beginning, M: GuestMemory>(
     machine: &mut Machine,
     memory: &mut M,

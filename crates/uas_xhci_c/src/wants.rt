@@ -14,8 +14,8 @@ ghost use Rattle.uas_xhci_c.specs.Looked.{Looked, range_told};
 use crate::door::KeptXhci;
 use crate::making::UasXhci;
 use crate::regions::regions_fault;
+use guest_memory::rings::Range;
 use guest_memory::{Lent, Pieces};
-use guest_rings::Range;
 use xhci_machine::Machine;
 
 /// `length` bytes from an address on.

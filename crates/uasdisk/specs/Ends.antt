@@ -6,6 +6,7 @@ use Rattle.clap.specs.declared.error.kind.ErrorKind.{ErrorKind}
 use Rattle.uas_words.specs.CommandLine.{Asked, replay, trace, work, keep, decode, make, info, dump, fill, audit, draw, page, capture, IsRequest, EndsRefused}
 use Rattle.disk_image.specs.Images.{blocks_in, made_image, made_text}
 use Rattle.uas_script.specs.Script.{script}
+use Rattle.uas_profile.specs.declared.TheConstants.{TAGS}
 use Rattle.uas_replay.specs.Told.{zeroed_units}
 use Rattle.uas_replay.specs.Runs.{Tells}
 use Rattle.disk_image.specs.Stops.{InfoPrints, AnswersOf}
@@ -62,7 +63,7 @@ ImageStops file host old new =
 pub record ReplayEnds (clients blocks : ℕ) (bad : Option ℕ) (host : Host) (old new : World) (status : ℕ) : Type 0 where
   pub statuses : (status ≤ 1) ⊎ ((status ≡ 3) ⊎ (status ≡ 4))
   pub told : status ≤ 1 → IfSome old.input (λ bytes.
-      Tells (zeroed_units clients blocks bad) (script clients bytes) old.output new.output status)
+      Tells TAGS (zeroed_units clients blocks bad) (script clients bytes) old.output new.output status)
   pub read : status ≤ 1 → IsTrue host.has_input × IsAtEnd new.input
   pub fault : status ≡ 3 → ScriptStops clients host old new
   pub memory : status ≡ 4 → Keeps old.output new.output
@@ -204,7 +205,7 @@ pub record DrawEnds (form : Form) (clients blocks : ℕ) (bad : Option ℕ) (hos
 pub record CaptureEnds (clients blocks : ℕ) (file : Text) (bad : Option ℕ) (host : Host) (old new : World) (status : ℕ) : Type 0 where
   pub statuses : (status ≤ 1) ⊎ ((status ≡ 3) ⊎ (status ≡ 4))
   pub told : status ≤ 1 → IfSome old.input (λ bytes.
-      Tells (zeroed_units clients blocks bad) (script clients bytes) old.output new.output status)
+      Tells TAGS (zeroed_units clients blocks bad) (script clients bytes) old.output new.output status)
   pub captured : status ≤ 1 → IsTrue host.tells → IsCapture (new.holds file)
   pub of : status ≤ 1 → IfSome old.input (λ bytes. IsTrue host.tells →
       CapturesScript (zeroed_units clients blocks bad) (script clients bytes) (new.holds file))

@@ -25,6 +25,7 @@ use std::rt::Clock;
 use std::sync::Wait;
 use std::thread::Threads;
 use uas_decode::run_decode;
+use uas_profile::TAGS;
 use uas_replay::{DONE, RunFault, WORDS_REFUSED, output_fault, run_script};
 use uas_trace::run_trace;
 use uas_words::{Run, run_of};
@@ -72,7 +73,7 @@ pub fn run_words<
     ensures quiet { may_show_progress ≡ false → result ≡ 0 → faults.new ≡ faults.old }
 {
     match run_of(alloc, words) {
-        Ok(Run::Replay(disks)) => run_script(alloc, disks, input, output, faults),
+        Ok(Run::Replay(disks)) => run_script(alloc, disks, TAGS, input, output, faults),
         Ok(Run::Trace(disks)) => run_trace(alloc, disks, input, output, faults),
         Ok(
             Run::Work {

@@ -4,7 +4,7 @@ use Rattle.usb_descriptors.specs.declared.Pipes.{Pipes}
 use Rattle.usb_descriptors.specs.declared.stream_tags.Streams.{Streams}
 use Rattle.usb_descriptors.specs.declared.DescriptorFault.{DescriptorFault}
 use Rattle.usb_descriptors.specs.declared.DescriptorFault.TheVariants.{NoStreams}
-use Rattle.usb_descriptors.specs.declared.TheConstants.{MOST_TAGS}
+use Rattle.usb_descriptors.specs.declared.TheConstants.{MOST_ASKED}
 
 -- the stream numbers of an array of 2^exponent contexts: number 0 is no stream
 abbrev pub numbers_of : ℕ → ℕ
@@ -14,7 +14,7 @@ numbers_of exponent = 2 ^ exponent - 1
 -- pipes with streams has. Checked by hand: 254 asked, MaxStreams 4 of each pipe and MaxPSASize 7 are 15 tags; MaxPSASize 0 is 1 tag.
 abbrev pub tags_of : ℕ → Pipes → ℕ → ℕ
 tags_of asked pipes max_psa_size =
-    min (min (min (min (min asked MOST_TAGS) (numbers_of (max_psa_size + 1))) (numbers_of pipes.status.max_streams)) (numbers_of pipes.data_in.max_streams))
+    min (min (min (min (min asked MOST_ASKED) (numbers_of (max_psa_size + 1))) (numbers_of pipes.status.max_streams)) (numbers_of pipes.data_in.max_streams))
     (numbers_of pipes.data_out.max_streams)
 
 -- MaxPStreams for so many tags: an array of 2^(MaxPStreams + 1) contexts, at least 4, is the smallest that has more contexts than there are tags

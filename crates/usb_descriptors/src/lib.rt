@@ -48,9 +48,9 @@ pub const MOST_CONFIGURATION_BYTES: u16 = 4096;
 const _: () = prove!(MOST_CONFIGURATION_BYTES == 4096);
 
 /// The most tags that can be asked for: tag 255 isn't used.
-pub const MOST_TAGS: u8 = 254;
+pub const MOST_ASKED: u8 = 254;
 
-const _: () = prove!(MOST_TAGS == 254);
+const _: () = prove!(MOST_ASKED == 254);
 
 /// An endpoint of a pipe.
 #[derive(Clone, Copy, Debug, PartialEq, Eq)]

@@ -2,7 +2,7 @@
 ghost use Rattle.std.specs.Prelude.{◌≡◌, ◌+◌, ◌*◌, ◌-◌, ◌^◌, ◌<◌, ◌≤◌, min, IfOk};
 ghost use Rattle.usb_descriptors.specs.Streams.{field_of, numbers_of, streams_of, tags_of};
 
-use crate::{DescriptorFault, MOST_TAGS, Pipes};
+use crate::{DescriptorFault, MOST_ASKED, Pipes};
 
 /// The tags that have streams, and the arrays of stream contexts for them.
 #[derive(Clone, Copy, Debug, PartialEq, Eq)]
@@ -36,9 +36,9 @@ pub fn streams_of(asked: u8, pipes: &Pipes, max_psa_size: u8) -> Result<Streams,
 
 fn tags_of(asked: u8, pipes: &Pipes, max_psa_size: u8) -> u8
     ensures value { result ≡ tags_of asked pipes.now max_psa_size }
-    ensures most { result ≤ MOST_TAGS }
+    ensures most { result ≤ MOST_ASKED }
 {
-    let tags = asked.min(MOST_TAGS);
+    let tags = asked.min(MOST_ASKED);
     let tags = with_numbers(tags, u16::from(max_psa_size) + 1);
     let tags = with_numbers(tags, u16::from(pipes.status.max_streams));
     let tags = with_numbers(tags, u16::from(pipes.data_in.max_streams));
@@ -47,9 +47,9 @@ fn tags_of(asked: u8, pipes: &Pipes, max_psa_size: u8) -> u8
 
 /// No more tags than 2 to a power contexts have stream numbers.
 fn with_numbers(tags: u8, exponent: u16) -> u8
-    requires { tags ≤ MOST_TAGS }
+    requires { tags ≤ MOST_ASKED }
     ensures value { result ≡ min tags (numbers_of exponent) }
-    ensures most { result ≤ MOST_TAGS }
+    ensures most { result ≤ MOST_ASKED }
 {
     if exponent < 8 {
         tags.min((1 << exponent) - 1)

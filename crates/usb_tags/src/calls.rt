@@ -1,7 +1,7 @@
 //! The calls of a session.
 ghost use Rattle.std.specs.Prelude.{◌≡◌, ◌≤◌, IfOk, length, vec_capacity};
 ghost use Rattle.std.specs.Option.{option_copied};
-ghost use Rattle.uas_profile.specs.declared.TheConstants.{MAX_CLIENTS};
+ghost use Rattle.uas_profile.specs.declared.TheConstants.{MAX_UNITS};
 ghost use Rattle.uas_tasks.specs.Machine.{bytes_out};
 ghost use Rattle.usb_places.specs.declared.TheConstants.{MOST_TRANSFER_BYTES};
 ghost use Rattle.usb_places.specs.Places.{given_at};
@@ -30,7 +30,7 @@ impl UsbTags {
         strings: UsbStrings,
         chunk: u16,
     ) -> Result<UsbTags, AllocError>
-        requires units { length shapes.now ≤ MAX_CLIENTS }
+        requires units { length shapes.now ≤ MAX_UNITS }
         requires some { 1 ≤ chunk }
         requires most { chunk ≤ 128 }
         ensures { IfOk result (λ device. device ≡ opening shapes.now set strings chunk) }

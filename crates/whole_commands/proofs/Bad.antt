@@ -5,7 +5,7 @@ use Rattle.std.proofs.lemmas.Bool.{cases_Bool, cases_lt, and_from, and_parts, le
 use Rattle.block_unit.specs.BlockMaps.{BlockMaps, covers, meets_bad}
 use Rattle.device_server.specs.Server.{chunk_blocks, meets_bad_chunk}
 use Rattle.uas_profile.specs.declared.TheConstants.{CHUNK_BLOCKS}
-use Rattle.whole_transfers.specs.Transfers.{blocks_in}
+use Rattle.whole_commands.specs.transfers.Transfers.{blocks_in}
 
 -- a block of these and those is one of these or one of those
 covers-either : (lba few more block : ℕ) → covers lba few block ≡ false → covers (lba + few) more block ≡ false → covers lba (few + more) block ≡ false

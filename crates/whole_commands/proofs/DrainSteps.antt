@@ -6,7 +6,7 @@ use Rattle.std.proofs.lemmas.List.Elements.{All-append, All-cons, All-head, All-
 use Rattle.uas_profile.specs.declared.Pipe.TheVariants.{Status, DataIn, DataOut}
 use Rattle.shared_machine.specs.declared.Step.{Step}
 use Rattle.shared_machine.specs.declared.Step.TheVariants.{CommandPipe, Data, Status as StatusStep, Engine, Event, Retire}
-use Rattle.shared_machine.specs.Shared.{Shared, due, shared_step}
+use Rattle.shared_machine.specs.Shared.{Shared, due, greatest_tag, shared_step}
 use Rattle.shared_machine.specs.Drain.{all_tags, retirements, round, rounds, tried, tried_one, tries}
 use Rattle.shared_machine.specs.Laws.{AllDue, LeadsTo}
 use Rattle.shared_machine.specs.Replay.{replayed}
@@ -60,27 +60,27 @@ all-taken now (step ∷ steps) own =
 of-tags : (kind : ℕ → Step) (tags : List ℕ) → ((tag : ℕ) → IsBusStep (kind tag)) → All IsBusStep (map kind tags)
 of-tags kind tags own = All-map IsBusStep kind tags (λ k d within. own _)
 
-tries-own : (clients : ℕ) → All IsBusStep (tries clients)
-tries-own clients =
-    let tags : List ℕ = all_tags clients in
+tries-own : (greatest : ℕ) → All IsBusStep (tries greatest)
+tries-own greatest =
+    let tags : List ℕ = all_tags greatest in
     let first : List Step = CommandPipe ∷ Engine ∷ Event ∷ [] in
     let moves : List Step = first ++ map Data tags in
     let answers : List Step = moves ++ map StatusStep tags in
-    let status : List Step = answers ++ retirements clients Status in
-    let data_in : List Step = status ++ retirements clients DataIn in
+    let status : List Step = answers ++ retirements greatest Status in
+    let data_in : List Step = status ++ retirements greatest DataIn in
     let own_first : All IsBusStep first =
     All-cons IsBusStep CommandPipe (Engine ∷ Event ∷ []) tt (All-cons IsBusStep Engine (Event ∷ []) tt (All-cons IsBusStep Event [] tt (All-nil IsBusStep))) in
     let own_moves : All IsBusStep moves = All-append IsBusStep first (map Data tags) own_first (of-tags Data tags (λ tag. tt)) in
     let own_answers : All IsBusStep answers = All-append IsBusStep moves (map StatusStep tags) own_moves (of-tags StatusStep tags (λ tag. tt)) in
-    let own_status : All IsBusStep status = All-append IsBusStep answers (retirements clients Status) own_answers (of-tags (Retire Status) tags (λ tag. tt)) in
-    let own_data_in : All IsBusStep data_in = All-append IsBusStep status (retirements clients DataIn) own_status (of-tags (Retire DataIn) tags (λ tag. tt)) in
-    All-append IsBusStep data_in (retirements clients DataOut) own_data_in (of-tags (Retire DataOut) tags (λ tag. tt))
+    let own_status : All IsBusStep status = All-append IsBusStep answers (retirements greatest Status) own_answers (of-tags (Retire Status) tags (λ tag. tt)) in
+    let own_data_in : All IsBusStep data_in = All-append IsBusStep status (retirements greatest DataIn) own_status (of-tags (Retire DataIn) tags (λ tag. tt)) in
+    All-append IsBusStep data_in (retirements greatest DataOut) own_data_in (of-tags (Retire DataOut) tags (λ tag. tt))
 
 rounds-own : (most : ℕ) (now : Shared × ℕ) → Taken now ((rounds most now).state, (rounds most now).left)
 unfolding rounds
 rounds-own zero now = none-taken now
 rounds-own (suc more) now =
-    let one = all-taken now (tries (length now.0.parts)) (tries-own (length now.0.parts)) in
+    let one = all-taken now (tries (greatest_tag now.0)) (tries-own (greatest_tag now.0)) in
     ended-so (λ end. Taken now (end.state, end.left)) now.1 (round now) (rounds more (round now))
     (λ none. subst (λ n. Taken now ((round now).0, n)) none one) (λ some same. one)
     (λ some fewer. let rest = rounds more (round now) in both-taken now (round now) (rest.state, rest.left) one (rounds-own more (round now)))

@@ -10,3 +10,6 @@ pub mod Writing
 pub mod WriteRuns
 pub mod DrainSteps
 pub mod BusRuns
+mod Chunks
+pub mod ChunksRead
+pub mod ChunksWritten

@@ -24,7 +24,7 @@ use Rattle.solo_model.specs.declared.TaskAnswer.TheVariants.{WithStatus}
 use Rattle.solo_model.specs.declared.TaskProgress.TheVariants.{Moving}
 use Rattle.solo_model.specs.TaggedTask.{TaggedTask, buffer_after, carried_request, finds, progress_left, reply_of}
 use Rattle.solo_model.specs.Solo.{SoloState, after_request, solo_run, solo_step, with_task}
-use Rattle.uas_profile.specs.declared.TheConstants.{TAGS}
+use Rattle.uas_profile.specs.declared.TheConstants.{MOST_TAGS}
 use Rattle.whole_commands.specs.Labels.{IsReading, KeepsBlocks}
 use Rattle.whole_commands.specs.Reads.{AreItsBlocks, GoodReadsGiveBlocks, IsTrueReply}
 use Rattle.whole_commands.proofs.ReadOps.{IsChunkRead, IsReadAt, IsReadOn, IsSame, read-begins, read-chunk, read-good, read-queued, read-sent, same-attention}
@@ -231,7 +231,7 @@ reads-true before after labels replies sized none reading is =
     let one = tickets-one before after labels replies reading is in
     let so : IsReadState before.unit labels before = record {
       same = same-attention before.unit;
-      tasks_so = subst (AllHeld (IsReadTask before.unit labels)) (sym none) (none-so (IsReadTask before.unit labels) TAGS);
+      tasks_so = subst (AllHeld (IsReadTask before.unit labels)) (sym none) (none-so (IsReadTask before.unit labels) MOST_TAGS);
     } in
     let run = run-so before.unit labels before after labels replies sized one so (All-contains_itself labels) reading is in
     record { same = run.0; told = run.1 }

@@ -24,8 +24,8 @@ use Rattle.solo_model.specs.declared.TaskProgress.{TaskProgress}
 use Rattle.solo_model.specs.declared.TaskProgress.TheVariants.{Moving, Ended}
 use Rattle.solo_model.specs.TaggedTask.{of_command}
 use Rattle.uas_profile.specs.declared.TheConstants.{BLOCK_BYTES, CHUNK_BLOCKS, CHUNK_BYTES}
-use Rattle.whole_transfers.proofs.ChunksRead.{reads-all}
-use Rattle.whole_transfers.specs.Transfers.{blocks_in, chunks_given}
+use Rattle.whole_commands.proofs.ChunksRead.{reads-all}
+use Rattle.whole_commands.specs.transfers.Transfers.{blocks_in, chunks_given}
 use Rattle.whole_commands.proofs.Bad.{meets_bad-next}
 
 -- WHERE A READ IS

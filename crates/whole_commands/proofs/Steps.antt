@@ -54,13 +54,13 @@ pub submit-is : (state : SoloState) (index ticket : ℕ) (command : Command) (af
 submit-is state index ticket command after reply is = by_fault _ refl is
   where
     by_fault : (fault : Option SubmitFault) →
-        first_submit_fault (is_command_index index) (is_some (held_under state.tasks index)) state.least_ticket ticket command ≡ fault →
+        first_submit_fault (is_command_index state.tags index) (is_some (held_under state.tasks index)) state.least_ticket ticket command ≡ fault →
         submitted state index ticket command fault ≡ Some (after, reply) → HasSubmitted state index ticket command after reply
     by_fault None none is =
         let parts = silent _ after reply (same_Some _ _ is) in
         record {
-          whole = submit_fault-none (is_command_index index) (is_some (held_under state.tasks index)) state.least_ticket ticket command (ap is_some none);
-          in_turn = no_fault-least (is_command_index index) (is_some (held_under state.tasks index)) state.least_ticket ticket command none;
+          whole = submit_fault-none (is_command_index state.tags index) (is_some (held_under state.tasks index)) state.least_ticket ticket command (ap is_some none);
+          in_turn = no_fault-least (is_command_index state.tags index) (is_some (held_under state.tasks index)) state.least_ticket ticket command none;
           now = parts.0;
           told = parts.1;
         }

@@ -23,7 +23,7 @@ use Rattle.solo_model.specs.declared.Phase.TheVariants.{Begun, Sent}
 use Rattle.solo_model.specs.declared.TaskAnswer.TheVariants.{WithStatus}
 use Rattle.solo_model.specs.TaggedTask.{TaggedTask, buffer_after, carried_request, finds, progress_left, queued, reply_of, unit_after}
 use Rattle.solo_model.specs.Solo.{SoloState, after_request, solo_run, solo_step, with_task}
-use Rattle.uas_profile.specs.declared.TheConstants.{TAGS}
+use Rattle.uas_profile.specs.declared.TheConstants.{MOST_TAGS}
 use Rattle.whole_commands.specs.Labels.{GoesOn}
 use Rattle.whole_commands.specs.Writes.{GoodWriteIsWritten, HasItsBytes}
 use Rattle.whole_commands.proofs.Lone.{lone, lone-held, lone-none, lone-now, none-under}
@@ -107,7 +107,7 @@ send-alone unit command index state other after reply alone has =
 
 -- nothing is left once it is settled
 settle-alone : (unit : BlockMaps) (command : Command) (index : ℕ) (state : SoloState) (other : ℕ) (after : SoloState) (reply : Option Reply) →
-    IsAloneState unit command index state → HasSettled state other after reply → after.tasks ≡ replicate TAGS None
+    IsAloneState unit command index state → HasSettled state other after reply → after.tasks ≡ replicate MOST_TAGS None
 settle-alone unit command index state other after reply alone has =
     let it = held-it unit command index state other has.task alone has.held in
     ap (λ s. s.tasks) has.now ∙ ap (λ tasks. with_held_under tasks other None) alone.alone
@@ -139,7 +139,7 @@ settle-good unit command index state other task reply tag ticket sense buffer it
 -- A WHOLE RUN
 
 -- without a task nothing goes on
-pub no-more : (state after : SoloState) (labels : List Label) (replies : List Reply) → state.tasks ≡ replicate TAGS None → All GoesOn labels →
+pub no-more : (state after : SoloState) (labels : List Label) (replies : List Reply) → state.tasks ≡ replicate MOST_TAGS None → All GoesOn labels →
     solo_run state labels ≡ Some (after, replies) → (after ≡ state) × (replies ≡ [])
 no-more state after [] replies none goes is = let parts = some_pair_parts state after [] replies is in (sym parts.0, sym parts.1)
 no-more state after (label ∷ rest) replies none goes is =
@@ -162,7 +162,7 @@ record GoesAlone (unit : BlockMaps) (command : Command) (index : ℕ) (after : S
 record EndsAlone (unit : BlockMaps) (command : Command) (after : SoloState) (reply : Option Reply) : Type 0 where
   given : Reply
   told : reply ≡ Some given
-  none : after.tasks ≡ replicate TAGS None
+  none : after.tasks ≡ replicate MOST_TAGS None
   good : (tag ticket : ℕ) (sense : ArrayVec ℕ) (buffer : List ℕ) → IsWrittenBy unit command after.unit tag ticket sense buffer given
 
 step-alone : (unit : BlockMaps) (command : Command) (index : ℕ) (state : SoloState) (label : Label) (after : SoloState) (reply : Option Reply) →

@@ -24,8 +24,8 @@ use Rattle.solo_model.specs.declared.TaskProgress.{TaskProgress}
 use Rattle.solo_model.specs.declared.TaskProgress.TheVariants.{Moving, Ended}
 use Rattle.solo_model.specs.TaggedTask.{buffer_after, of_command, progress_left, unit_after}
 use Rattle.uas_profile.specs.declared.TheConstants.{BLOCK_BYTES, CHUNK_BLOCKS, CHUNK_BYTES}
-use Rattle.whole_transfers.proofs.ChunksWritten.{writes-all}
-use Rattle.whole_transfers.specs.Transfers.{blocks_in, chunk_of, chunks_taken}
+use Rattle.whole_commands.proofs.ChunksWritten.{writes-all}
+use Rattle.whole_commands.specs.transfers.Transfers.{blocks_in, chunk_of, chunks_taken}
 use Rattle.whole_commands.specs.Writes.{HasItsBytes}
 use Rattle.whole_commands.proofs.Bad.{meets_bad-next, meets_bad-no_blocks}
 use Rattle.whole_commands.proofs.Begun.{begun-so, transfer-fits}

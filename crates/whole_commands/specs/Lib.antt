@@ -1,3 +1,4 @@
+pub mod transfers
 pub mod Labels
 pub mod Reads
 pub mod Writes

@@ -38,21 +38,21 @@ pub record TakesBusSteps (old : Shared) (limit : ℕ) : Type 0 where
 abbrev pub DrainTakesBusSteps : Type 0
 DrainTakesBusSteps = (state : Shared) (limit : ℕ) → TakesBusSteps state limit
 
--- A command on a bus of this unit alone: client 0 submits it, the bus is drained by so many steps at most, and the client takes the
+-- A command on a bus of this unit alone, with so many tags: client 0 submits it, the bus is drained by so many steps at most, and the client takes the
 -- reply, where one is ready.
-abbrev pub alone : BlockMaps → ℕ → ℕ → Command → ℕ → Shared × Outcome
-alone unit tag ticket command limit =
-    shared_step (drained (shared_step (opening (unit ∷ [])) (Submit 0 tag ticket command)).0 limit).state (Take 0)
+abbrev pub alone : ℕ → BlockMaps → ℕ → ℕ → Command → ℕ → Shared × Outcome
+alone tags unit tag ticket command limit =
+    shared_step (drained (shared_step (opening tags (unit ∷ [])) (Submit 0 tag ticket command)).0 limit).state (Take 0)
 
 -- A READ that ends with GOOD brings its blocks, as they stand in the unit.
 abbrev pub OneReadAlone : Type 0
 OneReadAlone =
-    (unit : BlockMaps) (tag ticket : ℕ) (command : Command) (limit : ℕ) (on at : ℕ) (sense : ArrayVec ℕ) (buffer : List ℕ) → IsSized unit
-    → (alone unit tag ticket command limit).1.reply ≡ Some (StatusReply on at GOOD sense buffer) → AreItsBlocks unit command.op buffer
+    (tags : ℕ) (unit : BlockMaps) (tag ticket : ℕ) (command : Command) (limit : ℕ) (on at : ℕ) (sense : ArrayVec ℕ) (buffer : List ℕ) → IsSized unit
+    → (alone tags unit tag ticket command limit).1.reply ≡ Some (StatusReply on at GOOD sense buffer) → AreItsBlocks unit command.op buffer
 
 -- A WRITE that ends with GOOD leaves its bytes in its blocks, and all else as it was.
 abbrev pub OneWriteAlone : Type 0
 OneWriteAlone =
-    (unit : BlockMaps) (tag ticket : ℕ) (command : Command) (limit : ℕ) (on at : ℕ) (sense : ArrayVec ℕ) (buffer : List ℕ) → IsSized unit
-    → (alone unit tag ticket command limit).1.reply ≡ Some (StatusReply on at GOOD sense buffer)
-    → HasItsBytes unit command.op command.buffer (own_state (alone unit tag ticket command limit).0 0).unit
+    (tags : ℕ) (unit : BlockMaps) (tag ticket : ℕ) (command : Command) (limit : ℕ) (on at : ℕ) (sense : ArrayVec ℕ) (buffer : List ℕ) → IsSized unit
+    → (alone tags unit tag ticket command limit).1.reply ≡ Some (StatusReply on at GOOD sense buffer)
+    → HasItsBytes unit command.op command.buffer (own_state (alone tags unit tag ticket command limit).0 0).unit

@@ -11,12 +11,12 @@ use Rattle.scsi_cmd.specs.declared.TheConstants.{GOOD}
 use Rattle.solo_model.specs.declared.Label.{Label}
 use Rattle.solo_model.specs.declared.Label.TheVariants.{Submit}
 use Rattle.solo_model.specs.Solo.{SoloState, solo_run}
-use Rattle.uas_profile.specs.declared.TheConstants.{TAGS}
+use Rattle.uas_profile.specs.declared.TheConstants.{MOST_TAGS}
 use Rattle.whole_commands.specs.Labels.{IsReading}
 
 -- nothing is under any tag
 abbrev pub HasNoTasks : SoloState → Type 0
-HasNoTasks state = state.tasks ≡ replicate TAGS None
+HasNoTasks state = state.tasks ≡ replicate MOST_TAGS None
 
 -- The bytes are what the operation reads, where it reads blocks: those of its blocks, from its LBA on, in full.
 abbrev pub AreItsBlocks : BlockMaps → Op → List ℕ → Type 0

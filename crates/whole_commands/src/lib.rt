@@ -4,12 +4,14 @@
 //! the commands' standard says of it (SBC, READ and WRITE) stands in none of its definitions: here it is said of its runs, and of one
 //! command alone on a bus of its own.
 //!
-//! It has laws alone, over the definitions of solo_model and shared_machine; whole_transfers has the chunks.
+//! It has laws alone, over the definitions of solo_model and shared_machine; [`transfers`] has the chunks.
 #![tactic(auto)]
 
 ghost use Rattle.whole_commands.specs.OnTheBus.{DrainTakesBusSteps, OneReadAlone, OneWriteAlone};
 ghost use Rattle.whole_commands.specs.Reads.{GoodReadsGiveBlocks};
 ghost use Rattle.whole_commands.specs.Writes.{GoodWriteIsWritten};
+
+pub mod transfers;
 
 /// Law: reads interleaved in any way change no blocks, and each that ends with GOOD brings its blocks in full, as they stand.
 pub fn good_reads_give_blocks()

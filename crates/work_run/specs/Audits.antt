@@ -9,7 +9,7 @@ use Rattle.log_audit.specs.Plan.{planned_steps}
 
 -- What is told of a client that took so many rounds is whether its audit is true: of its submissions, and of the replies that it holds.
 abbrev pub IsToldOf : Log → ℕ → ℕ → List Reply → Bool → Type 0
-IsToldOf log rounds client replies told = IsTrue told ↔ IsAudited log client (planned_steps client rounds) replies
+IsToldOf log rounds client replies told = IsTrue told ↔ IsAudited log client (planned_steps log.tags client rounds) replies
 
 -- so it is of each client, by number
 pub record AreAudits (log : Log) (rounds : ℕ) (replies : List (List Reply)) (audits : List Bool) : Type 0 where

@@ -1,6 +1,7 @@
 -- How the run `work` ends that keeps its log: what is printed, what the file has, and the exit status.
 use Rattle.std.specs.Prelude.{◌≡◌, ℕ, Bool, true, IsTrue, List, ◌++◌, Option, None, Some}
 use Rattle.std.specs.Io.KnownBytes.{Keeps}
+use Rattle.uas_profile.specs.declared.TheConstants.{TAGS}
 use Rattle.uas_log.specs.declared.FirstUnit.{FirstUnit}
 use Rattle.uas_log.specs.declared.Log.{Log}
 use Rattle.kept_log.specs.declared.Why.{Why}
@@ -16,11 +17,12 @@ use Rattle.work_run.specs.WorkEnds.{Audited, fault_of, why_of}
 
 -- WHILE IT GROWS
 
--- Of a file that tells its bytes: they and those that wait for it are the beginning of a log of these units, up to a place.
+-- Of a file that tells its bytes: they and those that wait for it are the beginning of a log of clients of TAGS tags with these units, up to a
+-- place.
 pub record HasKept (tells : Bool) (units : List FirstUnit) (place : Place) (written : Option (List ℕ)) (waiting : List ℕ) : Type 0 where
   pub given : List ℕ
   pub known : IsTrue tells → written ≡ Some given
-  pub begins : IsBeginning units place (given ++ waiting)
+  pub begins : IsBeginning TAGS units place (given ++ waiting)
 
 -- AT ITS END
 

@@ -3,6 +3,7 @@ use Rattle.std.specs.Prelude.{◌≡◌, ℕ, ◌+◌, ◌-◌, ◌*◌, ◌^◌
 use Rattle.std.specs.Prelude.{replicate, Option, None, Some}
 use Rattle.std.specs.Io.KnownBytes.{Appends, Keeps}
 use Rattle.block_unit.specs.BlockMaps.{BlockMaps, fresh}
+use Rattle.uas_profile.specs.declared.TheConstants.{TAGS}
 use Rattle.scsi_cmd.specs.declared.Reply.{Reply}
 use Rattle.uas_log.specs.declared.Log.{Log}
 use Rattle.uas_log.specs.Booking.{IsReplay}
@@ -34,10 +35,11 @@ audited_status rounds replies audits = if all_whole rounds (tallies_of replies) 
 abbrev pub told_text : Bool → List (List Reply) → List Bool → List ℕ
 told_text shows_audits replies audits = work_text (tallies_of replies) ++ (if shows_audits then audit_text audits else [])
 
--- The clients took these replies of a bus with this log, which is its own replay and began with their logical units: their lines were
--- printed, and the status follows from their replies and audits.
+-- The clients took these replies of a bus with this log, which is its own replay with 16 tags of each and began with their logical
+-- units: their lines were printed, and the status follows from their replies and audits.
 pub record Audited (clients rounds : ℕ) (log : Log) (shows_audits : Bool) (old new : Option (List ℕ)) (status : ℕ) : Type 0 where
   pub replay : IsReplay log
+  pub tags : log.tags ≡ TAGS
   pub units : log.units ≡ map first_unit (work_units clients)
   pub replies : List (List Reply)
   pub of_each : length replies ≡ clients

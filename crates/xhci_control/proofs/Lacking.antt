@@ -4,14 +4,14 @@ use Rattle.std.proofs.lemmas.Option.{none-some}
 use Rattle.std.specs.Prelude.{is_some, option_map, if◌then◌else◌}
 use Rattle.byteorder.specs.Endian.{little_number}
 use Rattle.guest_memory.specs.Bytes.{Memory, bytes_from}
-use Rattle.guest_rings.specs.declared.cursor.Cursor.{Cursor}
-use Rattle.guest_rings.specs.declared.context.Home.TheVariants.{Endpoint}
-use Rattle.guest_rings.specs.declared.trb.PipeTrb.{PipeTrb}
-use Rattle.guest_rings.specs.declared.trb.PipeTrb.TheVariants.{Normal, Link, NoOp, EventData, Foreign}
-use Rattle.guest_rings.specs.declared.words.Words.{Words}
-use Rattle.guest_rings.specs.Ends.{cursor_in, fetched, looked, owned}
-use Rattle.guest_rings.specs.Wanted.{LacksIt, look_wanted, missing}
-use Rattle.guest_rings.specs.WantedLaws.{look_there, map_some, missing_lacks}
+use Rattle.guest_memory.specs.declared.rings.cursor.Cursor.{Cursor}
+use Rattle.guest_memory.specs.declared.rings.context.Home.TheVariants.{Endpoint}
+use Rattle.guest_memory.specs.declared.rings.trb.PipeTrb.{PipeTrb}
+use Rattle.guest_memory.specs.declared.rings.trb.PipeTrb.TheVariants.{Normal, Link, NoOp, EventData, Foreign}
+use Rattle.guest_memory.specs.declared.rings.words.Words.{Words}
+use Rattle.guest_memory.specs.rings.Ends.{cursor_in, fetched, looked, owned}
+use Rattle.guest_memory.specs.rings.Wanted.{LacksIt, look_wanted, missing}
+use Rattle.guest_memory.specs.rings.WantedLaws.{look_there, map_some, missing_lacks}
 use Rattle.guest_pipes.specs.declared.acted.Acted.{Acted}
 use Rattle.guest_pipes.specs.Gate.{gate}
 use Rattle.guest_pipes.specs.Progress.{runs}

@@ -2,11 +2,11 @@
 -- bytes whose DIR is bit 16, a Status Stage; any other is what it is in a pipe's ring.
 use Rattle.std.specs.Prelude.{◌%◌, ◌==◌, nat_lt, ◌||◌, not, false, if◌then◌else◌}
 use Rattle.byteorder.specs.Endian.{little_bytes}
-use Rattle.guest_rings.specs.declared.words.Words.{Words}
-use Rattle.guest_rings.specs.declared.trb.Flags.{Flags}
-use Rattle.guest_rings.specs.declared.trb.PipeTrb.TheVariants.{Foreign}
-use Rattle.guest_rings.specs.Trbs.{trb_in}
-use Rattle.guest_rings.specs.Words.{bit_in, type_in}
+use Rattle.guest_memory.specs.declared.rings.words.Words.{Words}
+use Rattle.guest_memory.specs.declared.rings.trb.Flags.{Flags}
+use Rattle.guest_memory.specs.declared.rings.trb.PipeTrb.TheVariants.{Foreign}
+use Rattle.guest_memory.specs.rings.Trbs.{trb_in}
+use Rattle.guest_memory.specs.rings.Words.{bit_in, type_in}
 use Rattle.usb_disk.specs.Requests.{setup_in}
 use Rattle.xhci_control.specs.declared.trb.ControlTrb.{ControlTrb}
 use Rattle.xhci_control.specs.declared.trb.ControlTrb.TheVariants.{SetupStage, DataStage, StatusStage, Other}

@@ -1,13 +1,13 @@
 -- The first range of memory that a step of endpoint 0 lacks, in the order of `stepped`.
 use Rattle.std.specs.Prelude.{ℕ, ◌==◌, ◌&&◌, ◌||◌, nat_le, not, Bool, if◌then◌else◌, min, length as list_length, Option, Some, None}
 use Rattle.guest_memory.specs.Bytes.{Memory}
-use Rattle.guest_rings.specs.declared.cursor.Cursor.{Cursor}
-use Rattle.guest_rings.specs.declared.trb.PipeTrb.{PipeTrb}
-use Rattle.guest_rings.specs.declared.trb.PipeTrb.TheVariants.{Normal, Link, NoOp, EventData, Foreign}
-use Rattle.guest_rings.specs.declared.wanting.Range.{Range}
-use Rattle.guest_rings.specs.declared.words.Words.{Words}
-use Rattle.guest_rings.specs.Ends.{fetched}
-use Rattle.guest_rings.specs.Wanted.{missing}
+use Rattle.guest_memory.specs.declared.rings.cursor.Cursor.{Cursor}
+use Rattle.guest_memory.specs.declared.rings.trb.PipeTrb.{PipeTrb}
+use Rattle.guest_memory.specs.declared.rings.trb.PipeTrb.TheVariants.{Normal, Link, NoOp, EventData, Foreign}
+use Rattle.guest_memory.specs.declared.rings.wanting.Range.{Range}
+use Rattle.guest_memory.specs.declared.rings.words.Words.{Words}
+use Rattle.guest_memory.specs.rings.Ends.{fetched}
+use Rattle.guest_memory.specs.rings.Wanted.{missing}
 use Rattle.guest_pipes.specs.Gate.{gate}
 use Rattle.guest_pipes.specs.Progress.{runs}
 use Rattle.guest_pipes.specs.Wanted.{wanted_through}

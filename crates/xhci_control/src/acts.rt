@@ -11,8 +11,8 @@ use crate::pipe::{
 };
 use crate::stage::Stage;
 use guest_memory::GuestMemory;
+use guest_memory::rings::{Event, EventRing, Flags, Front, PipeTrb};
 use guest_pipes::{EndpointState, there};
-use guest_rings::{Event, EventRing, Flags, Front, PipeTrb};
 use usb_disk::{MOST_ANSWER_BYTES, Setup};
 
 impl ControlPipe {

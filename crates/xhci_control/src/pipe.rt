@@ -4,8 +4,8 @@ ghost use Rattle.std.specs.Result.{result_ok};
 ghost use Rattle.byteorder.specs.Endian.{little_number};
 ghost use Rattle.guest_memory.specs.Bytes.{bytes_from, is_there};
 ghost use Rattle.guest_pipes.specs.Step.{has_home, has_place};
-ghost use Rattle.guest_rings.specs.declared.context.Home.TheVariants.{Endpoint};
-ghost use Rattle.guest_rings.specs.Ends.{cursor_in, fetched, looked};
+ghost use Rattle.guest_memory.specs.declared.rings.context.Home.TheVariants.{Endpoint};
+ghost use Rattle.guest_memory.specs.rings.Ends.{cursor_in, fetched, looked};
 ghost use Rattle.xhci_control.specs.Stages.{is_restarted, left};
 ghost use Rattle.xhci_control.specs.Steps.{ControlWorld, asked, configured, consumer_in, control_stopped, cursor_at, data_ended, disabled, disk_reset, forgotten, front_at};
 ghost use Rattle.xhci_control.specs.Steps.{gave, gone_to, halt_reset, is_in_data, left_in, moved_by, moved_data, opened, rung_in, served_by, sets_address, stalled, stepped, stopped};
@@ -14,9 +14,9 @@ ghost use Rattle.xhci_control.specs.Steps.{taken_by, taken_count, took, took_dat
 use crate::stage::Stage;
 use crate::trb::{ControlTrb, read_control};
 use byteorder::{ByteOrder, LittleEndian};
+use guest_memory::rings::{Cursor, Event, EventRing, Found, Front, Home, Words, fetch, look};
 use guest_memory::{GuestMemory, Outside};
 use guest_pipes::{Acted, Consumer, EndpointState, Progress};
-use guest_rings::{Cursor, Event, EventRing, Found, Front, Home, Words, fetch, look};
 use usb_disk::{Answer, Setup, UsbDisk};
 
 /// Stall Error (table 6-90).

@@ -1,11 +1,11 @@
 //! What a TRB in the ring of endpoint 0 is (xHCI 1.2, 6.4.1.2).
 ghost use Rattle.std.specs.Prelude.{◌≡◌, ◌<◌, ◌≤◌};
 ghost use Rattle.byteorder.specs.Endian.{little_bytes};
-ghost use Rattle.guest_rings.specs.Words.{bit_in};
+ghost use Rattle.guest_memory.specs.rings.Words.{bit_in};
 ghost use Rattle.xhci_control.specs.Trbs.{control_in, data_flags, data_stage, setup_stage, stage_flags};
 
 use byteorder::{ByteOrder, LittleEndian};
-use guest_rings::{Flags, PipeTrb, Words, read_trb};
+use guest_memory::rings::{Flags, PipeTrb, Words, read_trb};
 use usb_disk::Setup;
 
 /// A TRB in the ring of endpoint 0, without its Cycle bit.

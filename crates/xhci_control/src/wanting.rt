@@ -2,17 +2,17 @@
 ghost use Rattle.std.specs.Prelude.{◌≡◌, ◌&&◌, None, is_some, true};
 ghost use Rattle.guest_pipes.specs.Gate.{is_running};
 ghost use Rattle.guest_pipes.specs.Step.{World};
-ghost use Rattle.guest_rings.specs.declared.context.Home.TheVariants.{Endpoint};
-ghost use Rattle.guest_rings.specs.Ends.{fetched};
-ghost use Rattle.guest_rings.specs.Wanted.{LacksIt, look_wanted, missing};
+ghost use Rattle.guest_memory.specs.declared.rings.context.Home.TheVariants.{Endpoint};
+ghost use Rattle.guest_memory.specs.rings.Ends.{fetched};
+ghost use Rattle.guest_memory.specs.rings.Wanted.{LacksIt, look_wanted, missing};
 ghost use Rattle.xhci_control.specs.Steps.{ControlWorld, control_stopped, cursor_at, stepped};
 ghost use Rattle.xhci_control.specs.Wanted.{control_wanted, data_wanted, front_wanted, given_range, moved_wanted, normal_wanted, other_wanted, trb_wanted, words_wanted};
 
 use crate::pipe::{ControlPipe, cursor_at};
 use crate::trb::{ControlTrb, read_control};
+use guest_memory::rings::{Cursor, EventRing, Home, PipeTrb, Range, fetch, look_wants};
 use guest_memory::{GuestMemory, Outside};
 use guest_pipes::place_range;
-use guest_rings::{Cursor, EventRing, Home, PipeTrb, Range, fetch, look_wants};
 
 impl ControlPipe {
     /// Whether a step has something to look at: the endpoint runs, and its doorbell is rung.

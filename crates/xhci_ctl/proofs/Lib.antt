@@ -1,3 +1,4 @@
 pub mod Fronts
 pub mod Dequeues
 pub mod Windows
+mod Commanded

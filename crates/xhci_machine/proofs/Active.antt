@@ -5,7 +5,7 @@ use Rattle.std.proofs.lemmas.Bool.{false≢true}
 use Rattle.guest_pipes.specs.declared.acted.Acted.{Acted}
 use Rattle.guest_pipes.specs.declared.acted.Acted.TheVariants.{Off, Idle, Full, Emptied, Waits, Worked as HasWorked}
 use Rattle.guest_pipes.specs.Step.{has_place}
-use Rattle.guest_rings.specs.Events.{has_room}
+use Rattle.guest_memory.specs.rings.Events.{has_room}
 use Rattle.guest_tasks.specs.declared.GuestTasks.{GuestTasks}
 use Rattle.guest_tasks.specs.Active.{TasksAreActive, rested}
 use Rattle.guest_tasks.specs.Tasks.{tasks_kind}

@@ -1,15 +1,15 @@
 -- What a step of the pipes makes of the device: at most one call on it. `P` holds of the device before, `Q` behind a call and where none was made.
 use Rattle.std.proofs.Common.{◌≡◌, refl, ℕ, ◌+◌, ◌==◌, ◌++◌, Bool, true, false, cond, List, length, Option, Some, None, not}
 use Rattle.std.specs.Prelude.{nat_le, option_map}
-use Rattle.guest_rings.specs.declared.context.Home.{Home}
-use Rattle.guest_rings.specs.declared.context.Home.TheVariants.{Endpoint}
-use Rattle.guest_rings.specs.declared.context.Front.{Front}
-use Rattle.guest_rings.specs.declared.context.Found.{Found}
-use Rattle.guest_rings.specs.declared.context.Found.TheVariants.{WrongKind, NotYet, Item}
-use Rattle.guest_rings.specs.declared.trb.Flags.{Flags}
-use Rattle.guest_rings.specs.declared.trb.PipeTrb.{PipeTrb}
-use Rattle.guest_rings.specs.declared.trb.PipeTrb.TheVariants.{Normal, Link, NoOp, EventData, Foreign}
-use Rattle.guest_rings.specs.Ends.{looked}
+use Rattle.guest_memory.specs.declared.rings.context.Home.{Home}
+use Rattle.guest_memory.specs.declared.rings.context.Home.TheVariants.{Endpoint}
+use Rattle.guest_memory.specs.declared.rings.context.Front.{Front}
+use Rattle.guest_memory.specs.declared.rings.context.Found.{Found}
+use Rattle.guest_memory.specs.declared.rings.context.Found.TheVariants.{WrongKind, NotYet, Item}
+use Rattle.guest_memory.specs.declared.rings.trb.Flags.{Flags}
+use Rattle.guest_memory.specs.declared.rings.trb.PipeTrb.{PipeTrb}
+use Rattle.guest_memory.specs.declared.rings.trb.PipeTrb.TheVariants.{Normal, Link, NoOp, EventData, Foreign}
+use Rattle.guest_memory.specs.rings.Ends.{looked}
 use Rattle.guest_pipes.specs.declared.acted.Acted.{Acted}
 use Rattle.guest_pipes.specs.declared.acted.Acted.TheVariants.{Off, Idle, Full, Emptied, Waits, Worked}
 use Rattle.guest_pipes.specs.declared.progress.Ending.{Ending}

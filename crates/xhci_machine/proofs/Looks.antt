@@ -1,7 +1,7 @@
 -- A look at tags that aren't active, and then at the next that is.
 use Rattle.std.proofs.Common.{◌≡◌, ℕ, zero, suc, ◌+◌, ◌-◌, ◌<◌, ◌≤◌, Bool, true, false, cond, Ok, Err, refl, ap, sym, subst, ◌∙◌, arith}
 use Rattle.guest_memory.specs.Bytes.{Memory}
-use Rattle.guest_rings.specs.Events.{EventEnd}
+use Rattle.guest_memory.specs.rings.Events.{EventEnd}
 use Rattle.marks.specs.Marks.{is_marked}
 use Rattle.xhci_machine.specs.declared.Machine.{Machine}
 use Rattle.xhci_machine.specs.declared.wanting.End.{End}

@@ -4,12 +4,12 @@ use Rattle.std.proofs.lemmas.Bool.{false≢true}
 use Rattle.std.specs.Prelude.{is_some, option_map, if◌then◌else◌, not, ◌&&◌, ◌||◌}
 use Rattle.guest_memory.specs.Bytes.{Memory, bytes_from, is_there, ◌>>=◌}
 use Rattle.guest_memory.specs.Ranges.{there_written}
-use Rattle.guest_rings.specs.declared.context.Home.{Home}
-use Rattle.guest_rings.specs.declared.context.Home.TheVariants as home
-use Rattle.guest_rings.specs.declared.cursor.Cursor.{Cursor}
-use Rattle.guest_rings.specs.Ends.{home_at, home_size, looked}
-use Rattle.guest_rings.specs.Events.{enqueue_pointer}
-use Rattle.guest_rings.specs.WantedLaws.{look_there, map_some, there_if}
+use Rattle.guest_memory.specs.declared.rings.context.Home.{Home}
+use Rattle.guest_memory.specs.declared.rings.context.Home.TheVariants as home
+use Rattle.guest_memory.specs.declared.rings.cursor.Cursor.{Cursor}
+use Rattle.guest_memory.specs.rings.Ends.{home_at, home_size, looked}
+use Rattle.guest_memory.specs.rings.Events.{enqueue_pointer}
+use Rattle.guest_memory.specs.rings.WantedLaws.{look_there, map_some, there_if}
 use Rattle.guest_pipes.specs.declared.consumer.EndpointState.{EndpointState}
 use Rattle.guest_pipes.specs.declared.consumer.EndpointState.TheVariants.{Disabled, Running, Halted, Stopped, Error}
 use Rattle.guest_pipes.specs.Gate.{is_running, stop_told}

@@ -8,9 +8,9 @@ use Rattle.guest_pipes.specs.declared.consumer.EndpointState.TheVariants.{Disabl
 use Rattle.guest_pipes.specs.Gate.{room_gate}
 use Rattle.guest_pipes.specs.Pipe.{has_stream}
 use Rattle.guest_pipes.specs.Step.{World as RingWorld, has_place}
-use Rattle.guest_rings.specs.declared.cursor.Cursor.{Cursor}
-use Rattle.guest_rings.specs.declared.words.Words.{Words}
-use Rattle.guest_rings.specs.Ends.{fetched, followed}
+use Rattle.guest_memory.specs.declared.rings.cursor.Cursor.{Cursor}
+use Rattle.guest_memory.specs.declared.rings.words.Words.{Words}
+use Rattle.guest_memory.specs.rings.Ends.{fetched, followed}
 use Rattle.guest_tasks.specs.declared.GuestTasks.{GuestTasks}
 use Rattle.guest_transfers.specs.declared.control.StreamPipe.{StreamPipe}
 use Rattle.guest_transfers.specs.declared.control.StreamPipe.TheVariants.{Status, DataOut, DataIn}

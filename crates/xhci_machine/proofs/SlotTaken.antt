@@ -4,14 +4,14 @@ use Rattle.std.proofs.lemmas.Bool.{false≢true}
 use Rattle.std.specs.Prelude.{is_some, option_map, if◌then◌else◌, not, ◌&&◌, IfSome}
 use Rattle.guest_memory.specs.Bytes.{Memory, ◌>>=◌}
 use Rattle.guest_memory.specs.Ranges.{there_written}
-use Rattle.guest_rings.specs.declared.cursor.Cursor.{Cursor}
-use Rattle.guest_rings.specs.Events.{EventEnd, enqueue_pointer}
-use Rattle.guest_rings.specs.WantedLaws.{map_some}
+use Rattle.guest_memory.specs.declared.rings.cursor.Cursor.{Cursor}
+use Rattle.guest_memory.specs.rings.Events.{EventEnd, enqueue_pointer}
+use Rattle.guest_memory.specs.rings.WantedLaws.{map_some}
 use Rattle.guest_pipes.specs.Step.{has_place}
-use Rattle.xhci_contexts.specs.declared.DeviceContext.{DeviceContext}
-use Rattle.xhci_contexts.specs.declared.SlotState.{SlotState}
-use Rattle.xhci_contexts.specs.Contexts.{context_at, device_at, device_written, endpoint_bytes, slot_bytes}
-use Rattle.xhci_contexts.specs.Inputs.{input_at, is_bad_address, is_bad_configuration, is_bad_evaluation}
+use Rattle.xhci_slots.specs.declared.contexts.DeviceContext.{DeviceContext}
+use Rattle.xhci_slots.specs.declared.contexts.SlotState.{SlotState}
+use Rattle.xhci_slots.specs.contexts.Contexts.{context_at, device_at, device_written, endpoint_bytes, slot_bytes}
+use Rattle.xhci_slots.specs.contexts.Inputs.{input_at, is_bad_address, is_bad_configuration, is_bad_evaluation}
 use Rattle.xhci_slots.specs.declared.Done.{Done}
 use Rattle.xhci_slots.specs.declared.SlotCommand.{SlotCommand}
 use Rattle.xhci_slots.specs.declared.SlotCommand.TheVariants.{Enable, Disable, Address, Configure, Evaluate, Reset as ResetDevice}

@@ -4,12 +4,12 @@ use Rattle.std.proofs.lemmas.Bool.{false≢true}
 use Rattle.std.proofs.lemmas.Option.{none-some}
 use Rattle.std.specs.Prelude.{is_some, if◌then◌else◌, not, ◌&&◌, Ok, Err}
 use Rattle.guest_memory.specs.Bytes.{Memory}
-use Rattle.guest_rings.specs.declared.cursor.Cursor.{Cursor}
-use Rattle.guest_rings.specs.declared.wanting.Range.{Range}
-use Rattle.guest_rings.specs.declared.words.Words.{Words}
-use Rattle.guest_rings.specs.Ends.{fetched, followed}
-use Rattle.guest_rings.specs.Events.{EventEnd, has_room}
-use Rattle.guest_rings.specs.WantedLaws.{there_if}
+use Rattle.guest_memory.specs.declared.rings.cursor.Cursor.{Cursor}
+use Rattle.guest_memory.specs.declared.rings.wanting.Range.{Range}
+use Rattle.guest_memory.specs.declared.rings.words.Words.{Words}
+use Rattle.guest_memory.specs.rings.Ends.{fetched, followed}
+use Rattle.guest_memory.specs.rings.Events.{EventEnd, has_room}
+use Rattle.guest_memory.specs.rings.WantedLaws.{there_if}
 use Rattle.guest_pipes.specs.declared.acted.Acted.{Acted}
 use Rattle.guest_pipes.specs.declared.acted.Acted.TheVariants.{Full, Idle, Off}
 use Rattle.guest_pipes.specs.declared.consumer.Consumer.{Consumer}

@@ -1,8 +1,8 @@
 -- What a TRB in the command ring asks for (xHCI 6.4.3).
 use Rattle.std.specs.Prelude.{ℕ, ◌*◌, ◌/◌, ◌%◌, ◌^◌, ◌==◌, if◌then◌else◌}
-use Rattle.guest_rings.specs.declared.words.Words.{Words}
-use Rattle.guest_rings.specs.Ends.{cursor_in}
-use Rattle.guest_rings.specs.Words.{bit_in, type_in}
+use Rattle.guest_memory.specs.declared.rings.words.Words.{Words}
+use Rattle.guest_memory.specs.rings.Ends.{cursor_in}
+use Rattle.guest_memory.specs.rings.Words.{bit_in, type_in}
 use Rattle.xhci_slots.specs.declared.SlotCommand.{SlotCommand}
 use Rattle.xhci_slots.specs.declared.SlotCommand.TheVariants.{Enable, Disable, Address, Configure, Evaluate, Reset as ResetDevice}
 use Rattle.xhci_machine.specs.declared.command.Command.{Command}

@@ -2,14 +2,14 @@
 -- an endpoint's state in it (4.8.3 and 4.10.2.6): where a byte of it isn't there nothing of the step is done.
 use Rattle.std.specs.Prelude.{Bool, ◌&&◌, if◌then◌else◌, Option, Some, None, is_some}
 use Rattle.guest_memory.specs.Bytes.{Memory}
-use Rattle.guest_rings.specs.declared.wanting.Range.{Range}
-use Rattle.guest_rings.specs.Events.{has_room}
+use Rattle.guest_memory.specs.declared.rings.wanting.Range.{Range}
+use Rattle.guest_memory.specs.rings.Events.{has_room}
 use Rattle.guest_pipes.specs.declared.acted.Acted.{Acted}
 use Rattle.guest_pipes.specs.declared.acted.Acted.TheVariants.{Idle}
 use Rattle.guest_pipes.specs.declared.consumer.Consumer.{Consumer}
 use Rattle.guest_pipes.specs.Gate.{is_running}
-use Rattle.xhci_contexts.specs.declared.SlotState.{SlotState}
-use Rattle.xhci_contexts.specs.declared.SlotState.TheVariants.{Enabled, Default, Addressed, Configured}
+use Rattle.xhci_slots.specs.declared.contexts.SlotState.{SlotState}
+use Rattle.xhci_slots.specs.declared.contexts.SlotState.TheVariants.{Enabled, Default, Addressed, Configured}
 use Rattle.xhci_registers.specs.Ports.{is_suspended}
 use Rattle.xhci_slots.specs.declared.Slot.{Slot}
 use Rattle.xhci_slots.specs.Wanted.{tell_wanted}

@@ -1,12 +1,12 @@
 -- The first range of memory that the command in front of the command ring lacks, in the order of `front_taken` (xHCI 1.2, 4.6).
 use Rattle.std.specs.Prelude.{ℕ, ◌==◌, not, ◌&&◌, if◌then◌else◌, Option, Some, None, is_some}
 use Rattle.guest_memory.specs.Bytes.{Memory}
-use Rattle.guest_rings.specs.declared.context.Home.TheVariants as home
-use Rattle.guest_rings.specs.declared.cursor.Cursor.{Cursor}
-use Rattle.guest_rings.specs.declared.wanting.Range.{Range}
-use Rattle.guest_rings.specs.declared.words.Words.{Words}
-use Rattle.guest_rings.specs.Ends.{fetched}
-use Rattle.guest_rings.specs.Wanted.{look_wanted, missing}
+use Rattle.guest_memory.specs.declared.rings.context.Home.TheVariants as home
+use Rattle.guest_memory.specs.declared.rings.cursor.Cursor.{Cursor}
+use Rattle.guest_memory.specs.declared.rings.wanting.Range.{Range}
+use Rattle.guest_memory.specs.declared.rings.words.Words.{Words}
+use Rattle.guest_memory.specs.rings.Ends.{fetched}
+use Rattle.guest_memory.specs.rings.Wanted.{look_wanted, missing}
 use Rattle.guest_pipes.specs.declared.consumer.EndpointState.{EndpointState}
 use Rattle.guest_pipes.specs.declared.consumer.EndpointState.TheVariants.{Disabled, Running, Halted, Stopped, Error}
 use Rattle.guest_pipes.specs.Gate.{is_running}

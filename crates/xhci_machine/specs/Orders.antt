@@ -2,10 +2,10 @@
 -- there, and nothing behind that is done.
 use Rattle.std.specs.Prelude.{ℕ, zero, suc, ◌-◌, ◌%◌, ◌==◌, Bool, true, false, not, ◌&&◌, ◌||◌, if◌then◌else◌, Option, Some, None, is_some, option_map}
 use Rattle.guest_memory.specs.Bytes.{Memory, is_there, written}
-use Rattle.guest_rings.specs.declared.context.Home.{Home}
-use Rattle.guest_rings.specs.declared.context.Home.TheVariants as home
-use Rattle.guest_rings.specs.declared.cursor.Cursor.{Cursor}
-use Rattle.guest_rings.specs.Ends.{home_bytes}
+use Rattle.guest_memory.specs.declared.rings.context.Home.{Home}
+use Rattle.guest_memory.specs.declared.rings.context.Home.TheVariants as home
+use Rattle.guest_memory.specs.declared.rings.cursor.Cursor.{Cursor}
+use Rattle.guest_memory.specs.rings.Ends.{home_bytes}
 use Rattle.guest_pipes.specs.declared.consumer.Consumer.{Consumer}
 use Rattle.guest_pipes.specs.declared.consumer.EndpointState.{EndpointState}
 use Rattle.guest_pipes.specs.declared.consumer.EndpointState.TheVariants.{Disabled, Running, Halted, Stopped, Error}

@@ -1,7 +1,7 @@
 -- The command ring: where it stands, its events, and what a command on the slot makes of the whole controller (xHCI 1.2, 4.6 and 4.9.3).
 use Rattle.std.specs.Prelude.{ℕ, ◌+◌, ◌*◌, ◌%◌, ◌^◌, ◌==◌, min, Bool, true, false, not, ◌&&◌, ◌||◌, if◌then◌else◌, Option, Some, option_map}
 use Rattle.guest_memory.specs.Bytes.{Memory}
-use Rattle.guest_rings.specs.declared.cursor.Cursor.{Cursor}
+use Rattle.guest_memory.specs.declared.rings.cursor.Cursor.{Cursor}
 use Rattle.guest_transfers.specs.declared.control.StreamPipe.{StreamPipe}
 use Rattle.guest_transfers.specs.declared.control.StreamPipe.TheVariants.{Status, DataOut, DataIn}
 use Rattle.guest_transfers.specs.Orders.{command_configured, command_disabled, pipe_added}

@@ -7,7 +7,7 @@ use Rattle.guest_pipes.specs.declared.acted.Acted.{Acted}
 use Rattle.guest_pipes.specs.declared.consumer.Consumer.{Consumer}
 use Rattle.guest_pipes.specs.Gate.{is_running}
 use Rattle.guest_pipes.specs.Pipe.{has_stray, loaded}
-use Rattle.guest_rings.specs.Events.{EventEnd}
+use Rattle.guest_memory.specs.rings.Events.{EventEnd}
 use Rattle.guest_tasks.specs.declared.GuestTasks.{GuestTasks}
 use Rattle.guest_tasks.specs.Tasks.{tasks_kind}
 use Rattle.guest_transfers.specs.declared.control.StreamPipe.{StreamPipe}

@@ -7,12 +7,12 @@ use Rattle.guest_pipes.specs.declared.acted.Acted.TheVariants.{Off, Idle, Full, 
 use Rattle.guest_pipes.specs.declared.consumer.EndpointState.{EndpointState}
 use Rattle.guest_pipes.specs.declared.consumer.EndpointState.TheVariants.{Disabled, Running, Halted, Stopped, Error}
 use Rattle.guest_pipes.specs.Step.{has_place}
-use Rattle.guest_rings.specs.declared.event.Event.TheVariants.{PortChange}
-use Rattle.guest_rings.specs.Events.{EventEnd, has_room}
-use Rattle.xhci_contexts.specs.declared.EndpointState.{EndpointState as ContextState}
-use Rattle.xhci_contexts.specs.declared.EndpointState.TheVariants as context
-use Rattle.xhci_contexts.specs.declared.Number.{Number}
-use Rattle.xhci_contexts.specs.declared.Number.TheVariants.{ControlPipe, CommandPipe, StatusPipe, DataOutPipe, DataInPipe}
+use Rattle.guest_memory.specs.declared.rings.event.Event.TheVariants.{PortChange}
+use Rattle.guest_memory.specs.rings.Events.{EventEnd, has_room}
+use Rattle.xhci_slots.specs.declared.contexts.EndpointState.{EndpointState as ContextState}
+use Rattle.xhci_slots.specs.declared.contexts.EndpointState.TheVariants as context
+use Rattle.xhci_slots.specs.declared.contexts.Number.{Number}
+use Rattle.xhci_slots.specs.declared.contexts.Number.TheVariants.{ControlPipe, CommandPipe, StatusPipe, DataOutPipe, DataInPipe}
 use Rattle.xhci_registers.specs.Signals.{detecting, raised, told as port_told}
 use Rattle.xhci_slots.specs.declared.Slot.{Slot}
 use Rattle.xhci_slots.specs.Slots.{World as SlotWorld, told}

@@ -1,8 +1,8 @@
 -- What a call of `work` makes of memory and the whole controller: rounds of turns, each round an equation. A tag has its turn where it is active
 -- when the round comes to it.
-use Rattle.std.specs.Prelude.{◌≡◌, ℕ, zero, suc, ◌-◌, ◌<◌, ◌≤◌, ◌==◌, Bool, true, false, ◌||◌, if◌then◌else◌, Option, Some, None, ◌⊎◌}
+use Rattle.std.specs.Prelude.{◌≡◌, ℕ, zero, suc, ◌-◌, ◌<◌, ◌≤◌, ◌==◌, Bool, true, false, ◌||◌, if◌then◌else◌, Option, Some, None, Result, Ok, Err, ◌⊎◌}
 use Rattle.guest_memory.specs.Bytes.{Memory}
-use Rattle.guest_rings.specs.Events.{EventEnd}
+use Rattle.guest_memory.specs.rings.Events.{EventEnd}
 use Rattle.guest_tags.specs.DataIn.{has_chunk}
 use Rattle.guest_tasks.specs.Active.{is_absent, rested}
 use Rattle.guest_tasks.specs.Tasks.{tasks_kind}
@@ -14,6 +14,7 @@ use Rattle.xhci_registers.specs.declared.Registers.{Registers}
 use Rattle.xhci_registers.specs.Signals.{failed}
 use Rattle.xhci_machine.specs.declared.Machine.{Machine}
 use Rattle.xhci_machine.specs.declared.interrupts.Interrupts.{Interrupts}
+use Rattle.xhci_machine.specs.declared.interrupts.RingFault.{RingFault}
 use Rattle.xhci_machine.specs.declared.work.Worked.{Worked}
 use Rattle.xhci_machine.specs.Interrupter.{taken}
 use Rattle.xhci_machine.specs.Rounds.{Turning, data_of, front_turned, status_of, turned}
@@ -117,13 +118,13 @@ with_kept m kept = record m { interrupts = kept.0; registers = kept.1 }
 abbrev pub ring_kept : World → Machine
 ring_kept w = record w.machine { interrupts = record w.machine.interrupts { ring = Some w.events } }
 
--- by the event ring that was taken: none, and then a host system error where memory wasn't there, or one, and rounds with it
-abbrev pub WorkedOn : ℕ → Memory → Machine → Option (Option EventEnd) × (Interrupts × Registers) → Memory → Machine → Worked → Type 0
-WorkedOn budget memory m (None, kept) memory_new m_new worked =
+-- by the event ring that was taken: none, and then a host system error where its table has a fault, or one, and rounds with it
+abbrev pub WorkedOn : ℕ → Memory → Machine → Result (Option EventEnd) RingFault × (Interrupts × Registers) → Memory → Machine → Worked → Type 0
+WorkedOn budget memory m (Err fault, kept) memory_new m_new worked =
     (memory_new ≡ memory) × (m_new ≡ with_failure (with_kept m kept)) × (worked ≡ nothing_worked)
-WorkedOn budget memory m (Some None, kept) memory_new m_new worked =
+WorkedOn budget memory m (Ok None, kept) memory_new m_new worked =
     (memory_new ≡ memory) × (m_new ≡ with_kept m kept) × (worked ≡ nothing_worked)
-WorkedOn budget memory m (Some (Some ring), kept) memory_new m_new worked =
+WorkedOn budget memory m (Ok (Some ring), kept) memory_new m_new worked =
     (after : World) × RoundsWorked budget (record { memory = memory; events = ring; machine = with_kept m kept }) after worked
     × (memory_new ≡ after.memory) × (m_new ≡ ring_kept after)
 

@@ -1,9 +1,9 @@
 //! What a TRB in the command ring asks for (xHCI 1.2, 6.4.3).
 ghost use Rattle.std.specs.Prelude.{◌≡◌, ◌<◌, ◌/◌, ◌%◌, ◌^◌};
-ghost use Rattle.guest_rings.specs.Words.{bit_in};
+ghost use Rattle.guest_memory.specs.rings.Words.{bit_in};
 ghost use Rattle.xhci_machine.specs.Commands.{command_in, dequeue_in, on_endpoint, on_slot};
 
-use guest_rings::{Cursor, Words};
+use guest_memory::rings::{Cursor, Words};
 use xhci_slots::SlotCommand;
 
 /// A command on an endpoint.

@@ -1,20 +1,39 @@
 //! Interrupter 0: its event ring, by its segment table and ERDP (xHCI 1.2, 4.9.4, 4.17 and 6.5).
 ghost use Rattle.std.specs.Prelude.{◌≡◌, ◌||◌, ◌&&◌, ◌==◌, not, is_ok, is_some, unwrap_or, IfSome, OnErr, Ok, Some, None, true, false};
-ghost use Rattle.std.specs.Result.{result_ok};
+ghost use Rattle.std.specs.Result.{result_err, result_ok};
 ghost use Rattle.guest_pipes.specs.Step.{has_place};
 ghost use Rattle.xhci_machine.specs.Effects.{no_event_ring};
 ghost use Rattle.xhci_machine.specs.Interrupter.{dequeued_at, event_posted, full_told, loaded, missing_entry, pointer_taken, ring_taken, seen, segment_of};
 ghost use Rattle.xhci_machine.specs.Interrupter.{taken, tells_full};
 
 use byteorder::{ByteOrder, LittleEndian};
+use guest_memory::rings::{Event, EventRing, Range};
 use guest_memory::{GuestMemory, Outside};
-use guest_rings::{Event, EventRing, Range};
 use xhci_registers::{Interrupter, Registers};
 
 /// The fewest and the most TRBs of the segment (6.5).
 const FEWEST_PLACES: u16 = 16;
 
 const MOST_PLACES: u16 = 4096;
+
+/// Why there is no event ring to be had. [`Machine::work`](crate::Machine::work) makes a host system error of either.
+#[derive(Clone, Copy, Debug, PartialEq, Eq)]
+pub(crate) enum RingFault {
+    /// A byte of the segment table isn't there.
+    Outside,
+    /// The table has no one segment of 16 to 4,096 TRBs, or the consumer's pointer is outside of it.
+    NoSegment,
+}
+
+impl From<Outside> for RingFault {
+    ghost use Rattle.xhci_machine.specs.declared.interrupts.RingFault.TheVariants as faults;
+
+    ghost from_gives = { λ _ fault. fault ≡ faults.Outside };
+
+    fn from(_outside: Outside) -> RingFault {
+        RingFault::Outside
+    }
+}
 
 /// The event ring, once its table was read; whether ERDP was written since, and cleared EHB by that; and whether Event Ring Full Error
 /// was posted since there was room.
@@ -26,17 +45,20 @@ pub(crate) struct Interrupts {
     told_full: bool,
 }
 
-/// The event ring of the segment table's one entry, or None where the table has no entry. Refused where the entry isn't there or is no
-/// segment, and where there are more.
+/// The event ring of the segment table's one entry, or None where the table has no entry. Refused with `Outside` where the entry isn't there,
+/// with `NoSegment` where it is no segment or there are more.
 #[tactic(auto, unfolding(crate::specs::Interrupter::loaded))]
-fn load<M: GuestMemory>(memory: &M, interrupter: &Interrupter) -> Result<Option<EventRing>, Outside>
-    ensures { result_ok result ≡ loaded (M.contents memory.now) interrupter.now }
+fn load<M: GuestMemory>(
+    memory: &M,
+    interrupter: &Interrupter,
+) -> Result<Option<EventRing>, RingFault>
+    ensures { result ≡ loaded (M.contents memory.now) interrupter.now }
 {
     if interrupter.table_size == 0 {
         return Ok(None);
     }
     if interrupter.table_size > 1 {
-        return Err(Outside);
+        return Err(RingFault::NoSegment);
     }
     let mut bytes = [0; 16];
     memory.read(interrupter.table, &mut bytes)?;
@@ -44,30 +66,30 @@ fn load<M: GuestMemory>(memory: &M, interrupter: &Interrupter) -> Result<Option<
     segment(entry - entry % 64, LittleEndian::read_u16(&bytes[8..]))
 }
 
-/// A new ring in a segment. Refused where it isn't one.
-fn segment(base: u64, places: u16) -> Result<Option<EventRing>, Outside>
-    ensures { result_ok result ≡ segment_of base places }
+/// A new ring in a segment. Refused with `NoSegment` where it isn't one.
+fn segment(base: u64, places: u16) -> Result<Option<EventRing>, RingFault>
+    ensures { result ≡ segment_of base places }
 {
     if places < FEWEST_PLACES || places > MOST_PLACES {
-        return Err(Outside);
+        return Err(RingFault::NoSegment);
     }
     match base.checked_add(16 * u64::from(places)) {
         Some(_) => Ok(Some(EventRing::new(base, places))),
-        None => Err(Outside),
+        None => Err(RingFault::NoSegment),
     }
 }
 
-/// The consumer's dequeue pointer is this now. Refused where it is outside the segment.
-fn dequeue(ring: &mut EventRing, pointer: u64) -> Result<(), Outside>
-    ensures ring { ring.new ≡ unwrap_or (dequeued_at ring.old pointer) ring.old }
-    ensures done { is_ok result ≡ is_some (dequeued_at ring.old pointer) }
+/// The consumer's dequeue pointer is this now. Refused with `NoSegment` where it is outside the segment.
+fn dequeue(ring: &mut EventRing, pointer: u64) -> Result<(), RingFault>
+    ensures ring { ring.new ≡ unwrap_or (result_ok (dequeued_at ring.old pointer)) ring.old }
+    ensures fault { result_err result ≡ result_err (dequeued_at ring.old pointer) }
 {
     match ring.place_at(pointer) {
         Some(place) => {
             ring.dequeue(place);
             Ok(())
         }
-        None => Err(Outside),
+        None => Err(RingFault::NoSegment),
     }
 }
 
@@ -135,9 +157,9 @@ impl Interrupts {
         &mut self,
         memory: &M,
         registers: &mut Registers,
-    ) -> Result<Option<EventRing>, Outside>
+    ) -> Result<Option<EventRing>, RingFault>
         ensures kept { self.old.dequeued ≡ false → IfSome self.old.ring (λ ring. result ≡ Ok (Some ring)) }
-        ensures taken { (result_ok result, (self.new, registers.new)) ≡ taken (M.contents memory.now) self.old registers.old }
+        ensures taken { (result, (self.new, registers.new)) ≡ taken (M.contents memory.now) self.old registers.old }
     {
         match self.take_ring(memory, &registers.interrupter)? {
             None => Ok(None),
@@ -154,10 +176,10 @@ impl Interrupts {
         &mut self,
         memory: &M,
         interrupter: &Interrupter,
-    ) -> Result<Option<EventRing>, Outside>
+    ) -> Result<Option<EventRing>, RingFault>
         ensures kept { IfSome self.old.ring (λ ring. result ≡ Ok (Some ring)) }
         ensures rest { IfSome self.old.ring (λ ring. self.new ≡ record self.old { ring = None }) }
-        ensures taken { (result_ok result, self.new) ≡ ring_taken (M.contents memory.now) interrupter.now self.old self.old.ring }
+        ensures taken { (result, self.new) ≡ ring_taken (M.contents memory.now) interrupter.now self.old self.old.ring }
     {
         match self.ring.take() {
             Some(ring) => Ok(Some(ring)),
@@ -170,10 +192,10 @@ impl Interrupts {
     }
 
     /// Takes ERDP. Where its write cleared EHB while events are behind it, the interrupt is raised again (4.17.2).
-    fn dequeue(&mut self, ring: &mut EventRing, registers: &mut Registers) -> Result<(), Outside>
+    fn dequeue(&mut self, ring: &mut EventRing, registers: &mut Registers) -> Result<(), RingFault>
         ensures noted { (ring.new, (self.new, registers.new))
-            ≡ unwrap_or (pointer_taken ring.old self.old registers.old) (ring.old, (self.old, registers.old)) }
-        ensures done { is_ok result ≡ is_some (pointer_taken ring.old self.old registers.old) }
+            ≡ unwrap_or (result_ok (pointer_taken ring.old self.old registers.old)) (ring.old, (self.old, registers.old)) }
+        ensures fault { result_err result ≡ result_err (pointer_taken ring.old self.old registers.old) }
     {
         let pointer = registers.interrupter.dequeue;
         dequeue(ring, pointer)?;
@@ -211,7 +233,7 @@ impl Interrupts {
         let (mut ahead, mut registers) = (self.snapshot(), *registers);
         match ahead.take(memory, &mut registers) {
             Ok(Some(ring)) => Seen::Ring(ring),
-            Ok(None) | Err(Outside) => Seen::Nothing,
+            Ok(None) | Err(RingFault::Outside | RingFault::NoSegment) => Seen::Nothing,
         }
     }
 

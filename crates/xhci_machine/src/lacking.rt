@@ -1,6 +1,6 @@
 //! What the command in front of the command ring lacks, for a caller who copies in what is asked for.
 ghost use Rattle.std.specs.Prelude.{◌≡◌, ◌<◌};
-ghost use Rattle.guest_rings.specs.Ends.{fetched};
+ghost use Rattle.guest_memory.specs.rings.Ends.{fetched};
 ghost use Rattle.xhci_machine.specs.Orders.{endpoint_of};
 ghost use Rattle.xhci_machine.specs.Ring.{command_cursor};
 ghost use Rattle.xhci_machine.specs.Lacking.{begun_wanted, command_wanted, dequeue_wanted, order_wanted, pointer_wanted, stop_wanted, stopping_wanted};
@@ -10,9 +10,9 @@ use crate::Machine;
 use crate::command::{Command, Order, read_command};
 use crate::orders::{Endpoint, endpoint_of};
 use crate::ring::{SLOT, pointer_home};
+use guest_memory::rings::{Cursor, Home, Range, fetch, look_wants};
 use guest_memory::{GuestMemory, Outside};
 use guest_pipes::EndpointState;
-use guest_rings::{Cursor, Home, Range, fetch, look_wants};
 use guest_transfers::StreamPipe;
 
 /// The pointer of an endpoint without streams, in its context.

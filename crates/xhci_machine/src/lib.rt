@@ -28,7 +28,8 @@
 //! what it asks for beyond the registers, and so are a reset, the plug, MFINDEX and a message an equation each. The next request is that of
 //! the first active tag that asks; an answer of the backend is `answered` of uas_tasks; neither changes anything else. A TRB of the command
 //! ring is `command_in`, and a step there `commands_stepped`. A step's event ring is `taken` of what is kept and the registers, and `seen`
-//! ahead; an event of the controller's own is `event_posted`, and what a step left `settled`.
+//! ahead; either fault of its table (`RingFault`) halts the controller, and a host isn't told which. An event of the controller's own is
+//! `event_posted`, and what a step left `settled`.
 //!
 //! What a call of [`Machine::work`] makes of memory and of the whole machine, with which tags are active, is `IsWorked` (specs/Worked): rounds
 //! of turns in their order, each round an equation. [`Machine::wants`] is `wanted` (specs/Wanted): the first range that a turn lacks, in that order

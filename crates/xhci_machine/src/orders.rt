@@ -7,9 +7,9 @@ ghost use Rattle.xhci_machine.specs.Orders.{pointer_set, reset_done, state_in, s
 use crate::Machine;
 use crate::command::Order;
 use crate::ring::{Ended, SLOT_NOT_ENABLED, SUCCESS, end_with, pointer_home};
+use guest_memory::rings::{Cursor, EventRing, Home, stand};
 use guest_memory::{GuestMemory, Outside};
 use guest_pipes::{EndpointState, Pipe};
-use guest_rings::{Cursor, EventRing, Home, stand};
 use guest_transfers::StreamPipe;
 
 /// Completion codes (table 6-90).

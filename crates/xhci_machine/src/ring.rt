@@ -2,7 +2,7 @@
 ghost use Rattle.std.specs.Prelude.{◌≡◌, true, false, is_ok, Some, None, OnErr, option_map, if◌then◌else◌};
 ghost use Rattle.std.specs.Result.{result_ok};
 ghost use Rattle.guest_pipes.specs.Step.{has_place};
-ghost use Rattle.guest_rings.specs.Ends.{behind};
+ghost use Rattle.guest_memory.specs.rings.Ends.{behind};
 ghost use Rattle.xhci_machine.specs.Effects.{idle_ring};
 ghost use Rattle.xhci_machine.specs.Interrupter.{event_posted};
 ghost use Rattle.xhci_machine.specs.Ring.{code_number, command_cursor, ended, has_command, on_slot_done};
@@ -12,9 +12,9 @@ ghost use Rattle.xhci_machine.specs.Steps.{command_ended, command_taken, command
 use crate::Machine;
 use crate::command::{Command, Order, read_command};
 use crate::interrupts::post;
+use guest_memory::rings::{Cursor, Event, EventRing, fetch};
 use guest_memory::{GuestMemory, Outside};
 use guest_pipes::{Acted, room_gate};
-use guest_rings::{Cursor, Event, EventRing, fetch};
 use xhci_slots::{Code, SlotCommand};
 
 /// The one slot.

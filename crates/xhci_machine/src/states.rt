@@ -8,7 +8,7 @@ use crate::Machine;
 use guest_memory::{GuestMemory, Outside};
 use guest_pipes::EndpointState;
 use guest_transfers::StreamPipe;
-use xhci_contexts::{EndpointState as ContextState, Number};
+use xhci_slots::contexts::{EndpointState as ContextState, Number};
 
 /// The states of the endpoints.
 #[derive(Clone, Copy, Debug, PartialEq, Eq)]

@@ -1,6 +1,6 @@
-//! The steps of endpoint 0, of the command pipe, for a doorbell that no tag's turn serves, and of a tag. While the port is
-//! suspended none of them is due. Each tests the device context before it does anything, as it may change an endpoint's state there, and is refused
-//! where memory that it needs isn't there.
+//! The steps of endpoint 0, of the command pipe, for a doorbell that no tag's turn serves, and of a tag. While the port is suspended none
+//! of them is due. Each tests the device context before it does anything, as it may change an endpoint's state there, and is refused where
+//! memory that it needs isn't there.
 ghost use Rattle.std.specs.Prelude.{◌≡◌, ◌<◌, is_ok, not};
 ghost use Rattle.std.specs.Result.{result_ok};
 ghost use Rattle.xhci_machine.specs.Contexts.{is_asleep, lacks_context};
@@ -8,9 +8,9 @@ ghost use Rattle.xhci_machine.specs.Rounds.{command_pipe_stepped, control_steppe
 
 use crate::Machine;
 use crate::wanting::is_due;
+use guest_memory::rings::EventRing;
 use guest_memory::{GuestMemory, Outside};
 use guest_pipes::Acted;
-use guest_rings::EventRing;
 use guest_transfers::StreamPipe;
 use xhci_registers::Link;
 

@@ -1,7 +1,7 @@
 //! The turns of a round, each of at most one step.
 ghost use Rattle.std.specs.Prelude.{◌≡◌, ◌<◌, ◌≤◌, ◌-◌, ◌==◌, ◌&&◌, is_ok, true, false, if◌then◌else◌};
 ghost use Rattle.guest_pipes.specs.Step.{has_place};
-ghost use Rattle.guest_rings.specs.Events.{has_room};
+ghost use Rattle.guest_memory.specs.rings.Events.{has_room};
 ghost use Rattle.xhci_machine.specs.Rounds.{command_pipe_stepped, control_stepped, data_of, front_turned, stray_stepped, pipes_turned, port_in, status_of, turned};
 ghost use Rattle.xhci_machine.specs.Steps.{commands_stepped};
 ghost use Rattle.xhci_machine.specs.Worked.{busy_turned, gone_dropped, is_busy, is_gone, tag_turned, tags_turned};
@@ -9,9 +9,9 @@ ghost use Rattle.xhci_machine.specs.Turns.{interrupted, left_after, noted, port_
 
 use crate::Machine;
 use crate::interrupts::post;
+use guest_memory::rings::{Event, EventRing};
 use guest_memory::{GuestMemory, Outside};
 use guest_pipes::Acted;
-use guest_rings::{Event, EventRing};
 use guest_tags::UasDevice;
 use guest_transfers::StreamPipe;
 use uas_tasks::Wants;

@@ -22,12 +22,12 @@ ghost use Rattle.xhci_machine.specs.Turns.{same_state};
 use crate::Machine;
 use crate::interrupts::Seen;
 use crate::turns::TAGS;
+use guest_memory::rings::{EventRing, Range};
 use guest_memory::{GuestMemory, Outside};
 use guest_pipes::{Consumer, EndpointState, place_range};
-use guest_rings::{EventRing, Range};
 use guest_tags::{Phase, UasDevice, moving};
 use guest_transfers::StreamPipe;
-use xhci_contexts::SlotState;
+use xhci_slots::contexts::SlotState;
 
 /// How a look at the next step ends before its last turn.
 #[derive(Clone, Copy)]

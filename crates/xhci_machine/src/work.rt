@@ -3,9 +3,10 @@ ghost use Rattle.std.specs.Prelude.{◌≡◌, ◌≤◌, ◌-◌, is_ok, false}
 ghost use Rattle.xhci_machine.specs.Worked.{IsWorked, RoundsWorked, nothing_worked, round_turned};
 
 use crate::Machine;
+use crate::interrupts::RingFault;
 use crate::turns::Turn;
+use guest_memory::rings::EventRing;
 use guest_memory::{GuestMemory, Outside};
-use guest_rings::EventRing;
 
 /// How many steps a call took, and whether there may be more to do at once.
 #[derive(Clone, Copy, Debug, PartialEq, Eq)]
@@ -28,7 +29,7 @@ impl Machine {
             return none();
         }
         match self.interrupts.take(memory, &mut self.registers) {
-            Err(Outside) => {
+            Err(RingFault::Outside | RingFault::NoSegment) => {
                 self.registers.fail();
                 none()
             }

@@ -7,16 +7,16 @@ use Rattle.std.specs.Prelude.{is_some, if◌then◌else◌}
 use Rattle.byteorder.specs.Endian.{little_number}
 use Rattle.guest_memory.specs.Bytes.{Memory, IsWithinAddresses, bytes_from, is_there, ◌>>=◌}
 use Rattle.guest_memory.specs.Ranges.{there_by_each, there_each}
-use Rattle.guest_rings.specs.declared.wanting.Range.{Range}
-use Rattle.guest_rings.specs.Wanted.{LacksIt}
-use Rattle.guest_rings.specs.WantedLaws.{missing_lacks, there_if}
-use Rattle.xhci_contexts.specs.declared.DeviceContext.{DeviceContext}
-use Rattle.xhci_contexts.specs.declared.EndpointState.{EndpointState}
-use Rattle.xhci_contexts.specs.declared.InputContext.{InputContext}
-use Rattle.xhci_contexts.specs.declared.Number.{Number}
-use Rattle.xhci_contexts.specs.declared.SlotState.{SlotState}
-use Rattle.xhci_contexts.specs.Contexts.{context_at, device_at, endpoint_at, endpoint_in, has_device, slot_at, slot_in}
-use Rattle.xhci_contexts.specs.Inputs.{input_at, is_bad_address, is_bad_configuration, is_bad_evaluation}
+use Rattle.guest_memory.specs.declared.rings.wanting.Range.{Range}
+use Rattle.guest_memory.specs.rings.Wanted.{LacksIt}
+use Rattle.guest_memory.specs.rings.WantedLaws.{missing_lacks, there_if}
+use Rattle.xhci_slots.specs.declared.contexts.DeviceContext.{DeviceContext}
+use Rattle.xhci_slots.specs.declared.contexts.EndpointState.{EndpointState}
+use Rattle.xhci_slots.specs.declared.contexts.InputContext.{InputContext}
+use Rattle.xhci_slots.specs.declared.contexts.Number.{Number}
+use Rattle.xhci_slots.specs.declared.contexts.SlotState.{SlotState}
+use Rattle.xhci_slots.specs.contexts.Contexts.{context_at, device_at, endpoint_at, endpoint_in, has_device, slot_at, slot_in}
+use Rattle.xhci_slots.specs.contexts.Inputs.{input_at, is_bad_address, is_bad_configuration, is_bad_evaluation}
 use Rattle.xhci_slots.specs.declared.SlotCommand.{SlotCommand}
 use Rattle.xhci_slots.specs.declared.SlotCommand.TheVariants.{Enable, Disable, Address, Configure, Evaluate, Reset}
 use Rattle.xhci_slots.specs.Slots.{World, address_step, addressed_by, configure_step, configured_by, context_disabled, deconfigure_step, disable_step, entry_at, evaluate_step, evaluated_by, executed, has_context, may_address, may_configure, may_evaluate, reset_step, slot_step, told}

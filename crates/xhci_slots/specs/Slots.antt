@@ -2,17 +2,17 @@
 use Rattle.std.specs.Prelude.{ℕ, ◌+◌, ◌-◌, ◌*◌, ◌%◌, ◌^◌, ◌==◌, ◌||◌, nat_lt, Bool, true, false, not, if◌then◌else◌, Option, Some, None}
 use Rattle.byteorder.specs.Endian.{little_number}
 use Rattle.guest_memory.specs.Bytes.{Memory, ◌>>=◌, bytes_from}
-use Rattle.xhci_contexts.specs.declared.DeviceContext.{DeviceContext}
-use Rattle.xhci_contexts.specs.declared.EndpointContext.{EndpointContext}
-use Rattle.xhci_contexts.specs.declared.EndpointState.{EndpointState}
-use Rattle.xhci_contexts.specs.declared.InputContext.{InputContext}
-use Rattle.xhci_contexts.specs.declared.Number.{Number}
-use Rattle.xhci_contexts.specs.declared.Number.TheVariants.{CommandPipe, StatusPipe, DataOutPipe, DataInPipe}
-use Rattle.xhci_contexts.specs.declared.SlotState.{SlotState}
-use Rattle.xhci_contexts.specs.declared.SlotState.TheVariants.{Enabled, Default, Addressed, Configured}
-use Rattle.xhci_contexts.specs.Contexts.{device_at, device_written}
-use Rattle.xhci_contexts.specs.Inputs.{endpoint_of, has_flag, index_of, input_at, is_bad_address, is_bad_configuration, is_bad_evaluation, streams_of}
-use Rattle.xhci_contexts.specs.Commands.{addressed, configured, deconfigured, device_reset, evaluated, has_pipe, slot_disabled, with_endpoint_state}
+use Rattle.xhci_slots.specs.declared.contexts.DeviceContext.{DeviceContext}
+use Rattle.xhci_slots.specs.declared.contexts.EndpointContext.{EndpointContext}
+use Rattle.xhci_slots.specs.declared.contexts.EndpointState.{EndpointState}
+use Rattle.xhci_slots.specs.declared.contexts.InputContext.{InputContext}
+use Rattle.xhci_slots.specs.declared.contexts.Number.{Number}
+use Rattle.xhci_slots.specs.declared.contexts.Number.TheVariants.{CommandPipe, StatusPipe, DataOutPipe, DataInPipe}
+use Rattle.xhci_slots.specs.declared.contexts.SlotState.{SlotState}
+use Rattle.xhci_slots.specs.declared.contexts.SlotState.TheVariants.{Enabled, Default, Addressed, Configured}
+use Rattle.xhci_slots.specs.contexts.Contexts.{device_at, device_written}
+use Rattle.xhci_slots.specs.contexts.Inputs.{endpoint_of, has_flag, index_of, input_at, is_bad_address, is_bad_configuration, is_bad_evaluation, streams_of}
+use Rattle.xhci_slots.specs.contexts.Commands.{addressed, configured, deconfigured, device_reset, evaluated, has_pipe, slot_disabled, with_endpoint_state}
 use Rattle.xhci_slots.specs.declared.Change.{Change}
 use Rattle.xhci_slots.specs.declared.Change.TheVariants.{Kept, Disabled, Set}
 use Rattle.xhci_slots.specs.declared.Changes.{Changes}

@@ -1,12 +1,12 @@
 -- The first range of memory that a command on the slot lacks, of those that it reads one behind another.
 use Rattle.std.specs.Prelude.{ℕ, ◌+◌, ◌%◌, ◌^◌, Bool, true, false, if◌then◌else◌, Option, Some, None}
 use Rattle.guest_memory.specs.Bytes.{Memory}
-use Rattle.guest_rings.specs.declared.wanting.Range.{Range}
-use Rattle.guest_rings.specs.Wanted.{missing}
-use Rattle.xhci_contexts.specs.declared.InputContext.{InputContext}
-use Rattle.xhci_contexts.specs.declared.SlotState.{SlotState}
-use Rattle.xhci_contexts.specs.Contexts.{context_at, has_device}
-use Rattle.xhci_contexts.specs.Inputs.{input_at, is_bad_address, is_bad_configuration, is_bad_evaluation}
+use Rattle.guest_memory.specs.declared.rings.wanting.Range.{Range}
+use Rattle.guest_memory.specs.rings.Wanted.{missing}
+use Rattle.xhci_slots.specs.declared.contexts.InputContext.{InputContext}
+use Rattle.xhci_slots.specs.declared.contexts.SlotState.{SlotState}
+use Rattle.xhci_slots.specs.contexts.Contexts.{context_at, has_device}
+use Rattle.xhci_slots.specs.contexts.Inputs.{input_at, is_bad_address, is_bad_configuration, is_bad_evaluation}
 use Rattle.xhci_slots.specs.declared.SlotCommand.{SlotCommand}
 use Rattle.xhci_slots.specs.declared.SlotCommand.TheVariants.{Enable, Disable, Address, Configure, Evaluate, Reset}
 use Rattle.xhci_slots.specs.Slots.{World, entry_at, has_context, may_address, may_configure, may_evaluate}

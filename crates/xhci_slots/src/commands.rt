@@ -2,17 +2,17 @@
 ghost use Rattle.std.specs.Prelude.{◌≡◌, true, OnErr, option_map};
 ghost use Rattle.std.specs.Result.{result_ok};
 ghost use Rattle.guest_memory.specs.Bytes.{Memory};
-ghost use Rattle.xhci_contexts.specs.Contexts.{has_device};
+ghost use Rattle.xhci_slots.specs.contexts.Contexts.{has_device};
 ghost use Rattle.xhci_slots.specs.Slots.{address_step, addressed_by, configure_step, configured_by, deconfigure_step, disable_step, entry_at};
 ghost use Rattle.xhci_slots.specs.Slots.{context_disabled, evaluate_step, evaluated_by, executed, free_step, reset_step, slot_step, stood, told};
 
+use crate::contexts::{DeviceContext, EndpointState, InputContext, Number, SlotState};
 use crate::states::{
     done, has_context, may_address, may_configure, may_evaluate, refused, set_by, state_of,
 };
 use crate::{Changes, Code, Done, Slot, SlotCommand};
 use byteorder::{ByteOrder, LittleEndian};
 use guest_memory::{GuestMemory, Outside};
-use xhci_contexts::{DeviceContext, EndpointState, InputContext, Number, SlotState};
 
 /// The slot's entry of the device context base address array (6.1): a multiple of 64.
 #[tactic(auto, unfolding(crate::specs::Slots::entry_at))]

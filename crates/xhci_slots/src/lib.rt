@@ -19,16 +19,17 @@
 //!
 //! What is promised: [`Slot::execute`] is `executed` of specs/Slots.antt over the driver's memory and the slot, for any command and any bytes
 //! there, and [`Slot::tell`] is `told`. [`Slot::wants`] and [`Slot::wants_to_tell`] say what of that memory either lacks (src/wanting.rt). It
-//! stands on `guest_rings` and `xhci_contexts`.
+//! stands on `guest_memory`; the contexts and the commands on them are [`contexts`]'s.
 #![tactic(auto)]
 
 mod commands;
+pub mod contexts;
 mod states;
 mod wanting;
 
+use crate::contexts::SlotState;
 pub use guest_memory::Outside;
 pub use wanting::{what_is_wanted_is_not_there, what_lacks_nothing_is_executed};
-use xhci_contexts::SlotState;
 
 /// The slot: its state where it is given out, and where its device context is.
 #[derive(Clone, Copy, Debug, PartialEq, Eq)]

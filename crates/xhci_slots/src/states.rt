@@ -1,11 +1,11 @@
 //! What a state allows, and what a command tells of the endpoints.
 ghost use Rattle.std.specs.Prelude.{◌≡◌, ◌<◌};
-ghost use Rattle.xhci_contexts.specs.Commands.{has_pipe};
+ghost use Rattle.xhci_slots.specs.contexts.Commands.{has_pipe};
 ghost use Rattle.xhci_slots.specs.Slots.{all_gone, array_entries, change_of, changes_of, free_slot, has_context, may_address, may_configure, may_evaluate};
 ghost use Rattle.xhci_slots.specs.Slots.{no_changes, pipes_gone, set_by, state_of};
 
+use crate::contexts::{DeviceContext, EndpointContext, InputContext, Number, SlotState};
 use crate::{Change, Changes, Code, Done, Slot};
-use xhci_contexts::{DeviceContext, EndpointContext, InputContext, Number, SlotState};
 
 impl Slot {
     /// Not given out.

@@ -1,19 +1,19 @@
 //! What a command on the slot lacks, for a caller who copies in what is asked for.
 ghost use Rattle.std.specs.Prelude.{◌≡◌, None, is_some, true, ℕ};
 ghost use Rattle.guest_memory.specs.Bytes.{IsWithinAddresses};
-ghost use Rattle.guest_rings.specs.Wanted.{LacksIt};
-ghost use Rattle.xhci_contexts.specs.declared.EndpointState.{EndpointState};
-ghost use Rattle.xhci_contexts.specs.declared.Number.{Number};
+ghost use Rattle.guest_memory.specs.rings.Wanted.{LacksIt};
+ghost use Rattle.xhci_slots.specs.declared.contexts.EndpointState.{EndpointState};
+ghost use Rattle.xhci_slots.specs.declared.contexts.Number.{Number};
 ghost use Rattle.xhci_slots.specs.Slots.{World, entry_at, executed, told};
 ghost use Rattle.xhci_slots.specs.Wanted.{address_wanted, command_wanted, configure_wanted, device_wanted, entry_wanted, evaluate_wanted};
 ghost use Rattle.xhci_slots.specs.Wanted.{input_wanted, slot_wanted, tell_wanted};
 
 use crate::commands::entry_at;
+use crate::contexts::{DeviceContext, InputContext, SlotState};
 use crate::states::{has_context, may_address, may_configure, may_evaluate};
 use crate::{Slot, SlotCommand};
+use guest_memory::rings::Range;
 use guest_memory::{GuestMemory, Outside};
-use guest_rings::Range;
-use xhci_contexts::{DeviceContext, InputContext, SlotState};
 
 /// Bytes of a device context.
 const DEVICE_BYTES: usize = 192;

@@ -19,11 +19,10 @@ use Rattle.solo_model.specs.declared.Phase.{Phase}
 use Rattle.solo_model.specs.declared.Phase.TheVariants.{Queued, Begun, Sent, Gone}
 use Rattle.solo_model.specs.TaggedTask.{can_go, is_noted, unit_managed}
 use Rattle.uas_iu.specs.Lun.{lun_text}
-use Rattle.uas_profile.specs.Places.{tag_of}
+use Rattle.uas_profile.specs.Tags.{tag_of}
 use Rattle.uas_host.specs.Tasks.{named_tag, function_of}
 use Rattle.uas_target.specs.declared.Took.TheVariants.{Began}
-use Rattle.uas_target.specs.Device.{Device, has_command, managed, received, task_of, with_code, with_response, with_unit, without_command, without_commands_of}
-use Rattle.uas_target.specs.Fields.{is_tag}
+use Rattle.uas_target.specs.Device.{Device, has_command, managed, received, task_of, with_code, with_response, with_unit, without_command, without_commands_of, has_place}
 use Rattle.uas_target.specs.Tasks.{is_command_of, spared}
 use Rattle.uas_target.proofs.Managed.{held_under-map, held_under-spared, spared-same}
 use Rattle.uas_target.proofs.Received.{received-task}
@@ -58,7 +57,7 @@ managed-done device number unit (Query tag) is = rw is refl
 
 -- the device receives the text of a task management to the unit of this number, under a free tag
 pub received-managed : (device : Device) (number tag : ℕ) (what : Task) (noted : ArrayVec ℕ) (unit : BlockMaps) → slice_get device.units number ≡ Some unit
-    → tag < 2 ^ 16 → named_tag what < 2 ^ 16 → is_tag tag ≡ true → held_under device.tasks tag ≡ None
+    → tag < 2 ^ 16 → named_tag what < 2 ^ 16 → has_place device tag ≡ true → held_under device.tasks tag ≡ None
     → received device (request_text number tag (Manage what noted)) ≡ (managed_device device number tag unit what, Ok (Began tag))
 received-managed device number tag what noted unit is less short is_one free =
     received-task device tag (function_of what) (named_tag what) (lun_text number) (less, short, refl)
@@ -142,18 +141,18 @@ spared-own number op Gone answers = refl
 -- WHAT THE ENTRY SAYS
 
 -- the device reaches what the task management ends, and nothing else
-pub reached-ended : (client slot : ℕ) (what : Task) (noted : ArrayVec ℕ) (ticket : ℕ) → reaches what (tag_of (record { client = client; slot = slot })) ≡ true
-    → (names client slot what ≡ true → is_noted noted.items ticket ≡ true) → is_noted (ended_by what noted).items ticket ≡ true
-reached-ended client slot (Abort tag) noted ticket is named = named is
-reached-ended client slot Reset noted ticket is named = named is
-reached-ended client slot (Query tag) noted ticket is named = absurd (false≢true is)
+pub reached-ended : (tags : ℕ) (client slot : ℕ) (what : Task) (noted : ArrayVec ℕ) (ticket : ℕ) → reaches what (tag_of tags (record { client = client; slot = slot })) ≡ true
+    → (names tags client slot what ≡ true → is_noted noted.items ticket ≡ true) → is_noted (ended_by what noted).items ticket ≡ true
+reached-ended tags client slot (Abort tag) noted ticket is named = named is
+reached-ended tags client slot Reset noted ticket is named = named is
+reached-ended tags client slot (Query tag) noted ticket is named = absurd (false≢true is)
 
-pub unreached-kept : (client slot : ℕ) (what : Task) (noted : ArrayVec ℕ) (ticket : ℕ)
-    → reaches what (tag_of (record { client = client; slot = slot })) ≡ false
-    → (names client slot what ≡ false → is_noted noted.items ticket ≡ false) → is_noted (ended_by what noted).items ticket ≡ false
-unreached-kept client slot (Abort tag) noted ticket is unnamed = unnamed is
-unreached-kept client slot Reset noted ticket is unnamed = unnamed is
-unreached-kept client slot (Query tag) noted ticket is unnamed = refl
+pub unreached-kept : (tags : ℕ) (client slot : ℕ) (what : Task) (noted : ArrayVec ℕ) (ticket : ℕ)
+    → reaches what (tag_of tags (record { client = client; slot = slot })) ≡ false
+    → (names tags client slot what ≡ false → is_noted noted.items ticket ≡ false) → is_noted (ended_by what noted).items ticket ≡ false
+unreached-kept tags client slot (Abort tag) noted ticket is unnamed = unnamed is
+unreached-kept tags client slot Reset noted ticket is unnamed = unnamed is
+unreached-kept tags client slot (Query tag) noted ticket is unnamed = refl
 
 -- the phase of a command once a task management was received that noted it, or didn't
 abbrev pub phase_after : Bool → Phase → Phase

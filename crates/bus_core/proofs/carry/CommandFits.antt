@@ -9,7 +9,7 @@ use Rattle.frame_store.specs.Buffers.{bytes_at, held_for}
 use Rattle.scsi_cmd.specs.declared.Op.{Op}
 use Rattle.scsi_cmd.specs.declared.Request.{Request}
 use Rattle.scsi_cmd.specs.declared.Request.TheVariants.{Execute, Manage}
-use Rattle.uas_profile.specs.declared.TheConstants.{TASK_SLOT, STREAMS, COMMAND_BYTES}
+use Rattle.uas_profile.specs.declared.TheConstants.{STREAMS, COMMAND_BYTES}
 use Rattle.scsi_cmd.specs.Held.{held_under, with_held_under}
 use Rattle.scsi_cmd.specs.Laws.{length-cdb_bytes}
 use Rattle.scsi_cmd.specs.Op.{cdb_bytes}
@@ -23,11 +23,10 @@ use Rattle.device_server.specs.Laws.{HasChunk-begun, begun-count}
 use Rattle.uas_iu.specs.Lun.{lun_text}
 use Rattle.uas_target.specs.declared.DeviceTask.{DeviceTask}
 use Rattle.uas_target.specs.declared.Took.TheVariants.{Began}
-use Rattle.uas_target.specs.Device.{Device, received, task_of}
-use Rattle.uas_target.specs.Fields.{is_tag}
+use Rattle.uas_target.specs.Device.{Device, received, task_of, has_place}
 use Rattle.uas_target.proofs.Received.{received-command}
 use Rattle.uas_profile.specs.declared.Place.{Place}
-use Rattle.uas_profile.specs.Places.{tag_of}
+use Rattle.uas_profile.specs.Tags.{tag_of}
 use Rattle.uas_host.specs.Tds.{command_buffer_of}
 use Rattle.xhci_ctl.specs.declared.Acted.{Acted}
 use Rattle.xhci_ctl.specs.declared.Acted.TheVariants.{Idle}
@@ -59,6 +58,7 @@ use Rattle.machine_invariant.proofs.MatchedNext.{matched-no_stray}
 use Rattle.machine_invariant.proofs.MatchedSteps.{shared_step-matched}
 use Rattle.machine_invariant.proofs.OrderedManaged.{noted-as_received}
 use Rattle.shared_machine.proofs.Standing.{held_under-with_same, held_under-with_other}
+use Rattle.uas_profile.specs.Tags.{task_slot}
 
 -- THE DEVICE RECEIVES A COMMAND
 
@@ -72,7 +72,7 @@ received_device device client tag after op =
     record { units = slice_set device.units client after.0; tasks = with_held_under device.tasks tag (begun_task (Some client) (Execute op) after.1) }
 
 pub began-op : (device : Device) (number tag : ℕ) (op : Op) (unit : BlockMaps) → slice_get device.units number ≡ Some unit → tag < 2 ^ 16
-    → is_tag tag ≡ true → held_under device.tasks tag ≡ None
+    → has_place device tag ≡ true → held_under device.tasks tag ≡ None
     → received device (request_text number tag (Execute op))
     ≡ (received_device device number tag (begins unit op) op, Ok (Began tag))
 began-op device number tag op unit is less is_one free =
@@ -83,52 +83,52 @@ began-op device number tag op unit is less is_one free =
     λ i. (device_is i, began i)
 
 -- what it is after it received the command of a place
-abbrev device_after : World → Place → BlockMaps × TaskProgress → Op → Device
-device_after world place after op = received_device world.device place.client (tag_of place) after op
+abbrev device_after : ℕ → World → Place → BlockMaps × TaskProgress → Op → Device
+device_after tags world place after op = received_device world.device place.client (tag_of tags place) after op
 
 command-received : (state : Shared) (world : World) (place : Place) (entry : Entry) (op : Op) (at : IsPlaced state world place entry)
-    → Fits state world → entry.task.phase ≡ Queued → entry.task.request ≡ Execute op → place.slot < TASK_SLOT
-    → received world.device (bytes_at world.frames (command_buffer_of (tag_of place)) (unit_bytes place.slot))
-    ≡ (device_after world place (begins at.part.unit op) op, Ok (Began (tag_of place)))
+    → Fits state world → entry.task.phase ≡ Queued → entry.task.request ≡ Execute op → place.slot < (task_slot state.tags)
+    → received world.device (bytes_at world.frames (command_buffer_of (tag_of state.tags place)) (unit_bytes state.tags place.slot))
+    ≡ (device_after state.tags world place (begins at.part.unit op) op, Ok (Began (tag_of state.tags place)))
 command-received state world place entry op at fits queued asks below =
     let tag = tag-bounds state world place entry at fits in
-    let unit : HasUnitIn place.client (tag_of place) (Execute op) (held_for world.frames (tag_of place)).command =
-    subst (λ r. HasUnitIn place.client (tag_of place) r (held_for world.frames (tag_of place)).command) asks at.cell.unit in
-    let free : task_of world.device (tag_of place) ≡ None =
+    let unit : HasUnitIn place.client (tag_of state.tags place) (Execute op) (held_for world.frames (tag_of state.tags place)).command =
+    subst (λ r. HasUnitIn place.client (tag_of state.tags place) r (held_for world.frames (tag_of state.tags place)).command) asks at.cell.unit in
+    let free : task_of world.device (tag_of state.tags place) ≡ None =
     at.cell.task ∙ ap (λ p. phase_task (Some place.client) entry.task.request p) queued in
-    ap (λ n. received world.device (bytes_at world.frames (command_buffer_of (tag_of place)) n)) (unit_bytes-command place.slot below)
-    ∙ ap (received world.device) (command-bytes world.frames (tag_of place) COMMAND_BYTES fits.sound.frames tag.0 (omega (arith, tag.1)) (omega arith) (omega arith)
-    ∙ take_all COMMAND_BYTES (held_for world.frames (tag_of place)).command (omega (arith, (fits.sound.frames.sizes (tag_of place) tag.0 (omega (arith, tag.1))).command))
+    ap (λ n. received world.device (bytes_at world.frames (command_buffer_of (tag_of state.tags place)) n)) (unit_bytes-command state.tags place.slot below)
+    ∙ ap (received world.device) (command-bytes world.frames (tag_of state.tags place) COMMAND_BYTES fits.sound.frames tag.0 (omega (arith, tag.1)) (omega arith) (omega arith)
+    ∙ take_all COMMAND_BYTES (held_for world.frames (tag_of state.tags place)).command (omega (arith, (fits.sound.frames.sizes (tag_of state.tags place) tag.0 (omega (arith, tag.1))).command))
     ∙ unit)
-    ∙ began-op world.device place.client (tag_of place) op at.part.unit at.client.unit_is tag.2 tag.3 free
+    ∙ began-op world.device place.client (tag_of state.tags place) op at.part.unit at.client.unit_is tag.2 tag.3 free
 
 -- ITS CELL
 
 abbrev pub received_entry : Entry → TaskProgress → Entry
 received_entry entry progress = record entry { task = record entry.task { phase = Begun progress }; command_td = with_trb_taken entry.command_td }
 
-received-cell : (client count : ℕ) (place : Place) (entry : Entry) (cell : Cell) (op : Op) (progress : TaskProgress) → entry.task.phase ≡ Queued
-    → entry.task.request ≡ Execute op → IsSoundProgress count op progress → FitsCell client count place entry cell
-    → FitsCell client count place (received_entry entry progress) (record cell { task = begun_task (Some client) (Execute op) progress })
-received-cell client count place entry cell op progress queued asks chunk fits =
+received-cell : (tags : ℕ) (client count : ℕ) (place : Place) (entry : Entry) (cell : Cell) (op : Op) (progress : TaskProgress) → entry.task.phase ≡ Queued
+    → entry.task.request ≡ Execute op → IsSoundProgress count op progress → FitsCell tags client count place entry cell
+    → FitsCell tags client count place (received_entry entry progress) (record cell { task = begun_task (Some client) (Execute op) progress })
+received-cell tags client count place entry cell op progress queued asks chunk fits =
     let whole : IsSoundOp count entry.task op = subst (λ r. IsSoundRequest count entry.task r) asks fits.sound in
-    cell-phase client count place entry cell (Begun progress) (with_trb_taken entry.command_td) cell.held (begun_task (Some client) (Execute op) progress) fits
+    cell-phase tags client count place entry cell (Begun progress) (with_trb_taken entry.command_td) cell.held (begun_task (Some client) (Execute op) progress) fits
     (fits.held ∙ ap (λ p. Some (record (host_side entry) { told = told_by p entry.status_td.state })) queued)
     (ap (λ r. begun_task (Some client) r progress) (sym asks)) tt
     (subst (λ r. IsSoundRequest count (record entry.task { phase = Begun progress }) r) (sym asks) (record { whole = whole.whole; chunk = chunk }))
 
 -- THE WORLD
 
-received-others : (world : World) (place : Place) (after : BlockMaps × TaskProgress) (op : Op)
-    → KeepsOthers world (received_world world (device_after world place after op)) place
-received-others world place after op other at inside apart =
-    ap (λ t. record (cell_at world (record { client = other; slot = at })) { task = t })
-    (held_under-with_other world.device.tasks (tag_of place) (tag_of (record { client = other; slot = at }))
+received-others : (tags : ℕ) (world : World) (place : Place) (after : BlockMaps × TaskProgress) (op : Op)
+    → KeepsOthers tags world (received_world world (device_after tags world place after op)) place
+received-others tags world place after op other at inside apart =
+    ap (λ t. record (cell_at tags world (record { client = other; slot = at })) { task = t })
+    (held_under-with_other world.device.tasks (tag_of tags place) (tag_of tags (record { client = other; slot = at }))
     (begun_task (Some place.client) (Execute op) after.1) apart)
 
 received-acted : (state : Shared) (world : World) (place : Place) (rest : List Place) (entry : Entry) (op : Op) (at : IsPlaced state world place entry)
     → Fits state world → state.messages ≡ place ∷ rest → entry.task.phase ≡ Queued → entry.task.request ≡ Execute op
-    → IsActed state world (received_world world (device_after world place (begins at.part.unit op) op)) place at.part
+    → IsActed state world (received_world world (device_after state.tags world place (begins at.part.unit op) op)) place at.part
     (begins at.part.unit op).0 (received_entry entry (begins at.part.unit op).1) rest (CommandDone place ∷ [])
 received-acted state world place rest entry op at fits is queued asks =
     let tag = tag-bounds state world place entry at fits in
@@ -138,17 +138,17 @@ received-acted state world place rest entry op at fits is queued asks =
       controller = refl;
       engine = refl;
       units = refl;
-      tasks = λ other apart. held_under-with_other world.device.tasks (tag_of place) other task apart;
-      others = received-others world place (begins at.part.unit op) op;
-      ends = received-ends state world place (device_after world place (begins at.part.unit op) op);
+      tasks = λ other apart. held_under-with_other world.device.tasks (tag_of state.tags place) other task apart;
+      others = received-others state.tags world place (begins at.part.unit op) op;
+      ends = received-ends state world place (device_after state.tags world place (begins at.part.unit op) op);
       count = begun-count at.part.unit (reports_attention op) (checked_work op at.part.unit.count);
-      cell = subst (λ t. FitsCell place.client at.part.unit.count place (received_entry entry (begins at.part.unit op).1)
-          (record (cell_at world place) { task = t }))
-          (sym (held_under-with_same world.device.tasks (tag_of place) task (omega (arith, tag.0)) (omega (arith, tag.1, fits.sound.tags))))
-          (received-cell place.client at.part.unit.count place entry (cell_at world place) op (begins at.part.unit op).1 queued asks
+      cell = subst (λ t. FitsCell state.tags place.client at.part.unit.count place (received_entry entry (begins at.part.unit op).1)
+          (record (cell_at state.tags world place) { task = t }))
+          (sym (held_under-with_same world.device.tasks (tag_of state.tags place) task (omega (arith, tag.0)) (omega (arith, tag.1, fits.sound.tags))))
+          (received-cell state.tags place.client at.part.unit.count place entry (cell_at state.tags world place) op (begins at.part.unit op).1 queued asks
           (sound-command at.part.unit.count op (begun at.part.unit (reports_attention op) (checked_work op at.part.unit.count)).1
           (HasChunk-begun at.part.unit (reports_attention op) op)) at.cell);
-      queues = received-queues state world place rest (device_after world place (begins at.part.unit op) op)
+      queues = received-queues state world place rest (device_after state.tags world place (begins at.part.unit op) op)
           (acted_state state place at.part (begins at.part.unit op).0 (received_entry entry (begins at.part.unit op).1) rest (CommandDone place ∷ [])).parts
           fits is;
     }
@@ -168,8 +168,8 @@ command-stepped state place rest part entry op asks =
 
 -- from what the controller made of the world and what the shared machine made of the state
 command-by : (state now : Shared) (world : World) (place : Place) (rest : List Place) (device : Device) → Fits state world → state.messages ≡ place ∷ rest
-    → 1 ≤ tag_of place → tag_of place ≤ STREAMS
-    → received world.device (bytes_at world.frames (command_buffer_of (tag_of place)) (unit_bytes place.slot)) ≡ (device, Ok (Began (tag_of place)))
+    → 1 ≤ tag_of state.tags place → tag_of state.tags place ≤ STREAMS
+    → received world.device (bytes_at world.frames (command_buffer_of (tag_of state.tags place)) (unit_bytes state.tags place.slot)) ≡ (device, Ok (Began (tag_of state.tags place)))
     → (shared_step state CommandPipe).0 ≡ now
     → (IsMatched now → IsSoundWorld (received_world world device) → Fits now (received_world world device))
     → CommandFits state world place
@@ -186,24 +186,24 @@ command-by state now world place rest device fits is some most receives stepped 
     }
 
 command-at : (state : Shared) (world : World) (place : Place) (rest : List Place) (entry : Entry) (request : Request) (at : IsPlaced state world place entry)
-    → Fits state world → state.messages ≡ place ∷ rest → under state.parts place ≡ Some entry → entry.task.phase ≡ Queued → IsRequestIn place.slot request
+    → Fits state world → state.messages ≡ place ∷ rest → under state.parts place ≡ Some entry → entry.task.phase ≡ Queued → IsRequestIn state.tags place.slot request
     → entry.task.request ≡ request → CommandFits state world place
 command-at state world place rest entry (Execute op) at fits is standing queued here asks =
     let tag = tag-bounds state world place entry at fits in
     let after : BlockMaps × TaskProgress = begins at.part.unit op in
     command-by state
     (acted_state state place at.part (begins at.part.unit op).0 (received_entry entry (begins at.part.unit op).1) rest (CommandDone place ∷ []))
-    world place rest (device_after world place (begins at.part.unit op) op) fits is tag.0 (omega (arith, tag.1))
+    world place rest (device_after state.tags world place (begins at.part.unit op) op) fits is tag.0 (omega (arith, tag.1))
     (command-received state world place entry op at fits queued asks here)
     (carried-stepped state place rest at.part entry is at.there at.held queued ∙ command-stepped state place rest at.part entry op asks)
     (λ matched sound.
-    acted-fits state world (received_world world (device_after world place (begins at.part.unit op) op)) place entry
+    acted-fits state world (received_world world (device_after state.tags world place (begins at.part.unit op) op)) place entry
     (received_entry entry (begins at.part.unit op).1) (begins at.part.unit op).0 rest (CommandDone place ∷ []) at fits
     (received-acted state world place rest entry op at fits is queued asks) matched sound)
 command-at state world place rest entry (Manage what noted) at fits is standing queued here asks =
     let tag = tag-bounds state world place entry at fits in
     command-by state (carried_state state place rest (managed_now at.part place.slot entry what noted)) world place rest
-    (managed_world world place at.part.unit what).device fits is tag.0 (omega (arith, tag.1))
+    (managed_world state.tags world place at.part.unit what).device fits is tag.0 (omega (arith, tag.1))
     (management-received state world place entry what noted at fits queued asks here)
     (carried-stepped state place rest at.part entry is at.there at.held queued
     ∙ ap (carried_state state place rest) (carried-now at.part place.slot entry what noted asks))
@@ -213,7 +213,7 @@ command-at state world place rest entry (Manage what noted) at fits is standing 
 
 pub command_fits : CommandsFit
 command_fits state world place rest fits is =
-    let own : IsOwnMessage state.parts place = (matched-no_stray state fits.matched).messages 0 place (ap (λ ms. slice_get ms 0) is) in
+    let own : IsOwnMessage state.tags state.parts place = (matched-no_stray state fits.matched).messages 0 place (ap (λ ms. slice_get ms 0) is) in
     let at : IsPlaced state world place own.entry = placed state world place own.entry fits own.held in
     command-at state world place rest own.entry own.entry.task.request at fits is own.held own.queued at.matched.here.sound.asks refl
 
@@ -232,16 +232,16 @@ due-by : (state : Shared) (world : World) (messages : List Place) → Fits state
     → (is_some_of messages ≡ has_pending world.lines.command) × IsOwnCommandFront world.lines world.frames
 due-by state world [] fits is =
     let long : length world.lines.command.put ≡ length (carried_places state.events ++ state.messages) =
-    ap length fits.queues.put ∙ length-map (carried_places state.events ++ state.messages) command_item in (
+    ap length fits.queues.put ∙ length-map (carried_places state.events ++ state.messages) (command_item state.tags) in (
       sym (le-ltb world.lines.command.got (length world.lines.command.put)
           (omega (arith, long, fits.queues.got, length-append (carried_places state.events) state.messages, ap length is))),
       subst (λ front. IfSome front (λ f. IsOwnCommand world.frames f.1)) (sym (no-front state world fits.queues is)) tt,
     )
 due-by state world (place ∷ rest) fits is =
-    let own : IsOwnMessage state.parts place = (matched-no_stray state fits.matched).messages 0 place (ap (λ ms. slice_get ms 0) is) in
+    let own : IsOwnMessage state.tags state.parts place = (matched-no_stray state fits.matched).messages 0 place (ap (λ ms. slice_get ms 0) is) in
     let tag = tag-bounds state world place own.entry (placed state world place own.entry fits own.held) fits in
     let long : length world.lines.command.put ≡ length (carried_places state.events ++ state.messages) =
-    ap length fits.queues.put ∙ length-map (carried_places state.events ++ state.messages) command_item in (
+    ap length fits.queues.put ∙ length-map (carried_places state.events ++ state.messages) (command_item state.tags) in (
       sym (lt-ltb world.lines.command.got (length world.lines.command.put)
           (omega (arith, long, fits.queues.got, length-append (carried_places state.events) state.messages, ap length is))),
       command-own state world place rest fits is tag.0 (omega (arith, tag.1)),

@@ -8,7 +8,7 @@ use Rattle.std.proofs.lemmas.List.{length-map, append_assoc}
 use Rattle.std.proofs.lemmas.Option.{slice_get_past, slice_get-map}
 use Rattle.cycle_ring.specs.Items.{known_of}
 use Rattle.cycle_ring.specs.Ring.{pointer_of}
-use Rattle.uas_profile.specs.declared.TheConstants.{TASK_SLOT, GREATEST_TAG, STREAMS, COMMAND_RING_PLACES, MOST_EVENTS, COMMAND_BYTES, SUCCESS}
+use Rattle.uas_profile.specs.declared.TheConstants.{STREAMS, COMMAND_RING_PLACES, MOST_EVENTS, COMMAND_BYTES, SUCCESS}
 use Rattle.uas_profile.specs.declared.Pipe.TheVariants.{Command, Status, DataIn, DataOut}
 use Rattle.frame_store.specs.declared.TagBuffers.{TagBuffers}
 use Rattle.frame_store.specs.declared.Place.{Place as Byte}
@@ -22,10 +22,9 @@ use Rattle.solo_model.specs.declared.Phase.TheVariants.{Queued}
 use Rattle.uas_target.specs.declared.Overlap.{Overlap}
 use Rattle.uas_target.specs.declared.Took.{Took}
 use Rattle.uas_target.specs.declared.Took.TheVariants.{Began}
-use Rattle.uas_target.specs.Device.{Device, received}
-use Rattle.uas_target.specs.Fields.{is_tag}
+use Rattle.uas_target.specs.Device.{Device, received, has_place}
 use Rattle.uas_profile.specs.declared.Place.{Place}
-use Rattle.uas_profile.specs.Places.{tag_of}
+use Rattle.uas_profile.specs.Tags.{tag_of}
 use Rattle.uas_host.specs.Tds.{command_buffer_of}
 use Rattle.xhci_ctl.specs.declared.Acted.TheVariants.{Acted as ActedOn}
 use Rattle.xhci_ctl.specs.Own.{IsOwnCommand, IsOwnCommandFront}
@@ -43,21 +42,23 @@ use Rattle.bus_core.proofs.common.ActFits.{IsPlaced}
 use Rattle.bus_core.proofs.common.EventTexts.{AllReadSame, carried_places-append, command_event, event_texts-append, event_texts-kept}
 use Rattle.bus_core.proofs.common.Framing.{EndsStay}
 use Rattle.machine_invariant.proofs.MatchedBounds.{matched-room}
+use Rattle.uas_profile.specs.Tags.{task_slot}
+use Rattle.uas_profile.proofs.TagLaws.{tags-within}
 
 -- ROOM ON THE EVENT RING
 
-pub length-event_texts : (world : World) (k : ℕ) (events : List Completion) → length (event_texts world k events) ≡ length events
-length-event_texts world k [] = refl
-length-event_texts world k (CommandDone place ∷ rest) = ap suc (length-event_texts world (suc k) rest)
-length-event_texts world k (DataDone place ∷ rest) = ap suc (length-event_texts world k rest)
-length-event_texts world k (StatusDone place ∷ rest) = ap suc (length-event_texts world k rest)
-length-event_texts world k (EngineDone place ∷ rest) = ap suc (length-event_texts world k rest)
+pub length-event_texts : (tags : ℕ) (world : World) (k : ℕ) (events : List Completion) → length (event_texts tags world k events) ≡ length events
+length-event_texts tags world k [] = refl
+length-event_texts tags world k (CommandDone place ∷ rest) = ap suc (length-event_texts tags world (suc k) rest)
+length-event_texts tags world k (DataDone place ∷ rest) = ap suc (length-event_texts tags world k rest)
+length-event_texts tags world k (StatusDone place ∷ rest) = ap suc (length-event_texts tags world k rest)
+length-event_texts tags world k (EngineDone place ∷ rest) = ap suc (length-event_texts tags world k rest)
 
 pub event-room : (state : Shared) (world : World) → Fits state world → has_event_room world.lines ≡ true
 event-room state world fits =
     let room : HasRoom state = matched-room state fits.matched in
-    let long : length world.lines.events.pending ≡ length state.events = ap length fits.queues.texts ∙ length-event_texts world 0 state.events in
-    lt-ltb (length world.lines.events.pending) MOST_EVENTS (omega (arith, long, room.events, fits.most_clients))
+    let long : length world.lines.events.pending ≡ length state.events = ap length fits.queues.texts ∙ length-event_texts state.tags world 0 state.events in
+    lt-ltb (length world.lines.events.pending) MOST_EVENTS (omega (arith, long, room.events, fits.most_tags))
 
 -- THE TRB IN FRONT
 
@@ -70,20 +71,20 @@ abbrev pub front_address : World → ℕ
 front_address world = pointer_of COMMAND_RING_PLACES world.lines.command world.lines.command.got
 
 pub command-front : (state : Shared) (world : World) (place : Place) (rest : List Place) → FitsQueues state world → state.messages ≡ place ∷ rest
-    → front_at COMMAND_RING_PLACES world.lines.command ≡ Some (front_address world, Some (command_trb place))
+    → front_at COMMAND_RING_PLACES world.lines.command ≡ Some (front_address world, Some (command_trb state.tags place))
 command-front state world place rest fits is =
     ap (option_map (λ item. (front_address world, known_of item)))
     (ap (slice_get world.lines.command.put) fits.got
     ∙ ap (λ ts. slice_get ts (length (carried_places state.events))) fits.put
-    ∙ ap (λ ms. slice_get (map command_item (carried_places state.events ++ ms)) (length (carried_places state.events))) is
-    ∙ slice_get-map command_item (carried_places state.events ++ place ∷ rest) (length (carried_places state.events))
-    ∙ ap (option_map command_item) (slice_get-behind (carried_places state.events) place rest))
+    ∙ ap (λ ms. slice_get (map (command_item state.tags) (carried_places state.events ++ ms)) (length (carried_places state.events))) is
+    ∙ slice_get-map (command_item state.tags) (carried_places state.events ++ place ∷ rest) (length (carried_places state.events))
+    ∙ ap (option_map (command_item state.tags)) (slice_get-behind (carried_places state.events) place rest))
 
 -- where no message waits there is none
 pub no-front : (state : Shared) (world : World) → FitsQueues state world → state.messages ≡ [] → front_at COMMAND_RING_PLACES world.lines.command ≡ None
 no-front state world fits is =
     let long : length world.lines.command.put ≡ length (carried_places state.events ++ state.messages) =
-    ap length fits.put ∙ length-map (carried_places state.events ++ state.messages) command_item in
+    ap length fits.put ∙ length-map (carried_places state.events ++ state.messages) (command_item state.tags) in
     ap (option_map (λ item. (front_address world, known_of item)))
     (slice_get_past world.lines.command.put world.lines.command.got
     (omega (arith, long, fits.got, length-append (carried_places state.events) state.messages, ap length is)))
@@ -91,15 +92,15 @@ no-front state world fits is =
 -- ITS BYTES
 
 -- a unit is a Task Management unit or a Command unit
-pub unit_bytes-some : (slot : ℕ) → (0 < unit_bytes slot) × (unit_bytes slot ≤ COMMAND_BYTES)
-unit_bytes-some slot = elim (slot == TASK_SLOT) as (λ b. (0 < cond b 16 COMMAND_BYTES) × (cond b 16 COMMAND_BYTES ≤ COMMAND_BYTES)) [
+pub unit_bytes-some : (tags : ℕ) (slot : ℕ) → (0 < unit_bytes tags slot) × (unit_bytes tags slot ≤ COMMAND_BYTES)
+unit_bytes-some tags slot = elim (slot == (task_slot tags)) as (λ b. (0 < cond b 16 COMMAND_BYTES) × (cond b 16 COMMAND_BYTES ≤ COMMAND_BYTES)) [
   | true ↦ (omega arith, omega arith)
   | false ↦ (omega arith, omega arith)
 ]
 
 -- the bytes of a Command unit
-pub unit_bytes-command : (slot : ℕ) → slot < TASK_SLOT → unit_bytes slot ≡ COMMAND_BYTES
-unit_bytes-command slot below = ap (λ b. cond b 16 COMMAND_BYTES) (ne_eqb slot TASK_SLOT (λ same. omega (arith, below, same)))
+pub unit_bytes-command : (tags : ℕ) (slot : ℕ) → slot < (task_slot tags) → unit_bytes tags slot ≡ COMMAND_BYTES
+unit_bytes-command tags slot below = ap (λ b. cond b 16 COMMAND_BYTES) (ne_eqb slot (task_slot tags) (λ same. omega (arith, below, same)))
 
 pub command-names : (frames : List TagBuffers) (tag count : ℕ) → IsWhole frames → 1 ≤ tag → tag ≤ STREAMS → count ≤ COMMAND_BYTES
     → Names frames (command_buffer_of tag) count (front_byte CommandBuffer tag)
@@ -115,14 +116,14 @@ command-bytes frames tag count whole some most positive few =
 
 -- the TRB in front is the host's own
 pub command-own : (state : Shared) (world : World) (place : Place) (rest : List Place) → Fits state world → state.messages ≡ place ∷ rest
-    → 1 ≤ tag_of place → tag_of place ≤ STREAMS → IsOwnCommandFront world.lines world.frames
+    → 1 ≤ tag_of state.tags place → tag_of state.tags place ≤ STREAMS → IsOwnCommandFront world.lines world.frames
 command-own state world place rest fits is some most =
-    let few = unit_bytes-some place.slot in
+    let few = unit_bytes-some state.tags place.slot in
     subst (λ front. IfSome front (λ f. IsOwnCommand world.frames f.1)) (sym (command-front state world place rest fits.queues is)) (
       (
         refl,
         refl,
-        inr (front_byte CommandBuffer (tag_of place), command-names world.frames (tag_of place) (unit_bytes place.slot) fits.sound.frames some most few.1),
+        inr (front_byte CommandBuffer (tag_of state.tags place), command-names world.frames (tag_of state.tags place) (unit_bytes state.tags place.slot) fits.sound.frames some most few.1),
       ),
       few.1,
     )
@@ -134,16 +135,16 @@ abbrev pub received_world : World → Device → World
 received_world world device = record world { lines = completed world.lines Command 0 (front_address world) 0 SUCCESS; device = device }
 
 pub tag-bounds : (state : Shared) (world : World) (place : Place) (entry : Entry) → IsPlaced state world place entry → Fits state world
-    → (1 ≤ tag_of place) × (tag_of place ≤ GREATEST_TAG) × (tag_of place < 2 ^ 16) × (is_tag (tag_of place) ≡ true)
+    → (1 ≤ tag_of state.tags place) × (tag_of state.tags place ≤ STREAMS) × (tag_of state.tags place < 2 ^ 16) × (has_place world.device (tag_of state.tags place) ≡ true)
 tag-bounds state world place entry at fits =
-    let least : 1 ≤ tag_of place = omega arith in
-    let most : tag_of place ≤ GREATEST_TAG = omega (arith, at.is_place.client, at.is_place.slot, fits.most_clients) in
-    (least, most, omega (arith, most), rw (le-leb 1 (tag_of place) least, le-leb (tag_of place) GREATEST_TAG most) refl)
+    let least : 1 ≤ tag_of state.tags place = omega arith in
+    let most : tag_of state.tags place ≤ STREAMS = omega (arith, (tags-within state.tags (length state.parts) place at.is_place.client at.is_place.slot).1, fits.most_tags) in
+    (least, most, omega (arith, most), rw (le-leb 1 (tag_of state.tags place) least, le-leb (tag_of state.tags place) (length world.device.tasks) (rw fits.sound.tags most)) refl)
 
 -- what the device begins under the tag of the place
 pub commanded-is : (state : Shared) (world : World) (place : Place) (rest : List Place) (device : Device) → Fits state world → state.messages ≡ place ∷ rest
-    → received world.device (bytes_at world.frames (command_buffer_of (tag_of place)) (unit_bytes place.slot)) ≡ (device, Ok (Began (tag_of place)))
-    → commanded (sides_in world) ≡ (sides_in (received_world world device), ActedOn (tag_of place))
+    → received world.device (bytes_at world.frames (command_buffer_of (tag_of state.tags place)) (unit_bytes state.tags place.slot)) ≡ (device, Ok (Began (tag_of state.tags place)))
+    → commanded (sides_in world) ≡ (sides_in (received_world world device), ActedOn (tag_of state.tags place))
 commanded-is state world place rest device fits is receives =
     ap (λ b. on_front (sides_in world) (received_at (sides_in world)) (cond b (front_at COMMAND_RING_PLACES world.lines.command) None))
     (event-room state world fits)
@@ -157,12 +158,12 @@ commanded-is state world place rest device fits is receives =
 -- THE QUEUES
 
 -- no ring of a stream is touched, and no buffer
-reads-same : (world : World) (device : Device) (events : List Completion) → AllReadSame world (received_world world device) events
-reads-same world device [] = tt
-reads-same world device (CommandDone place ∷ rest) = (tt, reads-same world device rest)
-reads-same world device (DataDone place ∷ rest) = ((refl, refl), reads-same world device rest)
-reads-same world device (StatusDone place ∷ rest) = ((refl, refl), reads-same world device rest)
-reads-same world device (EngineDone place ∷ rest) = (refl, reads-same world device rest)
+reads-same : (tags : ℕ) (world : World) (device : Device) (events : List Completion) → AllReadSame tags world (received_world world device) events
+reads-same tags world device [] = tt
+reads-same tags world device (CommandDone place ∷ rest) = (tt, reads-same tags world device rest)
+reads-same tags world device (DataDone place ∷ rest) = ((refl, refl), reads-same tags world device rest)
+reads-same tags world device (StatusDone place ∷ rest) = ((refl, refl), reads-same tags world device rest)
+reads-same tags world device (EngineDone place ∷ rest) = (refl, reads-same tags world device rest)
 
 plus_none : (n : ℕ) → n ≡ 0 + n
 plus_none n = omega arith
@@ -176,15 +177,15 @@ received-queues state world place rest device parts fits is =
     (CommandDone place ∷ []) in
     record {
       put = fits.queues.put
-          ∙ ap (λ ms. map command_item (carried_places state.events ++ ms)) is
-          ∙ ap (map command_item) (sym (ap (λ ps. ps ++ rest) more ∙ append_assoc (carried_places state.events) (place ∷ []) rest));
+          ∙ ap (λ ms. map (command_item state.tags) (carried_places state.events ++ ms)) is
+          ∙ ap (map (command_item state.tags)) (sym (ap (λ ps. ps ++ rest) more ∙ append_assoc (carried_places state.events) (place ∷ []) rest));
       got = omega (arith, fits.queues.got, ap length more, length-append (carried_places state.events) (place ∷ []));
       texts = ap (λ es. es ++ command_event world world.lines.command.got ∷ []) fits.queues.texts
           ∙ ap (λ es. es ++ command_event world world.lines.command.got ∷ [])
-          (sym (event_texts-kept world (received_world world device) 0 state.events (refl, refl) (reads-same world device state.events)))
-          ∙ ap (λ n. event_texts (received_world world device) 0 state.events ++ command_event world n ∷ [])
+          (sym (event_texts-kept state.tags world (received_world world device) 0 state.events (refl, refl) (reads-same state.tags world device state.events)))
+          ∙ ap (λ n. event_texts state.tags (received_world world device) 0 state.events ++ command_event world n ∷ [])
           (fits.queues.got ∙ plus_none (length (carried_places state.events)))
-          ∙ sym (event_texts-append (received_world world device) 0 state.events (CommandDone place ∷ []));
+          ∙ sym (event_texts-append state.tags (received_world world device) 0 state.events (CommandDone place ∷ []));
     }
 
 -- no enqueue place moves

@@ -23,8 +23,7 @@ use Rattle.solo_model.specs.TaggedTask.{buffer_after, chunk_brought, of_command,
 use Rattle.uas_iu.specs.Lun.{lun_text}
 use Rattle.uas_target.specs.declared.DeviceTask.TheVariants.{Moving as MovingTask}
 use Rattle.uas_target.specs.declared.Phase.TheVariants.{Gives, Takes}
-use Rattle.uas_target.specs.Device.{Device, executed, executed_on, received, with_units_and_task, wanted, given, gave, fits, took}
-use Rattle.uas_target.specs.Fields.{is_tag}
+use Rattle.uas_target.specs.Device.{Device, executed, executed_on, received, with_units_and_task, wanted, given, gave, fits, took, has_place}
 use Rattle.uas_target.specs.Laws.{gives_to_host, takes_size, takes_to_device}
 use Rattle.uas_target.specs.Tasks.{task_in, begun_by, chunk_wanted}
 use Rattle.uas_target.proofs.Received.{received-command, begins_as_asked}
@@ -75,7 +74,7 @@ executed-op units number op unit is =
 
 -- the device receives the text of a command to the unit of this number, under a free tag
 pub received-op : (device : Device) (number tag : ℕ) (op : Op) (unit : BlockMaps) → slice_get device.units number ≡ Some unit → tag < 2 ^ 16
-    → is_tag tag ≡ true → held_under device.tasks tag ≡ None →
+    → has_place device tag ≡ true → held_under device.tasks tag ≡ None →
     (received device (request_text number tag (Execute op))).0
     ≡ record {
       units = slice_set device.units number (begun unit (reports_attention op) (checked_work op unit.count)).0;

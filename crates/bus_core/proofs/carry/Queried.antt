@@ -15,7 +15,6 @@ use Rattle.scsi_cmd.specs.declared.Request.TheVariants.{Execute, Manage}
 use Rattle.scsi_cmd.specs.declared.Task.{Task}
 use Rattle.scsi_cmd.specs.declared.Task.TheVariants.{Query}
 use Rattle.scsi_cmd.specs.Held.{held_at}
-use Rattle.uas_profile.specs.declared.TheConstants.{TAGS, TASK_SLOT}
 use Rattle.solo_model.specs.declared.Phase.{Phase}
 use Rattle.solo_model.specs.declared.Phase.TheVariants.{Queued, Begun, Sent, Gone}
 use Rattle.solo_model.specs.declared.TaskAnswer.TheVariants.{WithStatus, WithResponse}
@@ -25,7 +24,7 @@ use Rattle.uas_target.specs.declared.DeviceTask.{DeviceTask}
 use Rattle.uas_target.specs.Device.{has_command, task_of}
 use Rattle.uas_target.specs.Tasks.{is_command_of}
 use Rattle.uas_profile.specs.declared.Place.{Place}
-use Rattle.uas_profile.specs.Places.{place_of, tag_of}
+use Rattle.uas_profile.specs.Tags.{place_of, tag_of}
 use Rattle.shared_machine.specs.Bus.{IsPlace}
 use Rattle.shared_machine.specs.Td.{Entry}
 use Rattle.shared_machine.specs.Part.{Part, tasks_in}
@@ -39,25 +38,28 @@ use Rattle.bus_core.specs.Hosts.{phase_task}
 use Rattle.bus_core.specs.Fits.{Fits, place_in}
 use Rattle.bus_core.proofs.carry.Aborted.{phase_task-foreign}
 use Rattle.bus_core.proofs.common.ActFits.{IsPlaced, place_of-tag}
-use Rattle.bus_core.proofs.event.Resumed.{unnamed-above}
+use Rattle.bus_core.proofs.event.Resumed.{}
 use Rattle.bus_core.proofs.retire.EngineCells.{at-place, is-place}
+use Rattle.uas_profile.specs.Tags.{task_slot}
+use Rattle.machine_invariant.proofs.MatchedBounds.{held-place}
+use Rattle.uas_profile.proofs.TagLaws.{unnamed-is_above}
 
 -- what the order tells of each command of the client
 abbrev pub KnowsEach : Shared → Place → Task → ArrayVec ℕ → Type 0
 KnowsEach state place what noted =
-    (slot : ℕ) (entry : Entry) → slot < TASK_SLOT → under state.parts (of_client place slot) ≡ Some entry → IsNotedAsReceived place.client slot what noted entry
+    (slot : ℕ) (entry : Entry) → slot < (task_slot state.tags) → under state.parts (of_client place slot) ≡ Some entry → IsNotedAsReceived state.tags place.client slot what noted entry
 
 -- what stands in a slot for commands asks for one
-pub asks_op : (slot : ℕ) (request : Request) → IsRequestIn slot request → slot < TASK_SLOT → (op : Op) × (request ≡ Execute op)
-asks_op slot (Execute op) asks below = (op, refl)
-asks_op slot (Manage what noted) asks below = absurd (omega (arith, asks, below))
+pub asks_op : (tags : ℕ) (slot : ℕ) (request : Request) → IsRequestIn tags slot request → slot < (task_slot tags) → (op : Op) × (request ≡ Execute op)
+asks_op tags slot (Execute op) asks below = (op, refl)
+asks_op tags slot (Manage what noted) asks below = absurd (omega (arith, asks, below))
 
 -- the query of a client whose request the device is to receive
 pub record IsQuery (state : Shared) (world : World) (place : Place) (entry : Entry) (tag : ℕ) (noted : ArrayVec ℕ) : Type 0 where
   pub at : IsPlaced state world place entry
   pub fits : Fits state world
   pub queued : entry.task.phase ≡ Queued
-  pub last : place.slot ≡ TASK_SLOT
+  pub last : place.slot ≡ (task_slot state.tags)
   pub knows : KnowsEach state place (Query tag) noted
 
 -- the device has a command's task of the unit there
@@ -89,22 +91,22 @@ slot-under : (state : Shared) (world : World) (place : Place) (entry : Entry) (a
 slot-under state world place entry at slot one held = ap (λ found. option_map_or (held_in (place_in place.client slot)) found None) at.there ∙ held
 
 slot-begun : (state : Shared) (world : World) (place : Place) (entry : Entry) (tag : ℕ) (noted : ArrayVec ℕ) (it : IsQuery state world place entry tag noted)
-    (slot : ℕ) (one : Entry) → slot < TASK_SLOT → held_at it.at.part.entries slot ≡ Some one
-    → has_at world place.client (tag_of (place_in place.client slot)) ≡ is_begun one.task.phase
+    (slot : ℕ) (one : Entry) → slot < (task_slot state.tags) → held_at it.at.part.entries slot ≡ Some one
+    → has_at world place.client (tag_of state.tags (place_in place.client slot)) ≡ is_begun one.task.phase
 slot-begun state world place entry tag noted it slot one below held =
     let matched : IsMatchedAt state (place_in place.client slot) (Some one) =
     subst (λ h. IsMatchedAt state (place_in place.client slot) h) (slot-under state world place entry it.at slot one held)
     (it.fits.matched.places (place_in place.client slot)) in
-    let op = asks_op slot one.task.request matched.sound.asks below in
-    let cell : FitsCell place.client it.at.part.unit.count (place_in place.client slot) one (cell_at world (place_in place.client slot)) =
-    subst (λ h. FitsHeld place.client it.at.part.unit.count (place_in place.client slot) h (cell_at world (place_in place.client slot))) held
+    let op = asks_op state.tags slot one.task.request matched.sound.asks below in
+    let cell : FitsCell state.tags place.client it.at.part.unit.count (place_in place.client slot) one (cell_at state.tags world (place_in place.client slot)) =
+    subst (λ h. FitsHeld state.tags place.client it.at.part.unit.count (place_in place.client slot) h (cell_at state.tags world (place_in place.client slot))) held
     (it.at.client.fits.cells slot (omega (arith, below))) in
     ap (λ t. option_map_or (is_command_of place.client) t false) (cell.task ∙ ap (λ r. phase_task (Some place.client) r one.task.phase) op.1)
     ∙ has-begun place.client op.0 one.task.phase (subst (λ r. IsPhaseOf r one.task.phase) op.1 matched.sound.answers)
 
 -- the slot of task managements has the query alone, which isn't begun
 own-queued : (state : Shared) (world : World) (place : Place) (entry : Entry) (tag : ℕ) (noted : ArrayVec ℕ) (it : IsQuery state world place entry tag noted)
-    (slot : ℕ) (one : Entry) → slot ≡ TASK_SLOT → held_at it.at.part.entries slot ≡ Some one → is_begun one.task.phase ≡ false
+    (slot : ℕ) (one : Entry) → slot ≡ (task_slot state.tags) → held_at it.at.part.entries slot ≡ Some one → is_begun one.task.phase ≡ false
 own-queued state world place entry tag noted it slot one last held =
     let same : one ≡ entry = same_Some one entry (sym held ∙ ap (held_at it.at.part.entries) (last ∙ sym it.last) ∙ it.at.held) in
     ap (λ (e : Entry). is_begun e.task.phase) same ∙ ap is_begun it.queued
@@ -113,27 +115,27 @@ own-queued state world place entry tag noted it slot one last held =
 
 -- a command of the client that the query noted and that is begun stands on the tag
 found-named : (state : Shared) (world : World) (place : Place) (entry : Entry) (tag : ℕ) (noted : ArrayVec ℕ) (it : IsQuery state world place entry tag noted)
-    (slot : ℕ) (one : Entry) → slot < TASK_SLOT → held_at it.at.part.entries slot ≡ Some one → is_noted noted.items one.task.ticket ≡ true
-    → tag ≡ tag_of (place_in place.client slot)
+    (slot : ℕ) (one : Entry) → slot < (task_slot state.tags) → held_at it.at.part.entries slot ≡ Some one → is_noted noted.items one.task.ticket ≡ true
+    → tag ≡ tag_of state.tags (place_in place.client slot)
 found-named state world place entry tag noted it slot one below held noted_is =
     let knows = it.knows slot one below (slot-under state world place entry it.at slot one held) in
-    elim (tag == tag_of (place_in place.client slot)) as (λ b. (tag == tag_of (place_in place.client slot)) ≡ b → tag ≡ tag_of (place_in place.client slot)) [
-      | true ↦ λ is. eqb-true tag (tag_of (place_in place.client slot)) is
+    elim (tag == tag_of state.tags (place_in place.client slot)) as (λ b. (tag == tag_of state.tags (place_in place.client slot)) ≡ b → tag ≡ tag_of state.tags (place_in place.client slot)) [
+      | true ↦ λ is. eqb-true tag (tag_of state.tags (place_in place.client slot)) is
       | false ↦ λ is. absurd (false≢true (sym (knows.unnamed is) ∙ noted_is))
     ] refl
 
 -- what is in a slot isn't under way where the device has no command on the tag
 slot-not_under_way : (state : Shared) (world : World) (place : Place) (entry : Entry) (tag : ℕ) (noted : ArrayVec ℕ)
-    (it : IsQuery state world place entry tag noted) (slot : ℕ) (one : Entry) → slot < TAGS → held_at it.at.part.entries slot ≡ Some one
+    (it : IsQuery state world place entry tag noted) (slot : ℕ) (one : Entry) → slot < state.tags → held_at it.at.part.entries slot ≡ Some one
     → has_at world place.client tag ≡ false → is_under_way noted.items one.task ≡ false
 slot-not_under_way state world place entry tag noted it slot one inside held none =
     false_from_ne_true (is_under_way noted.items one.task) (λ is.
     let both = and_parts (is_begun one.task.phase) (is_noted noted.items one.task.ticket) is in
-    elim (slot == TASK_SLOT) as (λ b. (slot == TASK_SLOT) ≡ b → ⊥) [
-      | true ↦ λ last. false≢true (sym (own-queued state world place entry tag noted it slot one (eqb-true slot TASK_SLOT last) held) ∙ both.0)
+    elim (slot == (task_slot state.tags)) as (λ b. (slot == (task_slot state.tags)) ≡ b → ⊥) [
+      | true ↦ λ last. false≢true (sym (own-queued state world place entry tag noted it slot one (eqb-true slot (task_slot state.tags) last) held) ∙ both.0)
       | false ↦ λ other.
-          let apart : slot ≡ TASK_SLOT → ⊥ = eqb-false slot TASK_SLOT other in
-          let below : slot < TASK_SLOT = omega (arith, inside, apart) in
+          let apart : slot ≡ (task_slot state.tags) → ⊥ = eqb-false slot (task_slot state.tags) other in
+          let below : slot < (task_slot state.tags) = omega (arith, inside, apart) in
           let named = found-named state world place entry tag noted it slot one below held both.1 in
           false≢true (sym none ∙ ap (has_at world place.client) named ∙ slot-begun state world place entry tag noted it slot one below held ∙ both.0)
     ] refl)
@@ -147,30 +149,31 @@ not-found : (state : Shared) (world : World) (place : Place) (entry : Entry) (ta
 not-found state world place entry tag noted it none =
     list_any_none (λ held. option_map_or (is_under_way noted.items) held false) (tasks_in it.at.part.entries)
     (λ slot d within.
-    let inside : slot < TAGS =
-    omega (arith, within, length-map it.at.part.entries (option_map (λ (one : Entry). one.task)), it.at.client.fits.slots) in
     ap (λ held. option_map_or (is_under_way noted.items) held false)
     (get_or_default (tasks_in it.at.part.entries) slot d None within ∙ task-held it.at.part.entries slot)
-    ∙ in-slot slot inside (held_at it.at.part.entries slot) refl)
+    ∙ in-slot slot (held_at it.at.part.entries slot) refl)
   where
-    in-slot : (slot : ℕ) → slot < TAGS → (held : Option Entry) → held_at it.at.part.entries slot ≡ held
+    in-slot : (slot : ℕ) (held : Option Entry) → held_at it.at.part.entries slot ≡ held
         → option_map_or (is_under_way noted.items) (option_map (λ (one : Entry). one.task) held) false ≡ false
-    in-slot slot inside None is = refl
-    in-slot slot inside (Some one) is = slot-not_under_way state world place entry tag noted it slot one inside is none
+    in-slot slot None is = refl
+    in-slot slot (Some one) is =
+        let inside : slot < state.tags =
+        (held-place state (place_in place.client slot) one it.fits.matched (slot-under state world place entry it.at slot one is)).slot in
+        slot-not_under_way state world place entry tag noted it slot one inside is none
 
 -- WHAT THE DEVICE HAS, THE ENTRIES SAY
 
 -- a tag that is no client's has nothing, nor has a tag of another client a command of this one
-tag-none : (state : Shared) (world : World) (client tag : ℕ) → Fits state world → place_of (length state.parts) tag ≡ None → has_at world client tag ≡ false
+tag-none : (state : Shared) (world : World) (client tag : ℕ) → Fits state world → place_of state.tags (length state.parts) tag ≡ None → has_at world client tag ≡ false
 tag-none state world client zero fits none = refl
 tag-none state world client (suc before) fits none =
     ap (λ t. option_map_or (is_command_of client) t false)
-    (fits.others (suc before) (unnamed-above (length state.parts) (suc before) (omega arith) none))
+    (fits.others (suc before) (unnamed-is_above state.tags (length state.parts) (suc before) (omega arith) none))
 
-foreign-none : (state : Shared) (world : World) (client : ℕ) (other : Place) → Fits state world → IsPlace (length state.parts) other
-    → (other.client ≡ client → ⊥) → has_at world client (tag_of other) ≡ false
+foreign-none : (state : Shared) (world : World) (client : ℕ) (other : Place) → Fits state world → IsPlace state.tags (length state.parts) other
+    → (other.client ≡ client → ⊥) → has_at world client (tag_of state.tags other) ≡ false
 foreign-none state world client other fits there apart =
-    at-place state.parts world other (λ entry. false) (λ cell fact. option_map_or (is_command_of client) cell.task false ≡ false) fits.clients there
+    at-place state.tags state.parts world other (λ entry. false) (λ cell fact. option_map_or (is_command_of client) cell.task false ≡ false) fits.clients there
     (λ empty. ap (λ t. option_map_or (is_command_of client) t false) empty.task)
     (λ entry count cell.
     ap (λ t. option_map_or (is_command_of client) t false) cell.task ∙ no-command (phase_task (Some other.client) entry.task.request entry.task.phase)
@@ -182,28 +185,28 @@ foreign-none state world client other fits there apart =
 
 -- a command that the device has on the tag of a slot of the client is under way and noted
 slot-found : (state : Shared) (world : World) (place : Place) (entry : Entry) (tag : ℕ) (noted : ArrayVec ℕ) (it : IsQuery state world place entry tag noted)
-    (slot : ℕ) (held : Option Entry) → slot < TAGS → held_at it.at.part.entries slot ≡ held → tag ≡ tag_of (place_in place.client slot)
+    (slot : ℕ) (held : Option Entry) → slot < state.tags → held_at it.at.part.entries slot ≡ held → tag ≡ tag_of state.tags (place_in place.client slot)
     → has_at world place.client tag ≡ true → finds (Manage (Query tag) noted) (tasks_in it.at.part.entries) ≡ true
 slot-found state world place entry tag noted it slot None inside held named has =
-    let cell = subst (λ h. FitsHeld place.client it.at.part.unit.count (place_in place.client slot) h (cell_at world (place_in place.client slot))) held
+    let cell = subst (λ h. FitsHeld state.tags place.client it.at.part.unit.count (place_in place.client slot) h (cell_at state.tags world (place_in place.client slot))) held
     (it.at.client.fits.cells slot inside) in
     absurd (false≢true (sym (ap (has_at world place.client) named ∙ ap (λ t. option_map_or (is_command_of place.client) t false) cell.task) ∙ has))
 slot-found state world place entry tag noted it slot (Some one) inside held named has =
-    elim (slot == TASK_SLOT) as (λ b. (slot == TASK_SLOT) ≡ b → finds (Manage (Query tag) noted) (tasks_in it.at.part.entries) ≡ true) [
+    elim (slot == (task_slot state.tags)) as (λ b. (slot == (task_slot state.tags)) ≡ b → finds (Manage (Query tag) noted) (tasks_in it.at.part.entries) ≡ true) [
       | true ↦ λ is.
-          let last : slot ≡ TASK_SLOT = eqb-true slot TASK_SLOT is in
-          let own : tag_of (place_in place.client slot) ≡ tag_of place = ap (λ s. tag_of (place_in place.client s)) (last ∙ sym it.last) in
-          let none : task_of world.device (tag_of place) ≡ None =
+          let last : slot ≡ (task_slot state.tags) = eqb-true slot (task_slot state.tags) is in
+          let own : tag_of state.tags (place_in place.client slot) ≡ tag_of state.tags place = ap (λ s. tag_of state.tags (place_in place.client s)) (last ∙ sym it.last) in
+          let none : task_of world.device (tag_of state.tags place) ≡ None =
           it.at.cell.task ∙ ap (λ p. phase_task (Some place.client) entry.task.request p) it.queued in
           absurd (false≢true (sym (ap (has_at world place.client) (named ∙ own) ∙ ap (λ t. option_map_or (is_command_of place.client) t false) none) ∙ has))
       | false ↦ λ is.
-          let apart : slot ≡ TASK_SLOT → ⊥ = eqb-false slot TASK_SLOT is in
-          let below : slot < TASK_SLOT = omega (arith, inside, apart) in
+          let apart : slot ≡ (task_slot state.tags) → ⊥ = eqb-false slot (task_slot state.tags) is in
+          let below : slot < (task_slot state.tags) = omega (arith, inside, apart) in
           let begun : is_begun one.task.phase ≡ true =
           sym (slot-begun state world place entry tag noted it slot one below held) ∙ sym (ap (has_at world place.client) named) ∙ has in
           let knows = it.knows slot one below (slot-under state world place entry it.at slot one held) in
           let noted_is : is_noted noted.items one.task.ticket ≡ true =
-          knows.named (begun-received one.task.phase begun) (eq-eqb tag (tag_of (place_in place.client slot)) named) in
+          knows.named (begun-received one.task.phase begun) (eq-eqb tag (tag_of state.tags (place_in place.client slot)) named) in
           list_any_at (λ held. option_map_or (is_under_way noted.items) held false) (tasks_in it.at.part.entries) slot None
           (omega (arith, inside, length-map it.at.part.entries (option_map (λ (e : Entry). e.task)), it.at.client.fits.slots))
           (ap (λ held. option_map_or (is_under_way noted.items) held false)
@@ -212,23 +215,23 @@ slot-found state world place entry tag noted it slot (Some one) inside held name
     ] refl
 
 place-found : (state : Shared) (world : World) (place : Place) (entry : Entry) (tag : ℕ) (noted : ArrayVec ℕ) (it : IsQuery state world place entry tag noted)
-    (other : Place) → place_of (length state.parts) tag ≡ Some other → has_at world place.client tag ≡ true
+    (other : Place) → place_of state.tags (length state.parts) tag ≡ Some other → has_at world place.client tag ≡ true
     → finds (Manage (Query tag) noted) (tasks_in it.at.part.entries) ≡ true
 place-found state world place entry tag noted it other is has =
-    let there : IsPlace (length state.parts) other = is-place (length state.parts) tag other is in
-    let named : tag_of other ≡ tag = place_of-tag (length state.parts) tag other is in
+    let there : IsPlace state.tags (length state.parts) other = is-place state.tags (length state.parts) tag other (omega (arith, it.fits.matched.tags.least)) is in
+    let named : tag_of state.tags other ≡ tag = place_of-tag state.tags (length state.parts) tag other (omega (arith, it.fits.matched.tags.least)) is in
     elim (other.client == place.client) as (λ b. (other.client == place.client) ≡ b
     → finds (Manage (Query tag) noted) (tasks_in it.at.part.entries) ≡ true) [
       | true ↦ λ same.
           slot-found state world place entry tag noted it other.slot (held_at it.at.part.entries other.slot) there.slot refl
-          (sym named ∙ ap (λ c. tag_of (place_in c other.slot)) (eqb-true other.client place.client same)) has
+          (sym named ∙ ap (λ c. tag_of state.tags (place_in c other.slot)) (eqb-true other.client place.client same)) has
       | false ↦ λ apart.
           absurd (false≢true (sym (ap (has_at world place.client) (sym named)
           ∙ foreign-none state world place.client other it.fits there (eqb-false other.client place.client apart)) ∙ has))
     ] refl
 
 found-by : (state : Shared) (world : World) (place : Place) (entry : Entry) (tag : ℕ) (noted : ArrayVec ℕ) (it : IsQuery state world place entry tag noted)
-    (named : Option Place) → place_of (length state.parts) tag ≡ named → has_at world place.client tag ≡ true
+    (named : Option Place) → place_of state.tags (length state.parts) tag ≡ named → has_at world place.client tag ≡ true
     → finds (Manage (Query tag) noted) (tasks_in it.at.part.entries) ≡ true
 found-by state world place entry tag noted it None is has = absurd (false≢true (sym (tag-none state world place.client tag it.fits is) ∙ has))
 found-by state world place entry tag noted it (Some other) is has = place-found state world place entry tag noted it other is has
@@ -242,7 +245,7 @@ query-found state world place entry tag noted it at =
     elim (has_at world place.client tag) as (λ b. has_at world place.client tag ≡ b
     → b ≡ finds (Manage (Query tag) noted) (tasks_in at.part.entries)) [
       | true ↦ λ has. sym (ap (λ (p : Part). finds (Manage (Query tag) noted) (tasks_in p.entries)) (sym same)
-          ∙ found-by state world place entry tag noted it (place_of (length state.parts) tag) refl has)
+          ∙ found-by state world place entry tag noted it (place_of state.tags (length state.parts) tag) refl has)
       | false ↦ λ none. sym (ap (λ (p : Part). finds (Manage (Query tag) noted) (tasks_in p.entries)) (sym same)
           ∙ not-found state world place entry tag noted it none)
     ] refl

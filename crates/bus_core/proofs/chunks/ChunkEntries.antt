@@ -22,7 +22,7 @@ use Rattle.bus_core.proofs.carry.DeviceSteps.{sound-command}
 use Rattle.uas_profile.specs.declared.Place.{Place}
 use Rattle.uas_profile.specs.declared.TdState.TheVariants.{Pending}
 use Rattle.uas_host.specs.declared.HostAnswer.TheVariants.{Unanswered}
-use Rattle.uas_profile.specs.Places.{tag_of}
+use Rattle.uas_profile.specs.Tags.{tag_of}
 use Rattle.uas_host.specs.Tds.{data_td, data_trb_count, status_td}
 use Rattle.shared_machine.specs.declared.Td.{Td}
 use Rattle.shared_machine.specs.Td.{Entry, data_trbs, with_trb_taken}
@@ -60,22 +60,22 @@ chunked-td entry chunk op (Some td) request phase is trbs moves less =
       below = trbs.2;
     }
 
-chunked-request : (slot count : ℕ) (entry : Entry) (chunk : ℕ) (request : Request) → entry.task.request ≡ request → entry.task.phase ≡ Begun (Moving chunk)
-    → IsMatchedEntry slot entry → IsSound count entry.task → IsChunked entry chunk
-chunked-request slot count entry chunk (Execute op) is moving matched sound =
+chunked-request : (tags : ℕ) (slot count : ℕ) (entry : Entry) (chunk : ℕ) (request : Request) → entry.task.request ≡ request → entry.task.phase ≡ Begun (Moving chunk)
+    → IsMatchedEntry tags slot entry → IsSound count entry.task → IsChunked entry chunk
+chunked-request tags slot count entry chunk (Execute op) is moving matched sound =
     let sound_op : IsSoundOp count entry.task op = subst (λ r. IsSoundRequest count entry.task r) is sound in
     let has : IsSoundPhase count op (Begun (Moving chunk)) = subst (λ p. IsSoundPhase count op p) moving sound_op.chunk in
     let trbs : IsMovingTd (data_trbs (Execute op)) chunk entry.data_td =
     subst (λ p. IsDataTd (data_trbs (Execute op)) p entry.data_td) moving
     (subst (λ r. IsDataTd (data_trbs r) entry.task.phase entry.data_td) is matched.chunks) in
     chunked-td entry chunk op entry.data_td is moving refl trbs (matched.moves ∙ ap (λ r. nat_lt 0 (request_bytes r)) is) has.0
-chunked-request slot count entry chunk (Manage what noted) is moving matched sound =
+chunked-request tags slot count entry chunk (Manage what noted) is moving matched sound =
     absurd (subst (λ p. IsManagedPhase what p) moving (subst (λ r. IsPhaseOf r entry.task.phase) is matched.answers))
 
 -- a matched, sound entry whose phase is Moving
-pub chunked : (slot count : ℕ) (entry : Entry) (chunk : ℕ) → entry.task.phase ≡ Begun (Moving chunk) → IsMatchedEntry slot entry → IsSound count entry.task
+pub chunked : (tags : ℕ) (slot count : ℕ) (entry : Entry) (chunk : ℕ) → entry.task.phase ≡ Begun (Moving chunk) → IsMatchedEntry tags slot entry → IsSound count entry.task
     → IsChunked entry chunk
-chunked slot count entry chunk moving matched sound = chunked-request slot count entry chunk entry.task.request refl moving matched sound
+chunked tags slot count entry chunk moving matched sound = chunked-request tags slot count entry chunk entry.task.request refl moving matched sound
 
 -- AFTER A CHUNK
 
@@ -103,15 +103,15 @@ state-after : (took : Bool) (chunk : ℕ) → state_of (td_after took chunk) ≡
 state-after true chunk = refl
 state-after false chunk = refl
 
-pub fits-chunk : (client : ℕ) (place : Place) (unit : BlockMaps) (entry : Entry) (op : Op) (chunk : ℕ) (was now : Cell)
-    → FitsCell client unit.count place (moving_entry entry op chunk) was → now ≡ chunk_cell client unit entry op chunk was now
-    → HoldsData now.data_in (data_td (tag_of place) (moved_bytes op))
+pub fits-chunk : (tags : ℕ) (client : ℕ) (place : Place) (unit : BlockMaps) (entry : Entry) (op : Op) (chunk : ℕ) (was now : Cell)
+    → FitsCell tags client unit.count place (moving_entry entry op chunk) was → now ≡ chunk_cell client unit entry op chunk was now
+    → HoldsData now.data_in (data_td (tag_of tags place) (moved_bytes op))
     (data_in_td (direction_of op) (Some (td_after (took_trb (Begun (progress_left unit chunk op))) chunk)))
-    → HoldsData now.data_out (data_td (tag_of place) (moved_bytes op))
+    → HoldsData now.data_out (data_td (tag_of tags place) (moved_bytes op))
     (data_out_td (direction_of op) (Some (td_after (took_trb (Begun (progress_left unit chunk op))) chunk)))
     → length (buffer_after unit entry.task.buffer chunk op) ≡ length entry.task.buffer
-    → FitsCell client unit.count place (chunk_entry unit entry op chunk) now
-fits-chunk client place unit entry op chunk was now fits is data_in data_out long = record {
+    → FitsCell tags client unit.count place (chunk_entry unit entry op chunk) now
+fits-chunk tags client place unit entry op chunk was now fits is data_in data_out long = record {
   held = ap (λ (c : Cell). c.held) is ∙ fits.held ∙ (λ i. Some (record {
     ticket = entry.task.ticket;
     request = Execute op;
@@ -121,7 +121,7 @@ fits-chunk client place unit entry op chunk was now fits is data_in data_out lon
     data_td = Some (sym (state-after (took_trb (Begun (progress_left unit chunk op))) chunk) i);
   }));
   task = ap (λ (c : Cell). c.task) is;
-  status = subst (λ (r : ItemRing). HoldsTd r (status_td (tag_of place)) entry.status_td) (sym (ap (λ (c : Cell). c.status) is)) fits.status;
+  status = subst (λ (r : ItemRing). HoldsTd r (status_td (tag_of tags place)) entry.status_td) (sym (ap (λ (c : Cell). c.status) is)) fits.status;
   data_in = data_in;
   data_out = data_out;
   lent = ap (λ (c : Cell). c.buffers.lent) is;

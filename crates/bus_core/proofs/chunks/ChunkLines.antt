@@ -20,7 +20,7 @@ use Rattle.frame_store.specs.declared.TagBuffers.{TagBuffers}
 use Rattle.frame_store.specs.Buffers.{IsWhole, held_for, no_buffers, with_lent, written}
 use Rattle.uas_profile.specs.declared.Place.{Place}
 use Rattle.uas_host.specs.Seen.{goes_to_device, goes_to_host}
-use Rattle.uas_profile.specs.Places.{tag_of}
+use Rattle.uas_profile.specs.Tags.{tag_of}
 use Rattle.uas_host.specs.Tds.{data_td, data_trb_count, window_of}
 use Rattle.xhci_ctl.specs.Steps.{after_chunk, consumed, endpoint_of}
 use Rattle.shared_machine.specs.declared.Td.{Td}
@@ -220,41 +220,41 @@ event-out data_in data_out none =
     (Transfer (last_pointer data_in) 0 SUCCESS (endpoint_of DataIn) SLOT)) none
 
 -- what is posted is the text of the place's data event
-texts-of : (after : World) (place : Place) (k bytes chunk : ℕ) (took : Bool) (event : Event)
-    → (chunk + 1 ≡ data_trb_count bytes → data_event (stream_ring after.lines.data_in (tag_of place)) (stream_ring after.lines.data_out (tag_of place)) ≡ event)
-    → event_texts after k (data_event_if (is_last_trb took (data_trb_count bytes) (Some (moving_td chunk))) place)
+texts-of : (tags : ℕ) (after : World) (place : Place) (k bytes chunk : ℕ) (took : Bool) (event : Event)
+    → (chunk + 1 ≡ data_trb_count bytes → data_event (stream_ring after.lines.data_in (tag_of tags place)) (stream_ring after.lines.data_out (tag_of tags place)) ≡ event)
+    → event_texts tags after k (data_event_if (is_last_trb took (data_trb_count bytes) (Some (moving_td chunk))) place)
     ≡ chunk_events took (not (chunk + 1 == data_trb_count bytes)) event
-texts-of after place k bytes chunk false event is = refl
-texts-of after place k bytes chunk true event is =
+texts-of tags after place k bytes chunk false event is = refl
+texts-of tags after place k bytes chunk true event is =
     elim (chunk + 1 == data_trb_count bytes) as
-    (λ b. (chunk + 1 == data_trb_count bytes) ≡ b → event_texts after k (data_event_if b place) ≡ chunk_events true (not b) event) [
+    (λ b. (chunk + 1 == data_trb_count bytes) ≡ b → event_texts tags after k (data_event_if b place) ≡ chunk_events true (not b) event) [
       | true ↦ λ last. ap (λ e. e ∷ []) (is (eqb-true (chunk + 1) (data_trb_count bytes) last))
       | false ↦ λ more. refl
     ] refl
 
-pub texts-in : (after : World) (place : Place) (k bytes chunk : ℕ) (took : Bool) (ring : ItemRing) → ring.put ≡ map known (data_td (tag_of place) bytes)
-    → stream_ring after.lines.data_in (tag_of place) ≡ record ring { got = cond took (ring.got + 1) ring.got }
-    → event_texts after k (data_event_if (is_last_trb took (data_trb_count bytes) (Some (moving_td chunk))) place)
+pub texts-in : (tags : ℕ) (after : World) (place : Place) (k bytes chunk : ℕ) (took : Bool) (ring : ItemRing) → ring.put ≡ map known (data_td (tag_of tags place) bytes)
+    → stream_ring after.lines.data_in (tag_of tags place) ≡ record ring { got = cond took (ring.got + 1) ring.got }
+    → event_texts tags after k (data_event_if (is_last_trb took (data_trb_count bytes) (Some (moving_td chunk))) place)
     ≡ chunk_events took (not (chunk + 1 == data_trb_count bytes)) (Transfer (pointer_of STREAM_RING_PLACES ring chunk) 0 SUCCESS (endpoint_of DataIn) SLOT)
-texts-in after place k bytes chunk took ring put is =
-    texts-of after place k bytes chunk took (Transfer (pointer_of STREAM_RING_PLACES ring chunk) 0 SUCCESS (endpoint_of DataIn) SLOT)
+texts-in tags after place k bytes chunk took ring put is =
+    texts-of tags after place k bytes chunk took (Transfer (pointer_of STREAM_RING_PLACES ring chunk) 0 SUCCESS (endpoint_of DataIn) SLOT)
     (λ last.
-    let now : ItemRing = stream_ring after.lines.data_in (tag_of place) in
-    let size : length (stream_ring after.lines.data_in (tag_of place)).put ≡ data_trb_count bytes =
-    ap (λ (r : ItemRing). length r.put) is ∙ ap length put ∙ length-map (data_td (tag_of place) bytes) known
-    ∙ length-data_trbs (data_trb_count bytes) (window_of (tag_of place)) bytes in
-    event-in (stream_ring after.lines.data_in (tag_of place)) (stream_ring after.lines.data_out (tag_of place)) (omega (arith, size, last))
+    let now : ItemRing = stream_ring after.lines.data_in (tag_of tags place) in
+    let size : length (stream_ring after.lines.data_in (tag_of tags place)).put ≡ data_trb_count bytes =
+    ap (λ (r : ItemRing). length r.put) is ∙ ap length put ∙ length-map (data_td (tag_of tags place) bytes) known
+    ∙ length-data_trbs (data_trb_count bytes) (window_of (tag_of tags place)) bytes in
+    event-in (stream_ring after.lines.data_in (tag_of tags place)) (stream_ring after.lines.data_out (tag_of tags place)) (omega (arith, size, last))
     ∙ ap (λ p. Transfer p 0 SUCCESS (endpoint_of DataIn) SLOT)
-    (last-event ring (stream_ring after.lines.data_in (tag_of place)) (tag_of place) bytes chunk took put is last))
+    (last-event ring (stream_ring after.lines.data_in (tag_of tags place)) (tag_of tags place) bytes chunk took put is last))
 
-pub texts-out : (after : World) (place : Place) (k bytes chunk : ℕ) (took : Bool) (ring : ItemRing) → ring.put ≡ map known (data_td (tag_of place) bytes)
-    → (stream_ring after.lines.data_in (tag_of place)).put ≡ []
-    → stream_ring after.lines.data_out (tag_of place) ≡ record ring { got = cond took (ring.got + 1) ring.got }
-    → event_texts after k (data_event_if (is_last_trb took (data_trb_count bytes) (Some (moving_td chunk))) place)
+pub texts-out : (tags : ℕ) (after : World) (place : Place) (k bytes chunk : ℕ) (took : Bool) (ring : ItemRing) → ring.put ≡ map known (data_td (tag_of tags place) bytes)
+    → (stream_ring after.lines.data_in (tag_of tags place)).put ≡ []
+    → stream_ring after.lines.data_out (tag_of tags place) ≡ record ring { got = cond took (ring.got + 1) ring.got }
+    → event_texts tags after k (data_event_if (is_last_trb took (data_trb_count bytes) (Some (moving_td chunk))) place)
     ≡ chunk_events took (not (chunk + 1 == data_trb_count bytes)) (Transfer (pointer_of STREAM_RING_PLACES ring chunk) 0 SUCCESS (endpoint_of DataOut) SLOT)
-texts-out after place k bytes chunk took ring put none is =
-    texts-of after place k bytes chunk took (Transfer (pointer_of STREAM_RING_PLACES ring chunk) 0 SUCCESS (endpoint_of DataOut) SLOT)
+texts-out tags after place k bytes chunk took ring put none is =
+    texts-of tags after place k bytes chunk took (Transfer (pointer_of STREAM_RING_PLACES ring chunk) 0 SUCCESS (endpoint_of DataOut) SLOT)
     (λ last.
-    event-out (stream_ring after.lines.data_in (tag_of place)) (stream_ring after.lines.data_out (tag_of place)) none
+    event-out (stream_ring after.lines.data_in (tag_of tags place)) (stream_ring after.lines.data_out (tag_of tags place)) none
     ∙ ap (λ p. Transfer p 0 SUCCESS (endpoint_of DataOut) SLOT)
-    (last-event ring (stream_ring after.lines.data_out (tag_of place)) (tag_of place) bytes chunk took put is last))
+    (last-event ring (stream_ring after.lines.data_out (tag_of tags place)) (tag_of tags place) bytes chunk took put is last))

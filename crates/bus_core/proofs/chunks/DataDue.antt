@@ -24,7 +24,7 @@ use Rattle.uas_target.specs.declared.Phase.TheVariants.{Absent, Gives, Takes, En
 use Rattle.uas_target.specs.Device.{wanted}
 use Rattle.uas_target.specs.Tasks.{task_wants, wanted_way}
 use Rattle.uas_profile.specs.declared.Place.{Place}
-use Rattle.uas_profile.specs.Places.{place_of, tag_of}
+use Rattle.uas_profile.specs.Tags.{place_of, tag_of}
 use Rattle.uas_host.specs.Tds.{data_td, data_trb_count}
 use Rattle.xhci_ctl.specs.declared.Acted.{Acted}
 use Rattle.xhci_ctl.specs.declared.Acted.TheVariants.{Idle}
@@ -61,23 +61,23 @@ entry-moving : {state : Shared} {world : World} {place : Place} {part : Part} (a
 entry-moving {state} {world} {place} {part} at entry held = same_held (held_at part.entries place.slot) entry _ held at.held
 
 data-fits-at : (state : Shared) (world : World) (place : Place) (entry : Entry) → IsPlaced state world place entry → Fits state world
-    → place_of (length state.parts) (tag_of place) ≡ Some place → due state (Data (tag_of place)) ≡ true → data_is_due state (tag_of place) entry ≡ true
-    → DataFits state world (tag_of place)
+    → place_of state.tags (length state.parts) (tag_of state.tags place) ≡ Some place → due state (Data (tag_of state.tags place)) ≡ true → data_is_due state (tag_of state.tags place) entry ≡ true
+    → DataFits state world (tag_of state.tags place)
 data-fits-at state world place entry stands fits named is_due so =
     let moving = and_parts (is_moving entry.task.phase) _ so in
     let phase : IsMovingBy entry.task.phase = moving_phase entry.task.phase moving.0 in
     let at : IsChunkAt state world place stands.part = chunk-at state world place stands.part entry phase.chunk fits stands.there stands.held phase.is in
-    let rung = (and_parts (is_data_open state (tag_of place) (request_direction entry.task.request))
+    let rung = (and_parts (is_data_open state (tag_of state.tags place) (request_direction entry.task.request))
     (has_data_trb (data_trbs entry.task.request) entry.data_td) moving.1).0 in
     chunk-fits at fits
-    (subst (λ (e : Entry). is_data_open state (tag_of place) (request_direction e.task.request) ≡ true) (entry-moving at entry stands.held) rung) named is_due
+    (subst (λ (e : Entry). is_data_open state (tag_of state.tags place) (request_direction e.task.request) ≡ true) (entry-moving at entry stands.held) rung) named is_due
 
 pub data_fits : DataFit
 data_fits state world tag fits is_due =
     let at : IsDueAt state tag (data_is_due state tag) = place_fact-due state tag (data_is_due state tag) is_due in
     let stands : IsPlaced state world at.place at.entry = placed state world at.place at.entry fits at.held in
-    subst (λ t. place_of (length state.parts) t ≡ Some at.place → due state (Data t) ≡ true → data_is_due state t at.entry ≡ true → DataFits state world t)
-    (place_of-tag (length state.parts) tag at.place at.named)
+    subst (λ t. place_of state.tags (length state.parts) t ≡ Some at.place → due state (Data t) ≡ true → data_is_due state t at.entry ≡ true → DataFits state world t)
+    (place_of-tag state.tags (length state.parts) tag at.place (omega (arith, fits.matched.tags.least)) at.named)
     (λ named now so. data-fits-at state world at.place at.entry stands fits named now so) at.named is_due at.so
 
 -- WHERE IT IS DUE
@@ -95,31 +95,31 @@ armed-open rung has_trb has_ring pends one two three = rw (one, two, three) refl
 
 -- a data ring with the TRB of the chunk in front is armed where its stream is open
 told-armed : {state : Shared} {world : World} {place : Place} {part : Part} (at : IsChunkAt state world place part) (ring : ItemRing) (was now : PipeState)
-    → HoldsTrbs ring (data_td (tag_of place) (moved_bytes at.op)) at.chunk → now ≡ was
-    → (is_open was (tag_of place) && nat_lt at.chunk (data_trb_count (moved_bytes at.op)))
-    ≡ ((has_stream (tag_of place) && is_open now (tag_of place)) && has_pending ring)
+    → HoldsTrbs ring (data_td (tag_of state.tags place) (moved_bytes at.op)) at.chunk → now ≡ was
+    → (is_open was (tag_of state.tags place) && nat_lt at.chunk (data_trb_count (moved_bytes at.op)))
+    ≡ ((has_stream (tag_of state.tags place) && is_open now (tag_of state.tags place)) && has_pending ring)
 told-armed {state} {world} {place} {part} at ring was now holds same =
-    armed-open (is_open was (tag_of place)) (nat_lt at.chunk (data_trb_count (moved_bytes at.op))) (has_stream (tag_of place)) (has_pending ring)
-    (lt-ltb at.chunk (data_trb_count (moved_bytes at.op)) at.below) (has_stream-tag (tag_of place) (omega arith) (omega (arith, at.last_tag)))
-    (pending-td ring (tag_of place) (moved_bytes at.op) at.chunk holds at.below)
-    ∙ ap (λ p. (has_stream (tag_of place) && is_open p (tag_of place)) && has_pending ring) (sym same)
+    armed-open (is_open was (tag_of state.tags place)) (nat_lt at.chunk (data_trb_count (moved_bytes at.op))) (has_stream (tag_of state.tags place)) (has_pending ring)
+    (lt-ltb at.chunk (data_trb_count (moved_bytes at.op)) at.below) (has_stream-tag (tag_of state.tags place) (omega arith) (omega (arith, at.last_tag)))
+    (pending-td ring (tag_of state.tags place) (moved_bytes at.op) at.chunk holds at.below)
+    ∙ ap (λ p. (has_stream (tag_of state.tags place) && is_open p (tag_of state.tags place)) && has_pending ring) (sym same)
 
 told-way : {state : Shared} {world : World} {place : Place} {part : Part} (at : IsChunkAt state world place part) (way : Direction) → direction_of at.op ≡ way
-    → Fits state world → IsTold world (tag_of place) (wanted_way way (chunk_size at.op at.chunk))
-    (is_data_open state (tag_of place) way && nat_lt at.chunk (data_trb_count (moved_bytes at.op)))
+    → Fits state world → IsTold world (tag_of state.tags place) (wanted_way way (chunk_size at.op at.chunk))
+    (is_data_open state (tag_of state.tags place) way && nat_lt at.chunk (data_trb_count (moved_bytes at.op)))
 told-way at Nothing is fits = (refl, tt)
 told-way {state} {world} {place} {part} at ToHost is fits = (
-  told-armed at (stream_ring world.lines.data_in (tag_of place)) state.data_in world.controller.data_in (rings-on at ToHost is).0 fits.data_in,
+  told-armed at (stream_ring world.lines.data_in (tag_of state.tags place)) state.data_in world.controller.data_in (rings-on at ToHost is).0 fits.data_in,
   own-on at ToHost is,
 )
 told-way {state} {world} {place} {part} at ToDevice is fits = (
-  told-armed at (stream_ring world.lines.data_out (tag_of place)) state.data_out world.controller.data_out (rings-on at ToDevice is).1 fits.data_out,
+  told-armed at (stream_ring world.lines.data_out (tag_of state.tags place)) state.data_out world.controller.data_out (rings-on at ToDevice is).1 fits.data_out,
   own-on at ToDevice is,
 )
 
 -- what is told of an entry
 abbrev IsToldOf : Shared → World → Place → Entry → Type 0
-IsToldOf state world place entry = IsTold world (tag_of place) (wants_by (device_task place.client entry)) (data_is_due state (tag_of place) entry)
+IsToldOf state world place entry = IsTold world (tag_of state.tags place) (wants_by (device_task place.client entry)) (data_is_due state (tag_of state.tags place) entry)
 
 told-moving : {state : Shared} {world : World} {place : Place} {part : Part} (at : IsChunkAt state world place part) → Fits state world
     → IsToldOf state world place (moving_entry at.entry at.op at.chunk)
@@ -127,13 +127,13 @@ told-moving at fits = told-way at (direction_of at.op) refl fits
 
 -- an entry whose phase moves no data
 told-still : (state : Shared) (world : World) (place : Place) (entry : Entry) (phase : Phase) → entry.task.phase ≡ phase → is_moving phase ≡ false
-    → IsTold world (tag_of place) (wants_by (phase_task (Some place.client) entry.task.request phase)) false → IsToldOf state world place entry
+    → IsTold world (tag_of state.tags place) (wants_by (phase_task (Some place.client) entry.task.request phase)) false → IsToldOf state world place entry
 told-still state world place entry phase is still told =
-    subst (λ p. IsTold world (tag_of place) (wants_by (phase_task (Some place.client) entry.task.request p))
-    (is_moving p && (is_data_open state (tag_of place) (request_direction entry.task.request) && has_data_trb
+    subst (λ p. IsTold world (tag_of state.tags place) (wants_by (phase_task (Some place.client) entry.task.request p))
+    (is_moving p && (is_data_open state (tag_of state.tags place) (request_direction entry.task.request) && has_data_trb
     (data_trbs entry.task.request) entry.data_td))) (sym is)
-    (subst (λ b. IsTold world (tag_of place) (wants_by (phase_task (Some place.client) entry.task.request phase))
-    (b && (is_data_open state (tag_of place) (request_direction entry.task.request) && has_data_trb (data_trbs entry.task.request) entry.data_td)))
+    (subst (λ b. IsTold world (tag_of state.tags place) (wants_by (phase_task (Some place.client) entry.task.request phase))
+    (b && (is_data_open state (tag_of state.tags place) (request_direction entry.task.request) && has_data_trb (data_trbs entry.task.request) entry.data_td)))
     (sym still) told)
 
 -- what has ended wants to tell its answer
@@ -148,7 +148,7 @@ told-phase state world place entry (Begun (Moving chunk)) is stands fits =
     let at : IsChunkAt state world place stands.part = chunk-at state world place stands.part entry chunk fits stands.there stands.held is in
     subst (IsToldOf state world place) (sym (entry-moving at entry stands.held)) (told-moving at fits)
 told-phase state world place entry (Begun (Ended answer)) is stands fits = told-still state world place entry (Begun (Ended answer)) is refl
-    (subst (λ w. IsTold world (tag_of place) w false) (sym (ended-wants (Some place.client) entry.task.request answer)) (refl, tt))
+    (subst (λ w. IsTold world (tag_of state.tags place) w false) (sym (ended-wants (Some place.client) entry.task.request answer)) (refl, tt))
 told-phase state world place entry (Sent answer) is stands fits = told-still state world place entry (Sent answer) is refl (refl, tt)
 told-phase state world place entry Gone is stands fits = told-still state world place entry Gone is refl (refl, tt)
 

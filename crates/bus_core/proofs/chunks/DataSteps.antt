@@ -15,7 +15,7 @@ use Rattle.stream_array.specs.Rings.{LinesState, ring_of, stream_ring}
 use Rattle.frame_store.specs.declared.TagBuffers.{TagBuffers}
 use Rattle.frame_store.specs.Buffers.{IsNamed}
 use Rattle.scsi_cmd.specs.declared.Op.{Op}
-use Rattle.uas_profile.specs.declared.TheConstants.{TAGS, GREATEST_TAG, STREAMS, CHUNK_BYTES}
+use Rattle.uas_profile.specs.declared.TheConstants.{STREAMS, CHUNK_BYTES}
 use Rattle.scsi_cmd.specs.Held.{held_at, held_under}
 use Rattle.scsi_cmd.specs.Op.{moved_bytes, direction_of}
 use Rattle.solo_model.specs.declared.TaskProgress.TheVariants.{Moving}
@@ -26,7 +26,7 @@ use Rattle.solo_model.specs.TaggedTask.{buffer_after, chunk_brought, progress_le
 use Rattle.scsi_cmd.specs.Work.{work_of}
 use Rattle.uas_target.specs.declared.DeviceTask.TheVariants.{Moving as MovingTask}
 use Rattle.uas_profile.specs.declared.Place.{Place}
-use Rattle.uas_profile.specs.Places.{place_of, tag_of}
+use Rattle.uas_profile.specs.Tags.{place_of, tag_of}
 use Rattle.uas_host.specs.Tds.{data_td, data_trb, data_trb_count, window_of}
 use Rattle.xhci_ctl.specs.declared.Acted.{Acted}
 use Rattle.xhci_ctl.specs.declared.Acted.TheVariants.{Idle}
@@ -45,7 +45,6 @@ use Rattle.bus_core.specs.Cells.{FitsCell, FitsHeld, HoldsData, HoldsTrbs, data_
 use Rattle.bus_core.specs.Fits.{Fits, IsSoundWorld, event_texts}
 use Rattle.machine_invariant.proofs.MatchedTasks.{data_event_if}
 use Rattle.machine_invariant.proofs.MatchedNext.{matched-no_data_event}
-use Rattle.machine_invariant.proofs.MatchedPlaces.{held-within}
 use Rattle.machine_invariant.proofs.MatchedSteps.{IsHeld, matched-held, shared_step-matched}
 use Rattle.bus_core.proofs.common.Framing.{IsFound, found as found_part}
 use Rattle.bus_core.proofs.common.DataTrbs.{data_front, front_in-data_trb, length-data_trbs}
@@ -54,6 +53,9 @@ use Rattle.bus_core.proofs.chunks.ChunkEntries.{IsChunked, chunk_entry, chunked,
 use Rattle.bus_core.proofs.chunks.ChunkLines.{carried_places-data}
 use Rattle.bus_core.proofs.chunks.DataWorlds.{MovesChunk, cell-moved, fits-moved, moved_state}
 use Rattle.shared_machine.proofs.Standing.{get-within}
+use Rattle.machine_invariant.proofs.MatchedBounds.{held-place}
+use Rattle.uas_profile.proofs.TagLaws.{tags-within}
+use Rattle.machine_invariant.specs.Matched.{under}
 
 -- THE PLACE
 
@@ -62,30 +64,31 @@ pub record IsChunkAt (state : Shared) (world : World) (place : Place) (part : Pa
   pub entry : Entry
   pub op : Op
   pub chunk : ℕ
-  pub found : IsFound world place.client part
+  pub found : IsFound state.tags world place.client part
   pub there : slice_get state.parts place.client ≡ Some part
   pub held : held_at part.entries place.slot ≡ Some (moving_entry entry op chunk)
-  pub here : FitsCell place.client part.unit.count place (moving_entry entry op chunk) (cell_at world place)
+  pub here : FitsCell state.tags place.client part.unit.count place (moving_entry entry op chunk) (cell_at state.tags world place)
   pub below : chunk < data_trb_count (moved_bytes op)
-  pub within : place.slot < TAGS
-  pub last_tag : tag_of place ≤ GREATEST_TAG
+  pub within : place.slot < state.tags
+  pub last_tag : tag_of state.tags place ≤ STREAMS
 
 -- the entry of a place fits its cell
 pub cell-found : (state : Shared) (world : World) (place : Place) (part : Part) → Fits state world → slice_get state.parts place.client ≡ Some part
-    → place.slot < TAGS → FitsHeld place.client part.unit.count place (held_at part.entries place.slot) (cell_at world place)
-cell-found state world place part fits there within = (found_part world state.parts place.client part fits.clients there).fits.cells place.slot within
+    → place.slot < state.tags → FitsHeld state.tags place.client part.unit.count place (held_at part.entries place.slot) (cell_at state.tags world place)
+cell-found state world place part fits there within = (found_part state.tags world state.parts place.client part fits.clients there).fits.cells place.slot within
 
 pub chunk-at : (state : Shared) (world : World) (place : Place) (part : Part) (entry : Entry) (chunk : ℕ) → Fits state world
     → slice_get state.parts place.client ≡ Some part → held_at part.entries place.slot ≡ Some entry → entry.task.phase ≡ Begun (Moving chunk)
     → IsChunkAt state world place part
 chunk-at state world place part entry chunk fits there held moving =
-    let found : IsFound world place.client part = found_part world state.parts place.client part fits.clients there in
+    let found : IsFound state.tags world place.client part = found_part state.tags world state.parts place.client part fits.clients there in
     let client : place.client < length state.parts = get-within state.parts place.client part there in
-    let within : place.slot < TAGS = omega (arith, held-within part.entries place.slot entry held, found.fits.slots) in
-    let here : FitsCell place.client part.unit.count place entry (cell_at world place) =
-    subst (λ o. FitsHeld place.client part.unit.count place o (cell_at world place)) held (cell-found state world place part fits there within) in
-    let at : IsHeld state place entry = matched-held state place entry fits.matched (ap (λ p. option_map_or (held_in place) p None) there ∙ held) in
-    let it : IsChunked entry chunk = chunked place.slot part.unit.count entry chunk moving at.here.sound here.sound in
+    let stands : under state.parts place ≡ Some entry = ap (λ p. option_map_or (held_in place) p None) there ∙ held in
+    let within : place.slot < state.tags = (held-place state place entry fits.matched stands).slot in
+    let here : FitsCell state.tags place.client part.unit.count place entry (cell_at state.tags world place) =
+    subst (λ o. FitsHeld state.tags place.client part.unit.count place o (cell_at state.tags world place)) held (cell-found state world place part fits there within) in
+    let at : IsHeld state place entry = matched-held state place entry fits.matched stands in
+    let it : IsChunked entry chunk = chunked state.tags place.slot part.unit.count entry chunk moving at.here.sound here.sound in
     record {
       entry = entry;
       op = it.op;
@@ -93,55 +96,55 @@ chunk-at state world place part entry chunk fits there held moving =
       found = found;
       there = there;
       held = held ∙ ap Some it.is;
-      here = subst (λ e. FitsCell place.client part.unit.count place e (cell_at world place)) it.is here;
+      here = subst (λ e. FitsCell state.tags place.client part.unit.count place e (cell_at state.tags world place)) it.is here;
       below = it.below;
       within = within;
-      last_tag = omega (arith, client, within, fits.most_clients);
+      last_tag = omega (arith, (tags-within state.tags (length state.parts) place client within).1, fits.most_tags);
     }
 
 -- THE STATE
 
 -- what the shared machine makes of it
-data_step : (state : Shared) (place : Place) (part : Part) (entry : Entry) (op : Op) (chunk : ℕ) → due state (Data (tag_of place)) ≡ true
-    → place_of (length state.parts) (tag_of place) ≡ Some place → slice_get state.parts place.client ≡ Some part
+data_step : (state : Shared) (place : Place) (part : Part) (entry : Entry) (op : Op) (chunk : ℕ) → due state (Data (tag_of state.tags place)) ≡ true
+    → place_of state.tags (length state.parts) (tag_of state.tags place) ≡ Some place → slice_get state.parts place.client ≡ Some part
     → held_at part.entries place.slot ≡ Some (moving_entry entry op chunk)
-    → (shared_step state (Data (tag_of place))).0
+    → (shared_step state (Data (tag_of state.tags place))).0
     ≡ moved_state state place part (unit_after part.unit entry.task.buffer chunk op) (chunk_entry part.unit entry op chunk)
     (data_event_if (is_last_trb (took_trb (Begun (progress_left part.unit chunk op))) (data_trb_count (moved_bytes op)) (Some (moving_td chunk))) place)
 data_step state place part entry op chunk is_due named there held =
-    ap (λ b. (cond b (due_step state (Data (tag_of place))) (state, idle)).0) is_due
+    ap (λ b. (cond b (due_step state (Data (tag_of state.tags place))) (state, idle)).0) is_due
     ∙ ap (λ p. (routed_by_tag state move_act p).0) named
     ∙ ap (λ p. (routed_to state place.client (move_act place) p).0) there
     ∙ ap (λ h. (acted_on state place.client (moved_slot part place.slot place h)).0) held
 
 -- a world in which the place moved its chunk fits the state in which it did
 pub fits-after : (state : Shared) (world after : World) (place : Place) (part : Part) (at : IsChunkAt state world place part) (posted : List Event)
-    → Fits state world → place_of (length state.parts) (tag_of place) ≡ Some place → due state (Data (tag_of place)) ≡ true
-    → MovesChunk world after place (unit_after part.unit at.entry.task.buffer at.chunk at.op)
+    → Fits state world → place_of state.tags (length state.parts) (tag_of state.tags place) ≡ Some place → due state (Data (tag_of state.tags place)) ≡ true
+    → MovesChunk state.tags world after place (unit_after part.unit at.entry.task.buffer at.chunk at.op)
     (begun_task (Some place.client) (Execute at.op) (progress_left part.unit at.chunk at.op))
     (buffer_after part.unit at.entry.task.buffer at.chunk at.op) posted
-    → HoldsData (stream_ring after.lines.data_in (tag_of place)) (data_td (tag_of place) (moved_bytes at.op))
+    → HoldsData (stream_ring after.lines.data_in (tag_of state.tags place)) (data_td (tag_of state.tags place) (moved_bytes at.op))
     (data_in_td (direction_of at.op) (Some (td_after (took_trb (Begun (progress_left part.unit at.chunk at.op))) at.chunk)))
-    → HoldsData (stream_ring after.lines.data_out (tag_of place)) (data_td (tag_of place) (moved_bytes at.op))
+    → HoldsData (stream_ring after.lines.data_out (tag_of state.tags place)) (data_td (tag_of state.tags place) (moved_bytes at.op))
     (data_out_td (direction_of at.op) (Some (td_after (took_trb (Begun (progress_left part.unit at.chunk at.op))) at.chunk)))
     → length (buffer_after part.unit at.entry.task.buffer at.chunk at.op) ≡ length at.entry.task.buffer
-    → event_texts after (0 + length (carried_places state.events))
+    → event_texts state.tags after (0 + length (carried_places state.events))
     (data_event_if (is_last_trb (took_trb (Begun (progress_left part.unit at.chunk at.op))) (data_trb_count (moved_bytes at.op)) (Some (moving_td at.chunk)))
     place) ≡ posted
-    → IsSoundWorld after → Fits (shared_step state (Data (tag_of place))).0 after
+    → IsSoundWorld after → Fits (shared_step state (Data (tag_of state.tags place))).0 after
 fits-after state world after place part at posted fits named is_due moves data_in data_out long texts sound =
     let last : Bool = is_last_trb (took_trb (Begun (progress_left part.unit at.chunk at.op))) (data_trb_count (moved_bytes at.op)) (Some (moving_td at.chunk)) in
     let step = data_step state place part at.entry at.op at.chunk is_due named at.there at.held in
-    let here : FitsCell place.client part.unit.count place (chunk_entry part.unit at.entry at.op at.chunk) (cell_at after place) =
-    fits-chunk place.client place part.unit at.entry at.op at.chunk (cell_at world place) (cell_at after place) at.here
-    (cell-moved world after place _ _ _ posted moves fits.sound at.last_tag) data_in data_out long in
+    let here : FitsCell state.tags place.client part.unit.count place (chunk_entry part.unit at.entry at.op at.chunk) (cell_at state.tags after place) =
+    fits-chunk state.tags place.client place part.unit at.entry at.op at.chunk (cell_at state.tags world place) (cell_at state.tags after place) at.here
+    (cell-moved state.tags world after place _ _ _ posted moves fits.sound at.last_tag) data_in data_out long in
     subst (λ s. Fits s after) (sym step)
     (fits-moved state world after place part (unit_after part.unit at.entry.task.buffer at.chunk at.op)
     (chunk_entry part.unit at.entry at.op at.chunk) _ _ posted _
     fits at.found at.there at.within moves
     (unit_taken-count part.unit (chunk_brought at.entry.task.buffer at.chunk at.op) at.chunk (work_of at.op part.unit.count))
-    (matched-no_data_event state fits.matched (tag_of place) place named is_due) here (carried_places-data last place) texts
-    (subst IsMatched step (shared_step-matched state (Data (tag_of place)) fits.matched)) sound)
+    (matched-no_data_event state fits.matched (tag_of state.tags place) place named is_due) here (carried_places-data last place) texts
+    (subst IsMatched step (shared_step-matched state (Data (tag_of state.tags place)) fits.matched)) sound)
 
 -- THE FRONT OF A DATA RING
 
@@ -183,8 +186,8 @@ pub record IsInLent (state : Shared) (world : World) (place : Place) (part : Par
   pub less : CHUNK_BYTES * at.chunk < moved_bytes at.op
   pub whole : length at.entry.task.buffer ≡ moved_bytes at.op
   pub fits : CHUNK_BYTES * at.chunk + chunk_size at.op at.chunk ≤ length at.entry.task.buffer
-  pub named : IsNamed world.frames (window_of (tag_of place) + CHUNK_BYTES * at.chunk) (chunk_size at.op at.chunk)
-  pub task : held_under world.device.tasks (tag_of place) ≡ Some (MovingTask (Some place.client) at.op at.chunk)
+  pub named : IsNamed world.frames (window_of (tag_of state.tags place) + CHUNK_BYTES * at.chunk) (chunk_size at.op at.chunk)
+  pub task : held_under world.device.tasks (tag_of state.tags place) ≡ Some (MovingTask (Some place.client) at.op at.chunk)
 
 pub in-lent : {state : Shared} {world : World} {place : Place} {part : Part} (at : IsChunkAt state world place part) → IsInLent state world place part at
 in-lent {state} {world} {place} {part} at =
@@ -197,8 +200,8 @@ in-lent {state} {world} {place} {part} at =
       whole = whole;
       fits = fits;
       named = inr (
-        chunk_place (tag_of place) at.chunk,
-        names-chunk world.frames (tag_of place) at.chunk (chunk_size at.op at.chunk) at.entry.task.buffer (omega arith) (omega (arith, at.last_tag)) at.here.lent fits,
+        chunk_place (tag_of state.tags place) at.chunk,
+        names-chunk world.frames (tag_of state.tags place) at.chunk (chunk_size at.op at.chunk) at.entry.task.buffer (omega arith) (omega (arith, at.last_tag)) at.here.lent fits,
       );
       task = at.here.task;
     }

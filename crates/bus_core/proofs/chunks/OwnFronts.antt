@@ -1,17 +1,17 @@
 -- Each TRB that stands on a stream's ring is one that the controller carries out, whatever the device does on its tag: so none is foreign.
-use Rattle.std.proofs.Common.{◌≡◌, ℕ, zero, suc, ◌+◌, ◌-◌, ◌*◌, ◌/◌, ◌%◌, ◌<◌, ◌≤◌, Bool, true, false, ◌&&◌, cond, List, [], length, Option, Some, None}
-use Rattle.std.proofs.Common.{IfSome, option_map, refl, arith, sym, subst, ◌∙◌, inl, inr, map}
+use Rattle.std.proofs.Common.{◌≡◌, ℕ, zero, suc, ◌+◌, ◌-◌, ◌*◌, ◌<◌, ◌≤◌, Bool, true, false, ◌&&◌, cond, List, [], length, Option, Some, None}
+use Rattle.std.proofs.Common.{IfSome, option_map, refl, arith, sym, subst, ◌∙◌, inr, map}
 use Rattle.std.specs.Prelude.{slice_get, nat_lt, min}
-use Rattle.std.proofs.lemmas.Bool.{and_parts, cases_lt, ltb-true, leb-true}
+use Rattle.std.proofs.lemmas.Bool.{and_parts, ltb-true, leb-true}
 use Rattle.std.proofs.lemmas.Option.{none-some, same_Some, slice_get_within, slice_get-map}
 use Rattle.xhci_trb.specs.declared.Trb.{Trb}
 use Rattle.cycle_ring.specs.Ring.{pointer_of}
 use Rattle.cycle_ring.specs.Items.{ItemRing, known_of, known, Item}
 use Rattle.uas_profile.specs.declared.Pipe.{Pipe}
 use Rattle.uas_profile.specs.declared.Pipe.TheVariants.{Status, DataIn, DataOut}
-use Rattle.uas_profile.specs.declared.TheConstants.{TAGS, STREAMS, STREAM_RING_PLACES, STATUS_BYTES, CHUNK_BYTES}
+use Rattle.uas_profile.specs.declared.TheConstants.{STREAMS, STREAM_RING_PLACES, STATUS_BYTES, CHUNK_BYTES}
 use Rattle.uas_profile.specs.declared.Place.{Place}
-use Rattle.uas_profile.specs.Places.{tag_of}
+use Rattle.uas_profile.specs.Tags.{tag_of}
 use Rattle.uas_profile.specs.declared.TdState.{TdState}
 use Rattle.uas_profile.specs.declared.TdState.TheVariants.{Pending, Seen, LeftOver, Retired}
 use Rattle.stream_array.specs.Contexts.{has_stream}
@@ -47,6 +47,8 @@ use Rattle.bus_core.proofs.common.DataTrbs.{length-data_trbs, slice_get-data_trb
 use Rattle.bus_core.proofs.chunks.ChunkWindows.{chunk_place, names-chunk}
 use Rattle.bus_core.proofs.chunks.DataSteps.{own-data_trb}
 use Rattle.bus_core.proofs.status.StatusReady.{HasOwnUnit, status-names}
+use Rattle.uas_profile.proofs.TagLaws.{named-is_place, unnamed-is_above}
+use Rattle.uas_profile.specs.Tags.{place_of}
 
 -- TRBS
 
@@ -124,21 +126,21 @@ pub record HasOwnRings (world : World) (tag : ℕ) : Type 0 where
   pub data_in : AreOwnItems world.frames (stream_ring world.lines.data_in tag).put
   pub data_out : AreOwnItems world.frames (stream_ring world.lines.data_out tag).put
 
-cell-own : (world : World) (place : Place) (client count : ℕ) (held : Option Entry) → IsWhole world.frames → 1 ≤ tag_of place → tag_of place ≤ STREAMS
-    → FitsHeld client count place held (cell_at world place) → HasOwnRings world (tag_of place)
-cell-own world place client count None whole some most cell = record {
-  status = holds-own world.frames (stream_ring world.lines.status (tag_of place)) [] 0 cell.status (none-own world.frames);
-  data_in = holds-own world.frames (stream_ring world.lines.data_in (tag_of place)) [] 0 cell.data_in (none-own world.frames);
-  data_out = holds-own world.frames (stream_ring world.lines.data_out (tag_of place)) [] 0 cell.data_out (none-own world.frames);
+cell-own : (tags : ℕ) (world : World) (place : Place) (client count : ℕ) (held : Option Entry) → IsWhole world.frames → 1 ≤ tag_of tags place → tag_of tags place ≤ STREAMS
+    → FitsHeld tags client count place held (cell_at tags world place) → HasOwnRings world (tag_of tags place)
+cell-own tags world place client count None whole some most cell = record {
+  status = holds-own world.frames (stream_ring world.lines.status (tag_of tags place)) [] 0 cell.status (none-own world.frames);
+  data_in = holds-own world.frames (stream_ring world.lines.data_in (tag_of tags place)) [] 0 cell.data_in (none-own world.frames);
+  data_out = holds-own world.frames (stream_ring world.lines.data_out (tag_of tags place)) [] 0 cell.data_out (none-own world.frames);
 }
-cell-own world place client count (Some entry) whole some most cell =
-    let of_data : AreOwn world.frames (data_td (tag_of place) (request_bytes entry.task.request)) =
-    request-own world.frames (tag_of place) count entry.task entry.task.request some most cell.lent cell.sound in
+cell-own tags world place client count (Some entry) whole some most cell =
+    let of_data : AreOwn world.frames (data_td (tag_of tags place) (request_bytes entry.task.request)) =
+    request-own world.frames (tag_of tags place) count entry.task entry.task.request some most cell.lent cell.sound in
     record {
-      status = in-own world.frames (stream_ring world.lines.status (tag_of place)) (status_td (tag_of place)) entry.status_td.consumed
-          entry.status_td.state cell.status (status_td-own world.frames (tag_of place) whole some most);
-      data_in = on-data-own world.frames (stream_ring world.lines.data_in (tag_of place)) _ _ cell.data_in of_data;
-      data_out = on-data-own world.frames (stream_ring world.lines.data_out (tag_of place)) _ _ cell.data_out of_data;
+      status = in-own world.frames (stream_ring world.lines.status (tag_of tags place)) (status_td (tag_of tags place)) entry.status_td.consumed
+          entry.status_td.state cell.status (status_td-own world.frames (tag_of tags place) whole some most);
+      data_in = on-data-own world.frames (stream_ring world.lines.data_in (tag_of tags place)) _ _ cell.data_in of_data;
+      data_out = on-data-own world.frames (stream_ring world.lines.data_out (tag_of tags place)) _ _ cell.data_out of_data;
     }
 
 unused-own : (world : World) (tag : ℕ) → AreUnused world.lines tag → HasOwnRings world tag
@@ -148,27 +150,25 @@ unused-own world tag unused = record {
   data_out = holds-own world.frames (stream_ring world.lines.data_out tag) [] 0 unused.data_out (none-own world.frames);
 }
 
-client-own : (state : Shared) (world : World) (place : Place) → Fits state world → place.client < length state.parts → place.slot < TAGS
-    → tag_of place ≤ STREAMS → HasOwnRings world (tag_of place)
+client-own : (state : Shared) (world : World) (place : Place) → Fits state world → place.client < length state.parts → place.slot < state.tags
+    → tag_of state.tags place ≤ STREAMS → HasOwnRings world (tag_of state.tags place)
 client-own state world place fits there within most =
-    elim (slice_get state.parts place.client) as (λ o. slice_get state.parts place.client ≡ o → HasOwnRings world (tag_of place)) [
+    elim (slice_get state.parts place.client) as (λ o. slice_get state.parts place.client ≡ o → HasOwnRings world (tag_of state.tags place)) [
       | None ↦ λ is. absurd (omega (arith, get-none state.parts place.client is, there))
       | Some part ↦ λ is.
-          let client : IsFound world place.client part = found world state.parts place.client part fits.clients is in
-          cell-own world place place.client part.unit.count (held_at part.entries place.slot) fits.sound.frames (omega arith) most
+          let client : IsFound state.tags world place.client part = found state.tags world state.parts place.client part fits.clients is in
+          cell-own state.tags world place place.client part.unit.count (held_at part.entries place.slot) fits.sound.frames (omega arith) most
           (client.fits.cells place.slot within)
     ] refl
 
 pub own-rings : (state : Shared) (world : World) (tag : ℕ) → Fits state world → 1 ≤ tag → tag ≤ STREAMS → HasOwnRings world tag
-own-rings state world zero fits some most = absurd (omega (arith, some))
-own-rings state world (suc before) fits some most =
-    let place : Place = record { client = before / TAGS; slot = before % TAGS } in
-    let tag : tag_of (record { client = before / TAGS; slot = before % TAGS }) ≡ suc before = omega arith in
-    elim (cases_lt (before / TAGS) (length state.parts)) [
-      | inl there ↦ subst (HasOwnRings world) tag
-          (client-own state world (record { client = before / TAGS; slot = before % TAGS }) fits there (omega arith) (omega (arith, tag, most)))
-      | inr past ↦ unused-own world (suc before) (fits.unused (suc before) (omega (arith, past)))
-    ]
+own-rings state world tag fits some most =
+    elim (place_of state.tags (length state.parts) tag) as (λ named. place_of state.tags (length state.parts) tag ≡ named → HasOwnRings world tag) [
+      | Some place ↦ λ is.
+          let named = named-is_place state.tags (length state.parts) tag place (omega (arith, fits.matched.tags.least)) is in
+          subst (HasOwnRings world) (sym named.is) (client-own state world place fits named.client named.slot (omega (arith, named.is, most)))
+      | None ↦ λ is. unused-own world tag (fits.unused tag (unnamed-is_above state.tags (length state.parts) tag some is))
+    ] refl
 
 -- FRONTS
 

@@ -11,13 +11,12 @@ use Rattle.cycle_ring.specs.Items.{ItemRing}
 use Rattle.stream_array.specs.Rings.{stream_ring}
 use Rattle.frame_store.specs.declared.TagBuffers.{TagBuffers}
 use Rattle.frame_store.specs.Buffers.{held_for, with_held, no_buffers}
-use Rattle.uas_profile.specs.declared.TheConstants.{TAGS}
 use Rattle.scsi_cmd.specs.Held.{held_at}
 use Rattle.uas_profile.specs.declared.Place.{Place}
 use Rattle.uas_host.specs.declared.HostEntry.{HostEntry}
 use Rattle.uas_host.specs.declared.HostClient.{HostClient}
 use Rattle.uas_host.specs.State.{HostState, client_of, with_client, new_client}
-use Rattle.uas_profile.specs.Places.{tag_of}
+use Rattle.uas_profile.specs.Tags.{tag_of}
 use Rattle.shared_machine.specs.Td.{Entry}
 use Rattle.shared_machine.specs.Part.{Part}
 use Rattle.bus_core.specs.World.{World, Cell, entry_at}
@@ -72,14 +71,14 @@ entry_at-same host client slot now entries entry there within is =
     ap (λ (c : HostClient). held_at c.entries slot) (get_or-set_same host.clients client now new_client there)
     ∙ ap (λ es. held_at es slot) is ∙ get_or-set_same entries slot entry None within
 
-pub entry_at-other : (host : HostState) (client slot other at : ℕ) (now : HostClient) (entry : Option HostEntry)
+pub entry_at-other : (tags : ℕ) (host : HostState) (client slot other at : ℕ) (now : HostClient) (entry : Option HostEntry)
     → client < length host.clients → now.entries ≡ slice_set (client_of host client).entries slot entry
-    → (tag_of (place_in other at) ≡ tag_of (place_in client slot) → ⊥)
+    → (tag_of tags (place_in other at) ≡ tag_of tags (place_in client slot) → ⊥)
     → entry_at (with_client host client now) (place_in other at) ≡ entry_at host (place_in other at)
-entry_at-other host client slot other at now entry there is apart =
+entry_at-other tags host client slot other at now entry there is apart =
     elim (other == client) as (λ b. (other == client) ≡ b → entry_at (with_client host client now) (place_in other at) ≡ entry_at host (place_in other at)) [
       | true ↦ λ same. let one : client ≡ other = sym (eqb-true other client same) in
-          let elsewhere : at ≡ slot → ⊥ = λ e. apart (ap (λ c. c * TAGS + at + 1) (sym one) ∙ ap (λ s. client * TAGS + s + 1) e) in
+          let elsewhere : at ≡ slot → ⊥ = λ e. apart (ap (λ c. c * tags + at + 1) (sym one) ∙ ap (λ s. client * tags + s + 1) e) in
           subst (λ c. entry_at (with_client host client now) (place_in c at) ≡ entry_at host (place_in c at)) one
           (ap (λ (c : HostClient). held_at c.entries at) (get_or-set_same host.clients client now new_client there)
           ∙ ap (λ es. held_at es at) is ∙ get_or-set_other (client_of host client).entries slot at entry None elsewhere)
@@ -89,21 +88,21 @@ entry_at-other host client slot other at now entry there is apart =
 
 -- WHAT FITS HAS AS MUCH
 
-both_there : (world : World) (client : ℕ) (unit : Option BlockMaps) (held : Option HostClient) (part : Option Part) → FitsClient world client unit held part
+both_there : (tags : ℕ) (world : World) (client : ℕ) (unit : Option BlockMaps) (held : Option HostClient) (part : Option Part) → FitsClient tags world client unit held part
     → is_some held ≡ is_some part
-both_there world client None None None fits = refl
-both_there world client None None (Some part) fits = absurd fits
-both_there world client None (Some held) part fits = absurd fits
-both_there world client (Some unit) None part fits = absurd fits
-both_there world client (Some unit) (Some held) None fits = absurd fits
-both_there world client (Some unit) (Some held) (Some part) fits = refl
+both_there tags world client None None None fits = refl
+both_there tags world client None None (Some part) fits = absurd fits
+both_there tags world client None (Some held) part fits = absurd fits
+both_there tags world client (Some unit) None part fits = absurd fits
+both_there tags world client (Some unit) (Some held) None fits = absurd fits
+both_there tags world client (Some unit) (Some held) (Some part) fits = refl
 
-pub clients-length : (world : World) (parts : List Part) → AllFit world parts → length world.host.clients ≡ length parts
-clients-length world parts all = same_length world.host.clients parts
-    (λ at. both_there world at (slice_get world.device.units at) (slice_get world.host.clients at) (slice_get parts at) (all at))
+pub clients-length : (tags : ℕ) (world : World) (parts : List Part) → AllFit tags world parts → length world.host.clients ≡ length parts
+clients-length tags world parts all = same_length world.host.clients parts
+    (λ at. both_there tags world at (slice_get world.device.units at) (slice_get world.host.clients at) (slice_get parts at) (all at))
 
 -- a cell that fits holds an entry of the host exactly where there is one
-pub FitsHeld-some : (client count : ℕ) (place : Place) (held : Option Entry) (cell : Cell) → FitsHeld client count place held cell
+pub FitsHeld-some : (tags : ℕ) (client count : ℕ) (place : Place) (held : Option Entry) (cell : Cell) → FitsHeld tags client count place held cell
     → is_some cell.held ≡ is_some held
-FitsHeld-some client count place None cell fits = ap (λ (o : Option HostEntry). is_some o) fits.held
-FitsHeld-some client count place (Some entry) cell fits = ap (λ (o : Option HostEntry). is_some o) fits.held
+FitsHeld-some tags client count place None cell fits = ap (λ (o : Option HostEntry). is_some o) fits.held
+FitsHeld-some tags client count place (Some entry) cell fits = ap (λ (o : Option HostEntry). is_some o) fits.held

@@ -17,7 +17,7 @@ use Rattle.event_ring.specs.declared.Event.{Event}
 use Rattle.event_ring.specs.declared.Event.TheVariants.{Transfer}
 use Rattle.uas_profile.specs.declared.Pipe.{Pipe}
 use Rattle.uas_profile.specs.declared.Pipe.TheVariants.{Command, Status, DataIn, DataOut}
-use Rattle.uas_profile.specs.declared.TheConstants.{TAGS, MAX_CLIENTS, STREAMS, STREAM_RING_PLACES, COMMAND_RING_PLACES, CHUNK_BYTES, STATUS_BYTES, WINDOW_BYTES, COMMAND_BUFFERS, BUFFER_SPAN, SLOT, SUCCESS, SHORT_PACKET}
+use Rattle.uas_profile.specs.declared.TheConstants.{STREAMS, STREAM_RING_PLACES, COMMAND_RING_PLACES, CHUNK_BYTES, STATUS_BYTES, WINDOW_BYTES, COMMAND_BUFFERS, BUFFER_SPAN, SLOT, SUCCESS, SHORT_PACKET}
 use Rattle.stream_array.specs.Map.{HasRing, places_of, ring_base, spot_at}
 use Rattle.stream_array.specs.Rings.{LinesState, IsLines, ring_of, stream_ring}
 use Rattle.stream_array.proofs.Spots.{spot_at-address}
@@ -29,7 +29,7 @@ use Rattle.scsi_cmd.specs.declared.Request.{Request}
 use Rattle.scsi_cmd.specs.declared.Request.TheVariants.{Execute, Manage}
 use Rattle.uas_profile.specs.TdStates.{is_pending}
 use Rattle.uas_profile.specs.declared.Place.{Place}
-use Rattle.uas_profile.specs.Places.{tag_of}
+use Rattle.uas_profile.specs.Tags.{tag_of}
 use Rattle.uas_host.specs.Tds.{status_buffer_of, window_of, data_trb, data_trbs, data_trb_count, data_td, status_td}
 use Rattle.uas_host.specs.Events.{command_tag, ended_td, ended_on, ended_at}
 use Rattle.xhci_ctl.specs.Steps.{endpoint_of}
@@ -49,6 +49,7 @@ use Rattle.machine_invariant.proofs.MatchedBounds.{held-place, matched-room}
 use Rattle.machine_invariant.proofs.MatchedSteps.{matched-held}
 use Rattle.machine_invariant.proofs.MatchedNext.{times-member, own-event}
 use Rattle.bus_core.proofs.common.Framing.{found}
+use Rattle.uas_profile.proofs.TagLaws.{tags-within}
 
 -- AN ITEM OF A RING
 
@@ -86,19 +87,19 @@ ended_at-item lines pipe stream k trb sound there below taken is =
 -- THE COMMAND PIPE
 
 -- the TRB of a command names the tag's command buffer
-pub command_tag-trb : (place : Place) → tag_of place ≤ STREAMS → command_tag (command_trb place) ≡ Some (tag_of place)
-command_tag-trb place most =
-    let reach : nat_lt (COMMAND_BUFFERS + BUFFER_SPAN * tag_of place) COMMAND_BUFFERS ≡ false = le-ltb (COMMAND_BUFFERS + BUFFER_SPAN * tag_of place) COMMAND_BUFFERS (omega arith) in
-    let whole : (COMMAND_BUFFERS + BUFFER_SPAN * tag_of place - COMMAND_BUFFERS) % BUFFER_SPAN ≡ 0 = omega arith in
-    let tag : (COMMAND_BUFFERS + BUFFER_SPAN * tag_of place - COMMAND_BUFFERS) / BUFFER_SPAN ≡ tag_of place = omega arith in
-    rw (reach, whole, tag, lt-ltb 0 (tag_of place) (omega arith), le-leb (tag_of place) STREAMS most) refl
+pub command_tag-trb : (tags : ℕ) (place : Place) → tag_of tags place ≤ STREAMS → command_tag (command_trb tags place) ≡ Some (tag_of tags place)
+command_tag-trb tags place most =
+    let reach : nat_lt (COMMAND_BUFFERS + BUFFER_SPAN * tag_of tags place) COMMAND_BUFFERS ≡ false = le-ltb (COMMAND_BUFFERS + BUFFER_SPAN * tag_of tags place) COMMAND_BUFFERS (omega arith) in
+    let whole : (COMMAND_BUFFERS + BUFFER_SPAN * tag_of tags place - COMMAND_BUFFERS) % BUFFER_SPAN ≡ 0 = omega arith in
+    let tag : (COMMAND_BUFFERS + BUFFER_SPAN * tag_of tags place - COMMAND_BUFFERS) / BUFFER_SPAN ≡ tag_of tags place = omega arith in
+    rw (reach, whole, tag, lt-ltb 0 (tag_of tags place) (omega arith), le-leb (tag_of tags place) STREAMS most) refl
 
-pub ended_at-command : (lines : LinesState) (k : ℕ) (place : Place) → IsLines lines → tag_of place ≤ STREAMS → k < COMMAND_RING_PLACES - 1 → k < lines.command.got
-    → slice_get lines.command.put k ≡ Some (command_item place)
-    → ended_at lines (pointer_of COMMAND_RING_PLACES lines.command k) ≡ Some (record { pipe = Command; tag = tag_of place })
-ended_at-command lines k place sound most below taken is =
-    ended_at-item lines Command 0 k (command_trb place) sound refl below taken is
-    ∙ ap (λ t. option_map (λ tag. record { pipe = Command; tag = tag }) t) (command_tag-trb place most)
+pub ended_at-command : (tags : ℕ) (lines : LinesState) (k : ℕ) (place : Place) → IsLines lines → tag_of tags place ≤ STREAMS → k < COMMAND_RING_PLACES - 1 → k < lines.command.got
+    → slice_get lines.command.put k ≡ Some (command_item tags place)
+    → ended_at lines (pointer_of COMMAND_RING_PLACES lines.command k) ≡ Some (record { pipe = Command; tag = tag_of tags place })
+ended_at-command tags lines k place sound most below taken is =
+    ended_at-item lines Command 0 k (command_trb tags place) sound refl below taken is
+    ∙ ap (λ t. option_map (λ tag. record { pipe = Command; tag = tag }) t) (command_tag-trb tags place most)
 
 -- THE STREAMS
 
@@ -188,26 +189,26 @@ spent-data ring tag bytes some most holds =
 
 -- WHAT STANDS SOMEWHERE HAS A CELL THAT FITS IT
 
-pub record HasCell (world : World) (place : Place) (entry : Entry) : Type 0 where
+pub record HasCell (tags : ℕ) (world : World) (place : Place) (entry : Entry) : Type 0 where
   pub count : ℕ
-  pub tag : tag_of place ≤ STREAMS
-  pub fits : FitsCell place.client count place entry (cell_at world place)
+  pub tag : tag_of tags place ≤ STREAMS
+  pub fits : FitsCell tags place.client count place entry (cell_at tags world place)
 
 -- the tags of places are those of streams
-pub tag_of-most : (clients : ℕ) (place : Place) → clients ≤ MAX_CLIENTS → IsPlace clients place → tag_of place ≤ STREAMS
-tag_of-most clients place few there = let client = there.client in let slot = there.slot in omega arith
+pub tag_of-most : (tags clients : ℕ) (place : Place) → clients * tags ≤ STREAMS → IsPlace tags clients place → tag_of tags place ≤ STREAMS
+tag_of-most tags clients place few there = omega (arith, (tags-within tags clients place there.client there.slot).1, few)
 
 pub fits-cell : (state : Shared) (world : World) (place : Place) (entry : Entry) → Fits state world → under state.parts place ≡ Some entry
-    → HasCell world place entry
+    → HasCell state.tags world place entry
 fits-cell state world place entry all is =
-    let there : IsPlace (length state.parts) place = held-place state place entry all.matched is in
+    let there : IsPlace state.tags (length state.parts) place = held-place state place entry all.matched is in
     let at : IsFound state.parts place entry = under-found state.parts place entry is in
-    let fits : FitsPart world place.client at.part.unit (found world state.parts place.client at.part all.clients at.there).held at.part =
-    (found world state.parts place.client at.part all.clients at.there).fits in
+    let fits : FitsPart state.tags world place.client at.part.unit (found state.tags world state.parts place.client at.part all.clients at.there).held at.part =
+    (found state.tags world state.parts place.client at.part all.clients at.there).fits in
     record {
       count = at.part.unit.count;
-      tag = tag_of-most (length state.parts) place all.most_clients there;
-      fits = subst (λ held. FitsHeld place.client at.part.unit.count place held (cell_at world place)) at.held (fits.cells place.slot there.slot);
+      tag = tag_of-most state.tags (length state.parts) place all.most_tags there;
+      fits = subst (λ held. FitsHeld state.tags place.client at.part.unit.count place held (cell_at state.tags world place)) at.held (fits.cells place.slot there.slot);
     }
 
 -- AN AWAITED TD STANDS WHOLE ON ITS RING
@@ -219,30 +220,30 @@ holds-awaited ring trbs td n holds awaited =
     (on.0, on.1 ∙ taken)
 
 -- the status TD
-pub cell-status_spent : (world : World) (place : Place) (entry : Entry) → HasCell world place entry → is_awaited entry.status_td 1 ≡ true
-    → IsSpent (stream_ring world.lines.status (tag_of place))
-cell-status_spent world place entry cell awaited =
-    spent-status (stream_ring world.lines.status (tag_of place)) (tag_of place)
-    (holds-awaited (stream_ring world.lines.status (tag_of place)) (status_td (tag_of place)) entry.status_td 1 cell.fits.status awaited)
+pub cell-status_spent : (tags : ℕ) (world : World) (place : Place) (entry : Entry) → HasCell tags world place entry → is_awaited entry.status_td 1 ≡ true
+    → IsSpent (stream_ring world.lines.status (tag_of tags place))
+cell-status_spent tags world place entry cell awaited =
+    spent-status (stream_ring world.lines.status (tag_of tags place)) (tag_of tags place)
+    (holds-awaited (stream_ring world.lines.status (tag_of tags place)) (status_td (tag_of tags place)) entry.status_td 1 cell.fits.status awaited)
 
 -- The data TD, on the ring of its direction, while the other data ring is empty. There is no data TD without a direction.
-abbrev pub IsSpentBy : Direction → World → Place → Type 0
-IsSpentBy Nothing world place = ⊥
-IsSpentBy ToHost world place = IsSpent (stream_ring world.lines.data_in (tag_of place))
-IsSpentBy ToDevice world place =
-    IsSpent (stream_ring world.lines.data_out (tag_of place)) × ((stream_ring world.lines.data_in (tag_of place)).put ≡ [])
+abbrev pub IsSpentBy : ℕ → Direction → World → Place → Type 0
+IsSpentBy tags Nothing world place = ⊥
+IsSpentBy tags ToHost world place = IsSpent (stream_ring world.lines.data_in (tag_of tags place))
+IsSpentBy tags ToDevice world place =
+    IsSpent (stream_ring world.lines.data_out (tag_of tags place)) × ((stream_ring world.lines.data_in (tag_of tags place)).put ≡ [])
 
-spent_by : (way : Direction) (world : World) (place : Place) (td : Td) (bytes : ℕ) → (way ≡ Nothing → ⊥) → 0 < bytes → bytes ≤ WINDOW_BYTES
-    → HoldsData (cell_at world place).data_in (data_td (tag_of place) bytes) (data_in_td way (Some td))
-    → HoldsData (cell_at world place).data_out (data_td (tag_of place) bytes) (data_out_td way (Some td))
-    → is_awaited td (data_trb_count bytes) ≡ true → IsSpentBy way world place
-spent_by Nothing world place td bytes goes some most on_in on_out awaited = goes refl
-spent_by ToHost world place td bytes goes some most on_in on_out awaited =
-    spent-data (cell_at world place).data_in (tag_of place) bytes some most
-    (holds-awaited (cell_at world place).data_in (data_td (tag_of place) bytes) td (data_trb_count bytes) on_in awaited)
-spent_by ToDevice world place td bytes goes some most on_in on_out awaited = (
-  spent-data (cell_at world place).data_out (tag_of place) bytes some most
-      (holds-awaited (cell_at world place).data_out (data_td (tag_of place) bytes) td (data_trb_count bytes) on_out awaited),
+spent_by : (tags : ℕ) (way : Direction) (world : World) (place : Place) (td : Td) (bytes : ℕ) → (way ≡ Nothing → ⊥) → 0 < bytes → bytes ≤ WINDOW_BYTES
+    → HoldsData (cell_at tags world place).data_in (data_td (tag_of tags place) bytes) (data_in_td way (Some td))
+    → HoldsData (cell_at tags world place).data_out (data_td (tag_of tags place) bytes) (data_out_td way (Some td))
+    → is_awaited td (data_trb_count bytes) ≡ true → IsSpentBy tags way world place
+spent_by tags Nothing world place td bytes goes some most on_in on_out awaited = goes refl
+spent_by tags ToHost world place td bytes goes some most on_in on_out awaited =
+    spent-data (cell_at tags world place).data_in (tag_of tags place) bytes some most
+    (holds-awaited (cell_at tags world place).data_in (data_td (tag_of tags place) bytes) td (data_trb_count bytes) on_in awaited)
+spent_by tags ToDevice world place td bytes goes some most on_in on_out awaited = (
+  spent-data (cell_at tags world place).data_out (tag_of tags place) bytes some most
+      (holds-awaited (cell_at tags world place).data_out (data_td (tag_of tags place) bytes) td (data_trb_count bytes) on_out awaited),
   on_in.0,
 )
 
@@ -256,21 +257,21 @@ pub data_trbs-count : (request : Request) → trbs_of request ≡ data_trb_count
 data_trbs-count (Execute op) = refl
 data_trbs-count (Manage what noted) = refl
 
-data_td_spent : (world : World) (place : Place) (request : Request) (td : Option Td) → request_bytes request ≤ WINDOW_BYTES
+data_td_spent : (tags : ℕ) (world : World) (place : Place) (request : Request) (td : Option Td) → request_bytes request ≤ WINDOW_BYTES
     → is_some td ≡ nat_lt 0 (request_bytes request)
-    → HoldsData (cell_at world place).data_in (data_td (tag_of place) (request_bytes request)) (data_in_td (request_direction request) td)
-    → HoldsData (cell_at world place).data_out (data_td (tag_of place) (request_bytes request)) (data_out_td (request_direction request) td)
-    → awaits_data (trbs_of request) td ≡ true → IsSpentBy (request_direction request) world place
-data_td_spent world place request None most there on_in on_out awaited = absurd (false≢true awaited)
-data_td_spent world place request (Some td) most there on_in on_out awaited =
+    → HoldsData (cell_at tags world place).data_in (data_td (tag_of tags place) (request_bytes request)) (data_in_td (request_direction request) td)
+    → HoldsData (cell_at tags world place).data_out (data_td (tag_of tags place) (request_bytes request)) (data_out_td (request_direction request) td)
+    → awaits_data (trbs_of request) td ≡ true → IsSpentBy tags (request_direction request) world place
+data_td_spent tags world place request None most there on_in on_out awaited = absurd (false≢true awaited)
+data_td_spent tags world place request (Some td) most there on_in on_out awaited =
     let some : 0 < request_bytes request = ltb-true 0 (request_bytes request) (sym there) in
-    spent_by (request_direction request) world place td (request_bytes request) (moved-goes request some) some most on_in on_out
+    spent_by tags (request_direction request) world place td (request_bytes request) (moved-goes request some) some most on_in on_out
     (subst (λ n. is_awaited td n ≡ true) (data_trbs-count request) awaited)
 
-pub cell-data_spent : (world : World) (place : Place) (entry : Entry) → HasCell world place entry → IsMatchedEntry place.slot entry
-    → awaits_data (trbs_of entry.task.request) entry.data_td ≡ true → IsSpentBy (request_direction entry.task.request) world place
-cell-data_spent world place entry cell matched awaited =
-    data_td_spent world place entry.task.request entry.data_td matched.small matched.moves cell.fits.data_in cell.fits.data_out awaited
+pub cell-data_spent : (tags : ℕ) (world : World) (place : Place) (entry : Entry) → HasCell tags world place entry → IsMatchedEntry tags place.slot entry
+    → awaits_data (trbs_of entry.task.request) entry.data_td ≡ true → IsSpentBy tags (request_direction entry.task.request) world place
+cell-data_spent tags world place entry cell matched awaited =
+    data_td_spent tags world place entry.task.request entry.data_td matched.small matched.moves cell.fits.data_in cell.fits.data_out awaited
 
 -- THE TEXTS OF EVENTS
 
@@ -281,35 +282,35 @@ pub record IsStreamText (lines : LinesState) (text : Event) (residual code : ℕ
   pub ended : ended_at lines pointer ≡ Some (record { pipe = pipe; tag = tag })
   pub item : item_at (places_of pipe) (ring_of lines pipe tag) pointer ≡ Some (length (ring_of lines pipe tag).put - 1)
 
-abbrev pub status_text : World → Place → Event
-status_text world place = status_event place.slot (stream_ring world.lines.status (tag_of place)) (held_for world.frames (tag_of place)).status
+abbrev pub status_text : ℕ → World → Place → Event
+status_text tags world place = status_event tags place.slot (stream_ring world.lines.status (tag_of tags place)) (held_for world.frames (tag_of tags place)).status
 
 -- what the unit in the status buffer leaves of its bytes is the residual
-abbrev pub status_residual : World → Place → ℕ
-status_residual world place = STATUS_BYTES - unit_len place.slot (held_for world.frames (tag_of place)).status
+abbrev pub status_residual : ℕ → World → Place → ℕ
+status_residual tags world place = STATUS_BYTES - unit_len tags place.slot (held_for world.frames (tag_of tags place)).status
 
-abbrev pub IsStatusText : World → Place → Type 0
-IsStatusText world place = IsStreamText world.lines (status_text world place) (status_residual world place) SHORT_PACKET Status (tag_of place)
+abbrev pub IsStatusText : ℕ → World → Place → Type 0
+IsStatusText tags world place = IsStreamText world.lines (status_text tags world place) (status_residual tags world place) SHORT_PACKET Status (tag_of tags place)
 
-pub status_text-is : (world : World) (place : Place) (entry : Entry) → IsLines world.lines → HasCell world place entry → is_awaited entry.status_td 1 ≡ true
-    → IsStatusText world place
-status_text-is world place entry sound cell awaited =
-    let spent : IsSpent (stream_ring world.lines.status (tag_of place)) = cell-status_spent world place entry cell awaited in
+pub status_text-is : (tags : ℕ) (world : World) (place : Place) (entry : Entry) → IsLines world.lines → HasCell tags world place entry → is_awaited entry.status_td 1 ≡ true
+    → IsStatusText tags world place
+status_text-is tags world place entry sound cell awaited =
+    let spent : IsSpent (stream_ring world.lines.status (tag_of tags place)) = cell-status_spent tags world place entry cell awaited in
     record {
-      pointer = last_pointer (stream_ring world.lines.status (tag_of place));
+      pointer = last_pointer (stream_ring world.lines.status (tag_of tags place));
       is = refl;
-      ended = ended_at-status world.lines (tag_of place) sound (omega arith, cell.tag) spent;
-      item = item_at-last_pointer (stream_ring world.lines.status (tag_of place)) spent;
+      ended = ended_at-status world.lines (tag_of tags place) sound (omega arith, cell.tag) spent;
+      item = item_at-last_pointer (stream_ring world.lines.status (tag_of tags place)) spent;
     }
 
-abbrev pub data_text : World → Place → Event
-data_text world place = data_event (stream_ring world.lines.data_in (tag_of place)) (stream_ring world.lines.data_out (tag_of place))
+abbrev pub data_text : ℕ → World → Place → Event
+data_text tags world place = data_event (stream_ring world.lines.data_in (tag_of tags place)) (stream_ring world.lines.data_out (tag_of tags place))
 
 -- by the direction, of which there is one
-abbrev pub IsDataText : Direction → World → Place → Type 0
-IsDataText Nothing world place = ⊥
-IsDataText ToHost world place = IsStreamText world.lines (data_text world place) 0 SUCCESS DataIn (tag_of place)
-IsDataText ToDevice world place = IsStreamText world.lines (data_text world place) 0 SUCCESS DataOut (tag_of place)
+abbrev pub IsDataText : ℕ → Direction → World → Place → Type 0
+IsDataText tags Nothing world place = ⊥
+IsDataText tags ToHost world place = IsStreamText world.lines (data_text tags world place) 0 SUCCESS DataIn (tag_of tags place)
+IsDataText tags ToDevice world place = IsStreamText world.lines (data_text tags world place) 0 SUCCESS DataOut (tag_of tags place)
 
 -- the first data ring is asked whether it has the TD
 data_event-which : (data_in data_out : ItemRing) (b : Bool) → (length data_in.put == 0) ≡ b → data_event data_in data_out ≡
@@ -318,31 +319,31 @@ data_event-which data_in data_out b is =
     ap (λ t. if t then Transfer (last_pointer data_out) 0 SUCCESS (endpoint_of DataOut) SLOT
     else Transfer (last_pointer data_in) 0 SUCCESS (endpoint_of DataIn) SLOT) is
 
-data_text-by : (way : Direction) (world : World) (place : Place) → IsLines world.lines → tag_of place ≤ STREAMS → IsSpentBy way world place
-    → IsDataText way world place
-data_text-by Nothing world place sound most spent = spent
-data_text-by ToHost world place sound most spent =
-    let ring : ItemRing = stream_ring world.lines.data_in (tag_of place) in
+data_text-by : (tags : ℕ) (way : Direction) (world : World) (place : Place) → IsLines world.lines → tag_of tags place ≤ STREAMS → IsSpentBy tags way world place
+    → IsDataText tags way world place
+data_text-by tags Nothing world place sound most spent = spent
+data_text-by tags ToHost world place sound most spent =
+    let ring : ItemRing = stream_ring world.lines.data_in (tag_of tags place) in
     let some : 0 < length ring.put = spent.some in
     record {
       pointer = last_pointer ring;
-      is = data_event-which ring (stream_ring world.lines.data_out (tag_of place)) false (ne_eqb (length ring.put) 0 (λ none. omega (arith, some, none)));
-      ended = ended_at-data_in world.lines (tag_of place) sound (omega arith, most) spent;
+      is = data_event-which ring (stream_ring world.lines.data_out (tag_of tags place)) false (ne_eqb (length ring.put) 0 (λ none. omega (arith, some, none)));
+      ended = ended_at-data_in world.lines (tag_of tags place) sound (omega arith, most) spent;
       item = item_at-last_pointer ring spent;
     }
-data_text-by ToDevice world place sound most spent =
-    let ring : ItemRing = stream_ring world.lines.data_out (tag_of place) in
+data_text-by tags ToDevice world place sound most spent =
+    let ring : ItemRing = stream_ring world.lines.data_out (tag_of tags place) in
     record {
       pointer = last_pointer ring;
-      is = data_event-which (stream_ring world.lines.data_in (tag_of place)) ring true (ap (λ (ts : List Item). length ts == 0) spent.1);
-      ended = ended_at-data_out world.lines (tag_of place) sound (omega arith, most) spent.0;
+      is = data_event-which (stream_ring world.lines.data_in (tag_of tags place)) ring true (ap (λ (ts : List Item). length ts == 0) spent.1);
+      ended = ended_at-data_out world.lines (tag_of tags place) sound (omega arith, most) spent.0;
       item = item_at-last_pointer ring spent.0;
     }
 
-pub data_text-is : (world : World) (place : Place) (entry : Entry) → IsLines world.lines → HasCell world place entry → IsMatchedEntry place.slot entry
-    → awaits_data (trbs_of entry.task.request) entry.data_td ≡ true → IsDataText (request_direction entry.task.request) world place
-data_text-is world place entry sound cell matched awaited =
-    data_text-by (request_direction entry.task.request) world place sound cell.tag (cell-data_spent world place entry cell matched awaited)
+pub data_text-is : (tags : ℕ) (world : World) (place : Place) (entry : Entry) → IsLines world.lines → HasCell tags world place entry → IsMatchedEntry tags place.slot entry
+    → awaits_data (trbs_of entry.task.request) entry.data_td ≡ true → IsDataText tags (request_direction entry.task.request) world place
+data_text-is tags world place entry sound cell matched awaited =
+    data_text-by tags (request_direction entry.task.request) world place sound cell.tag (cell-data_spent tags world place entry cell matched awaited)
 
 -- THE TEXTS OF THE EVENTS THAT WAIT
 
@@ -350,7 +351,7 @@ data_text-is world place entry sound cell matched awaited =
 pub record HasDataText (state : Shared) (world : World) (place : Place) : Type 0 where
   pub entry : Entry
   pub held : under state.parts place ≡ Some entry
-  pub text : IsDataText (request_direction entry.task.request) world place
+  pub text : IsDataText state.tags (request_direction entry.task.request) world place
 
 pub data_text-waits : (state : Shared) (world : World) (place : Place) → Fits state world → 1 ≤ data_events place state.events → HasDataText state world place
 data_text-waits state world place all some =
@@ -358,15 +359,15 @@ data_text-waits state world place all some =
     record {
       entry = own.entry;
       held = own.held;
-      text = data_text-is world place own.entry all.sound.lines (fits-cell state world place own.entry all own.held)
+      text = data_text-is state.tags world place own.entry all.sound.lines (fits-cell state world place own.entry all own.held)
           (matched-held state place own.entry all.matched own.held).here.sound own.awaits;
     }
 
 pub status_text-waits : (state : Shared) (world : World) (place : Place) → Fits state world → 1 ≤ status_events place state.events
-    → IsStatusText world place
+    → IsStatusText state.tags world place
 status_text-waits state world place all some =
     let own : IsOwnEvent state (StatusDone place) = own-event state (StatusDone place) all.matched some in
-    status_text-is world place own.entry all.sound.lines (fits-cell state world place own.entry all own.held) own.awaits
+    status_text-is state.tags world place own.entry all.sound.lines (fits-cell state world place own.entry all own.held) own.awaits
 
 slice_get-append_left : {T : Type 0} (first second : List T) (at : ℕ) (it : T) → slice_get first at ≡ Some it → slice_get (first ++ second) at ≡ Some it
 slice_get-append_left [] second at it is = absurd (none-some it is)
@@ -375,19 +376,19 @@ slice_get-append_left (next ∷ rest) second (suc at) it is = slice_get-append_l
 
 -- the k-th command event is of the k-th TRB in the ring
 pub command_text-waits : (state : Shared) (world : World) (k : ℕ) (place : Place) → Fits state world → slice_get (carried_places state.events) k ≡ Some place
-    → ended_at world.lines (pointer_of COMMAND_RING_PLACES world.lines.command k) ≡ Some (record { pipe = Command; tag = tag_of place })
+    → ended_at world.lines (pointer_of COMMAND_RING_PLACES world.lines.command k) ≡ Some (record { pipe = Command; tag = tag_of state.tags place })
 command_text-waits state world k place all is =
     let own : IsOwnEvent state (CommandDone place) =
     own-event state (CommandDone place) all.matched (times-member (carried_places state.events) k place is) in
     let within : k < length (carried_places state.events) = slice_get_within (carried_places state.events) k place is in
-    let room : length (pipe_places state) ≤ TAGS * length state.parts = (matched-room state all.matched).pipe in
-    let few = all.most_clients in
+    let room : length (pipe_places state) ≤ length state.parts * state.tags = (matched-room state all.matched).pipe in
+    let few = all.most_tags in
     let many : length (pipe_places state) ≡ length (carried_places state.events) + length state.messages =
     length-append (carried_places state.events) state.messages in
-    let put : slice_get world.lines.command.put k ≡ Some (command_item place) =
-    ap (λ (ts : List Item). slice_get ts k) all.queues.put ∙ slice_get-map command_item (pipe_places state) k
-    ∙ ap (option_map command_item) (slice_get-append_left (carried_places state.events) state.messages k place is) in
-    ended_at-command world.lines k place all.sound.lines (tag_of-most (length state.parts) place few own.there) (omega arith)
+    let put : slice_get world.lines.command.put k ≡ Some (command_item state.tags place) =
+    ap (λ (ts : List Item). slice_get ts k) all.queues.put ∙ slice_get-map (command_item state.tags) (pipe_places state) k
+    ∙ ap (option_map (command_item state.tags)) (slice_get-append_left (carried_places state.events) state.messages k place is) in
+    ended_at-command state.tags world.lines k place all.sound.lines (tag_of-most state.tags (length state.parts) place few own.there) (omega arith)
     (omega (arith, within, all.queues.got)) put
 
 abbrev pub command_text : World → ℕ → Event

@@ -5,7 +5,7 @@ use Rattle.scsi_cmd.specs.declared.Op.{Op}
 use Rattle.scsi_cmd.specs.declared.Request.TheVariants.{Execute}
 use Rattle.solo_model.specs.TaggedTask.{moved_from, moved_request, sent_from}
 use Rattle.uas_profile.specs.declared.Place.{Place}
-use Rattle.uas_profile.specs.Places.{place_of}
+use Rattle.uas_profile.specs.Tags.{place_of}
 use Rattle.shared_machine.specs.declared.Mark.{Mark}
 use Rattle.shared_machine.specs.declared.Mark.TheVariants.{Move, Send, Quiet}
 use Rattle.shared_machine.specs.declared.Step.TheVariants.{Event}
@@ -41,7 +41,7 @@ use Rattle.machine_invariant.proofs.MatchedCommands.{HasLeft, IsPiped, has-left,
 -- a message
 pub carry-marked : CommandsAreMarked
 carry-marked state place rest all is =
-    let own : IsOwnMessage state.parts place = own-message state place all (subst (λ ms. 1 ≤ times place ms) (sym is) (omega (arith, one_self place))) in
+    let own : IsOwnMessage state.tags state.parts place = own-message state place all (subst (λ ms. 1 ≤ times place ms) (sym is) (omega (arith, one_self place))) in
     let at : IsHeld state place own.entry = matched-held state place own.entry all own.held in
     ap (λ ms. (cond (is_some_of ms) (carry_step state ms) (state, idle)).1) is
     ∙ ap (λ after. after.1) (carry_step-is state place rest at.found.part own.entry at.found.there at.found.held own.queued)
@@ -54,10 +54,10 @@ quiet-doors outcome client doors is = is ∙ ap (λ (o : Outcome). ringing clien
 td_event-marked : (state : Shared) (event : Completion) (rest : List Completion) → is_td_event event ≡ true → IsMatched state → state.events ≡ event ∷ rest →
     (event_step state (event ∷ rest)).1 ≡ ringing (event_place event).client []
 td_event-marked state event rest of_td all is =
-    let own : IsOwnTdEvent state.parts event =
+    let own : IsOwnTdEvent state.tags state.parts event =
     own-td_event state event all of_td (subst (λ es. 1 ≤ times_alike event es) (sym is) (times_alike-first event rest)) in
     let at : IsHeld state (event_place event) own.entry = matched-held state (event_place event) own.entry all own.held in
-    let seen : HasSeen event own.entry = event-seen event own.entry own.awaits at.here.sound in
+    let seen : HasSeen state.tags event own.entry = event-seen event own.entry own.awaits at.here.sound in
     let popped : Shared = record state { events = rest } in
     let client : ℕ = (event_place event).client in
     ap (λ after. after.1) (event_seen-td popped event of_td)
@@ -136,20 +136,20 @@ engine-marked state r all is is_due =
 -- a retirement that begins
 pub retire-marked : RetirementsAreMarked
 retire-marked state pipe tag place named is_due =
-    ap (λ b. (cond b (retire_step state pipe (place_of (length state.parts) tag)) (state, idle)).1) is_due
+    ap (λ b. (cond b (retire_step state pipe (place_of state.tags (length state.parts) tag)) (state, idle)).1) is_due
     ∙ ap (λ found. (retire_step state pipe found).1) named
 
 -- the place of a tag, of which a fact is so
 by_tag-marked : (state : Shared) (tag : ℕ) (place : Place) (fact : Entry → Bool) (act : Place → Part → Act) (mark : ℕ → Mark) → IsMatched state
-    → place_of (length state.parts) tag ≡ Some place → place_fact state tag fact ≡ true
+    → place_of state.tags (length state.parts) tag ≡ Some place → place_fact state tag fact ≡ true
     → ((at : Place) (entry : Entry) → (held : IsHeld state at entry) → fact entry ≡ true
     → (acted_on state at.client (act at held.found.part)).1 ≡ marked at.client (mark (suc at.slot)))
-    → (routed_by_tag state act (place_of (length state.parts) tag)).1 ≡ marked place.client (mark (suc place.slot))
+    → (routed_by_tag state act (place_of state.tags (length state.parts) tag)).1 ≡ marked place.client (mark (suc place.slot))
 by_tag-marked state tag place fact act mark all named so each =
     let at : IsDueAt state tag fact = place_fact-due state tag fact so in
     let held : IsHeld state at.place at.entry = matched-held state at.place at.entry all at.held in
-    subst (λ (p : Place). (routed_by_tag state act (place_of (length state.parts) tag)).1 ≡ marked p.client (mark (suc p.slot)))
-    (same_named (place_of (length state.parts) tag) at.place place at.named named)
+    subst (λ (p : Place). (routed_by_tag state act (place_of state.tags (length state.parts) tag)).1 ≡ marked p.client (mark (suc p.slot)))
+    (same_named (place_of state.tags (length state.parts) tag) at.place place at.named named)
     (ap (λ p. (routed_by_tag state act p).1) at.named
     ∙ ap (λ found. (routed_to state at.place.client (act at.place) found).1) held.found.there
     ∙ each at.place at.entry held at.so)
@@ -157,7 +157,7 @@ by_tag-marked state tag place fact act mark all named so each =
 -- a chunk
 pub move-marked : DataAreMarked
 move-marked state tag place all named is_due =
-    ap (λ b. (cond b (routed_by_tag state move_act (place_of (length state.parts) tag)) (state, idle)).1) is_due
+    ap (λ b. (cond b (routed_by_tag state move_act (place_of state.tags (length state.parts) tag)) (state, idle)).1) is_due
     ∙ by_tag-marked state tag place (data_is_due state tag) move_act Move all named is_due (λ at entry held so.
     let moving : IsMovingBy entry.task.phase = moving_phase entry.task.phase (and_parts (is_moving entry.task.phase) _ so).0 in
     let part : Part = held.found.part in
@@ -170,7 +170,7 @@ move-marked state tag place all named is_due =
 -- an answer
 pub send-marked : StatusesAreMarked
 send-marked state tag place all named is_due =
-    ap (λ b. (cond b (routed_by_tag state send_act (place_of (length state.parts) tag)) (state, idle)).1) is_due
+    ap (λ b. (cond b (routed_by_tag state send_act (place_of state.tags (length state.parts) tag)) (state, idle)).1) is_due
     ∙ by_tag-marked state tag place (status_is_due state tag) send_act Send all named is_due (λ at entry held so.
     let ended : IsEndedBy entry.task.phase = ended_phase entry.task.phase (and_parts (is_ended entry.task.phase) _ so).0 in
     ap (λ found. (acted_on state at.client (sent_slot held.found.part at.slot at found)).1) held.found.held

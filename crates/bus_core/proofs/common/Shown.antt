@@ -11,14 +11,14 @@ use Rattle.cycle_ring.specs.Items.{known, ItemRing}
 use Rattle.event_ring.specs.declared.Event.TheVariants.{Transfer}
 use Rattle.uas_profile.specs.declared.Pipe.{Pipe}
 use Rattle.uas_profile.specs.declared.Pipe.TheVariants.{Command, Status, DataIn, DataOut}
-use Rattle.uas_profile.specs.declared.TheConstants.{TAGS, COMMAND_RING_PLACES, SLOT, SUCCESS, SHORT_PACKET}
+use Rattle.uas_profile.specs.declared.TheConstants.{COMMAND_RING_PLACES, SLOT, SUCCESS, SHORT_PACKET}
 use Rattle.xhci_ctl.specs.Steps.{endpoint_of}
 use Rattle.stream_array.specs.Rings.{LinesState, stream_ring}
 use Rattle.frame_store.specs.Buffers.{held_for}
 use Rattle.uas_profile.specs.declared.Place.{Place}
 use Rattle.uas_profile.specs.declared.TdState.{TdState}
 use Rattle.uas_profile.specs.declared.TdState.TheVariants.{Pending, Seen, LeftOver, Retired}
-use Rattle.uas_profile.specs.Places.{tag_of}
+use Rattle.uas_profile.specs.Tags.{tag_of}
 use Rattle.shared_machine.specs.declared.Retirement.{Retirement}
 use Rattle.shared_machine.specs.declared.RetirementStage.{RetirementStage}
 use Rattle.shared_machine.specs.declared.RetirementStage.TheVariants.{StopAsked, StopAnswered, MoveAsked, MoveAnswered}
@@ -40,9 +40,9 @@ use Rattle.uas_host.specs.Retirement.{stop_trb, move_trb}
 
 -- MESSAGES
 
-drop-carried : (carried messages : List Place) → drop (length carried) (map command_item (carried ++ messages)) ≡ map command_item messages
-drop-carried [] messages = refl
-drop-carried (place ∷ rest) messages = drop-carried rest messages
+drop-carried : (tags : ℕ) (carried messages : List Place) → drop (length carried) (map (command_item tags) (carried ++ messages)) ≡ map (command_item tags) messages
+drop-carried tags [] messages = refl
+drop-carried tags (place ∷ rest) messages = drop-carried tags rest messages
 
 -- EVENTS
 
@@ -52,18 +52,18 @@ told-if : (test : Bool) (one other : ℕ) (first second : Pipe)
 told-if true one other first second = refl
 told-if false one other first second = refl
 
-told-texts : (world : World) (k : ℕ) (events : List Completion) → map told_in (event_texts world k events) ≡ tells_of world.lines k events
-told-texts world k [] = refl
-told-texts world k (CommandDone place ∷ rest) =
-    ap (λ es. Some (tells (pointer_of COMMAND_RING_PLACES world.lines.command k) SUCCESS Command) ∷ es) (told-texts world (suc k) rest)
-told-texts world k (DataDone place ∷ rest) =
-    let data_in : ItemRing = stream_ring world.lines.data_in (tag_of place) in
-    let data_out : ItemRing = stream_ring world.lines.data_out (tag_of place) in
-    ap (λ e. e ∷ map told_in (event_texts world k rest)) (told-if (length data_in.put == 0) (last_pointer data_out) (last_pointer data_in) DataOut DataIn)
-    ∙ ap (λ es. Some (data_tells data_in data_out) ∷ es) (told-texts world k rest)
-told-texts world k (StatusDone place ∷ rest) =
-    ap (λ es. Some (tells (last_pointer (stream_ring world.lines.status (tag_of place))) SHORT_PACKET Status) ∷ es) (told-texts world k rest)
-told-texts world k (EngineDone place ∷ rest) = ap (λ es. Some (engine_tells world.lines.engine) ∷ es) (told-texts world k rest)
+told-texts : (tags : ℕ) (world : World) (k : ℕ) (events : List Completion) → map told_in (event_texts tags world k events) ≡ tells_of tags world.lines k events
+told-texts tags world k [] = refl
+told-texts tags world k (CommandDone place ∷ rest) =
+    ap (λ es. Some (tells (pointer_of COMMAND_RING_PLACES world.lines.command k) SUCCESS Command) ∷ es) (told-texts tags world (suc k) rest)
+told-texts tags world k (DataDone place ∷ rest) =
+    let data_in : ItemRing = stream_ring world.lines.data_in (tag_of tags place) in
+    let data_out : ItemRing = stream_ring world.lines.data_out (tag_of tags place) in
+    ap (λ e. e ∷ map told_in (event_texts tags world k rest)) (told-if (length data_in.put == 0) (last_pointer data_out) (last_pointer data_in) DataOut DataIn)
+    ∙ ap (λ es. Some (data_tells data_in data_out) ∷ es) (told-texts tags world k rest)
+told-texts tags world k (StatusDone place ∷ rest) =
+    ap (λ es. Some (tells (last_pointer (stream_ring world.lines.status (tag_of tags place))) SHORT_PACKET Status) ∷ es) (told-texts tags world k rest)
+told-texts tags world k (EngineDone place ∷ rest) = ap (λ es. Some (engine_tells world.lines.engine) ∷ es) (told-texts tags world k rest)
 
 -- TDS
 
@@ -81,27 +81,27 @@ left-data : (ring : ItemRing) (trbs : List Trb) (td : Option Td) → HoldsData r
 left-data ring trbs None holds = left-trbs ring [] 0 holds
 left-data ring trbs (Some td) holds = left-held ring trbs td.consumed td.state holds
 
-shown-place : (world : World) (client count : ℕ) (place : Place) (held : Option Entry) → FitsHeld client count place held (cell_at world place)
-    → ShowsPlace world.lines place held
-shown-place world client count place None fits = record {
-  status = left-trbs (stream_ring world.lines.status (tag_of place)) [] 0 fits.status;
-  data_in = left-trbs (stream_ring world.lines.data_in (tag_of place)) [] 0 fits.data_in;
-  data_out = left-trbs (stream_ring world.lines.data_out (tag_of place)) [] 0 fits.data_out;
+shown-place : (tags : ℕ) (world : World) (client count : ℕ) (place : Place) (held : Option Entry) → FitsHeld tags client count place held (cell_at tags world place)
+    → ShowsPlace tags world.lines place held
+shown-place tags world client count place None fits = record {
+  status = left-trbs (stream_ring world.lines.status (tag_of tags place)) [] 0 fits.status;
+  data_in = left-trbs (stream_ring world.lines.data_in (tag_of tags place)) [] 0 fits.data_in;
+  data_out = left-trbs (stream_ring world.lines.data_out (tag_of tags place)) [] 0 fits.data_out;
 }
-shown-place world client count place (Some entry) fits = record {
-  status = left-held (stream_ring world.lines.status (tag_of place)) _ entry.status_td.consumed entry.status_td.state fits.status;
-  data_in = left-data (stream_ring world.lines.data_in (tag_of place)) _ _ fits.data_in;
-  data_out = left-data (stream_ring world.lines.data_out (tag_of place)) _ _ fits.data_out;
+shown-place tags world client count place (Some entry) fits = record {
+  status = left-held (stream_ring world.lines.status (tag_of tags place)) _ entry.status_td.consumed entry.status_td.state fits.status;
+  data_in = left-data (stream_ring world.lines.data_in (tag_of tags place)) _ _ fits.data_in;
+  data_out = left-data (stream_ring world.lines.data_out (tag_of tags place)) _ _ fits.data_out;
 }
 
-shown-held : (world : World) (count : ℕ) (place : Place) (held : Option Entry) → FitsHeld place.client count place held (cell_at world place)
-    → ShowsHeld place held (held_for world.frames (tag_of place))
-shown-held world count place None fits = fits.lent
-shown-held world count place (Some entry) fits = record { unit = fits.unit; answer = fits.answer; lent = fits.lent }
+shown-held : (tags : ℕ) (world : World) (count : ℕ) (place : Place) (held : Option Entry) → FitsHeld tags place.client count place held (cell_at tags world place)
+    → ShowsHeld tags place held (held_for world.frames (tag_of tags place))
+shown-held tags world count place None fits = fits.lent
+shown-held tags world count place (Some entry) fits = record { unit = fits.unit; answer = fits.answer; lent = fits.lent }
 
 fits-at : (state : Shared) (world : World) (place : Place) (found_part : Option Part) → Fits state world
-    → slice_get state.parts place.client ≡ found_part → place.client < length state.parts → place.slot < TAGS
-    → (count : ℕ) × FitsHeld place.client count place (option_map_or (held_in place) found_part None) (cell_at world place)
+    → slice_get state.parts place.client ≡ found_part → place.client < length state.parts → place.slot < state.tags
+    → (count : ℕ) × FitsHeld state.tags place.client count place (option_map_or (held_in place) found_part None) (cell_at state.tags world place)
 fits-at state world place None fits is there within = absurd (missing state.parts place.client there is)
   where
     missing : (parts : List Part) (at : ℕ) → at < length parts → slice_get parts at ≡ None → ⊥
@@ -109,22 +109,22 @@ fits-at state world place None fits is there within = absurd (missing state.part
     missing (part ∷ rest) zero there is = none-some part (sym is)
     missing (part ∷ rest) (suc at) there is = missing rest at (omega arith) is
 fits-at state world place (Some part) fits is there within =
-    let at : IsFound world place.client part = found world state.parts place.client part fits.clients is in
+    let at : IsFound state.tags world place.client part = found state.tags world state.parts place.client part fits.clients is in
     (part.unit.count, at.fits.cells place.slot within)
 
 -- THE CONTROLLER'S COMMAND RING
 
-shown-stage : (lines : LinesState) (pipe : Pipe) (place : Place) (stage : RetirementStage) → HoldsCommand lines pipe place stage
-    → pending_in lines.engine ≡ map known (commands_at lines pipe place stage)
-shown-stage lines pipe place StopAsked holds = left-trbs lines.engine (stop_trb pipe ∷ []) 0 holds
-shown-stage lines pipe place StopAnswered holds = left-trbs lines.engine (stop_trb pipe ∷ []) 1 holds
-shown-stage lines pipe place MoveAsked holds = left-trbs lines.engine (move_trb lines pipe (tag_of place) ∷ []) 0 holds
-shown-stage lines pipe place MoveAnswered holds = left-trbs lines.engine (move_trb lines pipe (tag_of place) ∷ []) 1 holds
+shown-stage : (tags : ℕ) (lines : LinesState) (pipe : Pipe) (place : Place) (stage : RetirementStage) → HoldsCommand tags lines pipe place stage
+    → pending_in lines.engine ≡ map known (commands_at tags lines pipe place stage)
+shown-stage tags lines pipe place StopAsked holds = left-trbs lines.engine (stop_trb pipe ∷ []) 0 holds
+shown-stage tags lines pipe place StopAnswered holds = left-trbs lines.engine (stop_trb pipe ∷ []) 1 holds
+shown-stage tags lines pipe place MoveAsked holds = left-trbs lines.engine (move_trb lines pipe (tag_of tags place) ∷ []) 0 holds
+shown-stage tags lines pipe place MoveAnswered holds = left-trbs lines.engine (move_trb lines pipe (tag_of tags place) ∷ []) 1 holds
 
-shown-commands : (lines : LinesState) (retirement : Option Retirement) → HoldsCommandOf lines retirement
-    → pending_in lines.engine ≡ map known (commands_of lines retirement)
-shown-commands lines None holds = left-trbs lines.engine [] 0 holds
-shown-commands lines (Some r) holds = shown-stage lines r.pipe r.place r.stage holds
+shown-commands : (tags : ℕ) (lines : LinesState) (retirement : Option Retirement) → HoldsCommandOf tags lines retirement
+    → pending_in lines.engine ≡ map known (commands_of tags lines retirement)
+shown-commands tags lines None holds = left-trbs lines.engine [] 0 holds
+shown-commands tags lines (Some r) holds = shown-stage tags lines r.pipe r.place r.stage holds
 
 -- THE WHOLE
 
@@ -132,19 +132,19 @@ pub shown : (state : Shared) (world : World) → Fits state world → ShowsShare
 shown state world fits = record {
   messages =
       ap (λ n. drop n world.lines.command.put) fits.queues.got ∙ ap (drop (length (carried_places state.events))) fits.queues.put
-      ∙ drop-carried (carried_places state.events) state.messages;
-  commands = shown-commands world.lines state.retirement fits.engine.commands;
-  events = ap (map told_in) fits.queues.texts ∙ told-texts world 0 state.events;
+      ∙ drop-carried state.tags (carried_places state.events) state.messages;
+  commands = shown-commands state.tags world.lines state.retirement fits.engine.commands;
+  events = ap (map told_in) fits.queues.texts ∙ told-texts state.tags world 0 state.events;
   places = λ place there within.
       let at = fits-at state world place (slice_get state.parts place.client) fits refl there within in
-      shown-place world place.client at.0 place (under state.parts place) at.1;
+      shown-place state.tags world place.client at.0 place (under state.parts place) at.1;
   unused = fits.unused;
 }
 
 pub frames-shown : (state : Shared) (world : World) → Fits state world → ShowsFrames state world.frames
 frames-shown state world fits = λ place there within.
     let at = fits-at state world place (slice_get state.parts place.client) fits refl there within in
-    shown-held world at.0 place (under state.parts place) at.1
+    shown-held state.tags world at.0 place (under state.parts place) at.1
 
 -- CONTEXTS
 

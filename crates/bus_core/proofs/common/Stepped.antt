@@ -1,6 +1,6 @@
 -- Each step of host and controller, on a world that fits a state: the world after it reads as the shared machine's state after its
 -- step, and the outcome is the shared machine's.
-use Rattle.std.proofs.Common.{◌≡◌, ℕ, zero, suc, ◌-◌, ◌/◌, ◌%◌, ◌<◌, ◌≤◌, Bool, true, List, [], ◌∷◌, length, Option, Some, None, IfSome, refl, arith, ap, sym}
+use Rattle.std.proofs.Common.{◌≡◌, ℕ, zero, suc, ◌*◌, ◌/◌, ◌%◌, ◌<◌, ◌≤◌, Bool, true, List, [], ◌∷◌, length, Option, Some, None, IfSome, refl, ap, sym}
 use Rattle.std.proofs.Common.{subst, ◌∙◌}
 use Rattle.std.specs.Prelude.{slice_get, nat_lt, option_and_then, option_map, is_some}
 use Rattle.std.proofs.lemmas.Bool.{false≢true}
@@ -10,7 +10,7 @@ use Rattle.stream_array.specs.Rings.{LinesState, IsLines, IsOpeningLines}
 use Rattle.event_ring.specs.declared.Event.{Event}
 use Rattle.frame_store.specs.declared.TagBuffers.{TagBuffers}
 use Rattle.frame_store.specs.Buffers.{IsWhole, opening as opening_frames}
-use Rattle.uas_profile.specs.declared.TheConstants.{TAGS, MAX_CLIENTS, GREATEST_TAG}
+use Rattle.uas_profile.specs.declared.TheConstants.{MAX_CLIENTS, STREAMS}
 use Rattle.uas_target.specs.declared.DeviceTask.{DeviceTask}
 use Rattle.uas_target.specs.Device.{Device, opening as opening_device}
 use Rattle.scsi_cmd.specs.declared.Reply.{Reply}
@@ -30,7 +30,7 @@ use Rattle.uas_host.specs.declared.Handled.{Handled}
 use Rattle.uas_host.specs.declared.Handled.TheVariants.{Matched}
 use Rattle.uas_host.specs.declared.Retirement.{Retirement as HostRetirement}
 use Rattle.uas_host.specs.State.{HostState, IsHost, opening as opening_host}
-use Rattle.uas_profile.specs.Places.{place_of, tag_of}
+use Rattle.uas_profile.specs.Tags.{place_of, tag_of}
 use Rattle.uas_host.specs.Events.{Sides as EventSides, event_doors, handled}
 use Rattle.xhci_ctl.specs.declared.Acted.{Acted}
 use Rattle.xhci_ctl.specs.declared.Acted.TheVariants.{Acted as DidAct}
@@ -61,7 +61,6 @@ use Rattle.bus_core.proofs.common.EventTexts.{event-within}
 use Rattle.machine_invariant.proofs.MatchedBounds.{held-place}
 use Rattle.machine_invariant.proofs.MatchedNext.{matched-no_stray}
 use Rattle.machine_invariant.proofs.MatchedSteps.{IsDueAt, place_fact-due}
-use Rattle.machine_invariant.proofs.MatchedPlaces.{held-within}
 use Rattle.bus_core.proofs.common.DeviceTags.{tags-commanded}
 use Rattle.bus_core.proofs.carry.CommandFits.{command_fits}
 use Rattle.bus_core.proofs.chunks.DataDue.{data_fits}
@@ -71,6 +70,10 @@ use Rattle.bus_core.proofs.common.OutcomeMarks.{carry-marked, move-marked, send-
 use Rattle.bus_core.proofs.common.ReadBack.{decoded-back}
 use Rattle.bus_core.proofs.status.StatusFits.{status_fits}
 use Rattle.bus_core.proofs.take.Taking.{takes-fit}
+use Rattle.uas_profile.proofs.TagLaws.{tag-of_its_place, slot-of_tag}
+use Rattle.uas_profile.specs.Tags.{slot_of}
+use Rattle.machine_invariant.specs.Matched.{held_in}
+use Rattle.std.specs.Option.{option_map_or}
 
 -- A STEP
 
@@ -91,37 +94,33 @@ stepped state new step outcome acts fits told =
 
 -- WHOSE A TAG IS
 
-slot-of : (place : Place) → place.slot < TAGS → (tag_of place - 1) % TAGS ≡ place.slot
-slot-of place within = omega arith
+client-of : (tags : ℕ) (place : Place) → place.slot < tags → owner_of tags (tag_of tags place) ≡ place.client
+client-of tags place within = (tag-of_its_place tags place within).0
 
-client-of : (place : Place) → place.slot < TAGS → owner_of (tag_of place) ≡ place.client
-client-of place within = omega arith
+marked-at : (tags : ℕ) (place : Place) (mark : ℕ → Mark) → place.slot < tags
+    → marked place.client (mark (suc place.slot)) ≡ marked (owner_of tags (tag_of tags place)) (mark (index_of tags (tag_of tags place)))
+marked-at tags place mark within =
+    ap (λ c. marked c (mark (suc place.slot))) (sym (client-of tags place within))
+    ∙ ap (λ s. marked (owner_of tags (tag_of tags place)) (mark (suc s))) (sym (tag-of_its_place tags place within).1)
 
-marked-at : (place : Place) (mark : ℕ → Mark) → place.slot < TAGS
-    → marked place.client (mark (suc place.slot)) ≡ marked (owner_of (tag_of place)) (mark (index_of (tag_of place)))
-marked-at place mark within =
-    ap (λ c. marked c (mark (suc place.slot))) (sym (client-of place within))
-    ∙ ap (λ s. marked (owner_of (tag_of place)) (mark (suc s))) (sym (slot-of place within))
+pub place-named : (tags clients tag : ℕ) (place : Place) → place_of tags clients tag ≡ Some place → (place.client ≡ owner_of tags tag) × (suc place.slot ≡ index_of tags tag)
+place-named tags clients zero place is = absurd (none-some place is)
+place-named tags clients (suc before) place is =
+    let same : record { client = before / tags; slot = before % tags }
+    ≡ place = (cond_some (nat_lt (before / tags) clients) (record { client = before / tags; slot = before % tags }) place is).1 in
+    (sym (ap (λ (p : Place). p.client) same), ap suc (sym (ap (λ (p : Place). p.slot) same)))
 
-pub place-named : (clients tag : ℕ) (place : Place) → place_of clients tag ≡ Some place → (place.client ≡ owner_of tag) × (suc place.slot ≡ index_of tag)
-place-named clients zero place is = absurd (none-some place is)
-place-named clients (suc before) place is =
-    let same : record { client = before / TAGS; slot = before % TAGS }
-    ≡ place = (cond_some (nat_lt (before / TAGS) clients) (record { client = before / TAGS; slot = before % TAGS }) place is).1 in
-    let less : suc before - 1 ≡ before = omega arith in
-    (sym (ap (λ (p : Place). p.client) same) ∙ ap (λ n. n / TAGS) (sym less), ap suc (sym (ap (λ (p : Place). p.slot) same) ∙ ap (λ n. n % TAGS) (sym less)))
-
-marked-named : (clients tag : ℕ) (place : Place) (mark : ℕ → Mark) → place_of clients tag ≡ Some place
-    → marked place.client (mark (suc place.slot)) ≡ marked (owner_of tag) (mark (index_of tag))
-marked-named clients tag place mark is =
-    let named = place-named clients tag place is in
-    ap (λ c. marked c (mark (suc place.slot))) named.0 ∙ ap (λ k. marked (owner_of tag) (mark k)) named.1
+marked-named : (tags clients tag : ℕ) (place : Place) (mark : ℕ → Mark) → place_of tags clients tag ≡ Some place
+    → marked place.client (mark (suc place.slot)) ≡ marked (owner_of tags tag) (mark (index_of tags tag))
+marked-named tags clients tag place mark is =
+    let named = place-named tags clients tag place is in
+    ap (λ c. marked c (mark (suc place.slot))) named.0 ∙ ap (λ k. marked (owner_of tags tag) (mark k)) named.1
 
 -- CARRY, MOVE, SEND: a step of the controller is the shared machine's
 
 -- what is so of a step of the controller that is due
 pub record IsDone (state : Shared) (world : World) (step : Step) (after : Sides × Acted) (mark : ℕ → Mark) : Type 0 where
-  pub told : (shared_step state step).1 ≡ acted_as mark after.1
+  pub told : (shared_step state step).1 ≡ acted_as state.tags mark after.1
   pub fits : IsSoundWorld (with_sides world after.0) → Fits (shared_step state step).0 (with_sides world after.0)
 
 -- so the world after it reads as the shared machine's state
@@ -129,32 +128,32 @@ pub done-stepped : (state : Shared) (world : World) (step : Step) (after : Sides
     (frames : List TagBuffers) (device : Device) (acted : Acted)
     → due state step ≡ true → Fits state world → IsDone state world step after mark → after ≡ (sides_of lines frames device, acted)
     → IsLines lines → IsWhole frames → length after.0.device.tasks ≡ length world.device.tasks
-    → IsStepped state step (world_of world.host world.controller device lines frames) (acted_as mark acted)
+    → IsStepped state step (world_of world.host world.controller device lines frames) (acted_as state.tags mark acted)
 done-stepped state world step after mark lines frames device acted acts fits done is standing whole kept =
     let sides : after.0 ≡ sides_of lines frames device = ap (λ (a : Sides × Acted). a.0) is in
     let new : with_sides world after.0 ≡ world_of world.host world.controller device lines frames = ap (λ (s : Sides). with_sides world s) sides in
-    let tags : length device.tasks ≡ GREATEST_TAG = sym (ap (λ (s : Sides). length s.device.tasks) sides) ∙ kept ∙ fits.sound.tags in
+    let tags : length device.tasks ≡ STREAMS = sym (ap (λ (s : Sides). length s.device.tasks) sides) ∙ kept ∙ fits.sound.tags in
     let sound : IsSoundWorld (with_sides world after.0) = subst IsSoundWorld (sym new)
     (record { host = fits.sound.host; lines = standing; frames = whole; tags = tags }) in
-    stepped state (world_of world.host world.controller device lines frames) step (acted_as mark acted) acts
+    stepped state (world_of world.host world.controller device lines frames) step (acted_as state.tags mark acted) acts
     (subst (λ w. Fits (shared_step state step).0 w) new (done.fits sound))
-    (done.told ∙ ap (λ (a : Sides × Acted). acted_as mark a.1) is)
+    (done.told ∙ ap (λ (a : Sides × Acted). acted_as state.tags mark a.1) is)
 
 carry-by : (state : Shared) (world : World) (messages : List Place) → Fits state world → state.messages ≡ messages → is_some_of messages ≡ true
     → IsDone state world CommandPipe (commanded (sides_in world)) Carry
 carry-by state world [] fits is some = absurd (false≢true some)
 carry-by state world (place ∷ rest) fits is some =
-    let own : IsOwnMessage state.parts place = (matched-no_stray state fits.matched).messages 0 place (ap (λ ms. slice_get ms 0) is) in
-    let within : IsPlace (length state.parts) place = held-place state place own.entry fits.matched own.held in
+    let own : IsOwnMessage state.tags state.parts place = (matched-no_stray state fits.matched).messages 0 place (ap (λ ms. slice_get ms 0) is) in
+    let within : IsPlace state.tags (length state.parts) place = held-place state place own.entry fits.matched own.held in
     let it : CommandFits state world place = command_fits state world place rest fits is in
     record {
-      told = carry-marked state place rest fits.matched is ∙ marked-at place Carry within.slot ∙ ap (acted_as Carry) (sym it.acted);
+      told = carry-marked state place rest fits.matched is ∙ marked-at state.tags place Carry within.slot ∙ ap (acted_as state.tags Carry) (sym it.acted);
       fits = it.fits;
     }
 
 pub carried : (state : Shared) (world : World) (lines : LinesState) (device : Device) (acted : Acted) → Fits state world → due state CommandPipe ≡ true
     → commanded (sides_in world) ≡ (sides_of lines world.frames device, acted) → IsLines lines → IsWhole world.frames
-    → IsStepped state CommandPipe (world_of world.host world.controller device lines world.frames) (acted_as Carry acted)
+    → IsStepped state CommandPipe (world_of world.host world.controller device lines world.frames) (acted_as state.tags Carry acted)
 carried state world lines device acted fits acts is standing whole =
     done-stepped state world CommandPipe (commanded (sides_in world)) Carry lines world.frames device acted acts fits
     (carry-by state world state.messages fits refl acts) is standing whole
@@ -162,7 +161,7 @@ carried state world lines device acted fits acts is standing whole =
 
 -- what is so of the steps of the tags' streams, wherever one is due
 pub record AreStreamSteps (step : ℕ → Step) (mark : ℕ → Mark) (moves : ControllerState → Sides → ℕ → Sides × Acted) : Type 0 where
-  pub told : (state : Shared) (tag : ℕ) → IsMatched state → due state (step tag) ≡ true → (shared_step state (step tag)).1 ≡ acted_as mark (DidAct tag)
+  pub told : (state : Shared) (tag : ℕ) → IsMatched state → due state (step tag) ≡ true → (shared_step state (step tag)).1 ≡ acted_as state.tags mark (DidAct tag)
   pub acted : (state : Shared) (world : World) (tag : ℕ) → Fits state world → due state (step tag) ≡ true
       → (moves world.controller (sides_in world) tag).1 ≡ DidAct tag
   pub fits : (state : Shared) (world : World) (tag : ℕ) → Fits state world → due state (step tag) ≡ true
@@ -175,10 +174,10 @@ KeepTags moves =
 
 stream-told : (step : ℕ → Step) (mark : ℕ → Mark) (test : Shared → ℕ → Entry → Bool) → StreamsAreMarked step mark → (state : Shared) (tag : ℕ)
     → IsMatched state → place_fact state tag (test state tag) ≡ true → due state (step tag) ≡ true
-    → (shared_step state (step tag)).1 ≡ acted_as mark (DidAct tag)
+    → (shared_step state (step tag)).1 ≡ acted_as state.tags mark (DidAct tag)
 stream-told step mark test told state tag all is acts =
     let at : IsDueAt state tag (test state tag) = place_fact-due state tag (test state tag) is in
-    told state tag at.place all at.named acts ∙ marked-named (length state.parts) tag at.place mark at.named
+    told state tag at.place all at.named acts ∙ marked-named state.tags (length state.parts) tag at.place mark at.named
 
 pub data-steps : AreStreamSteps Data Move moved
 data-steps = record {
@@ -198,11 +197,11 @@ pub stream-stepped : {step : ℕ → Step} {mark : ℕ → Mark} {moves : Contro
     → KeepTags moves → (state : Shared) (world : World) (tag : ℕ) (lines : LinesState) (frames : List TagBuffers) (device : Device) (acted : Acted)
     → Fits state world → due state (step tag) ≡ true
     → moves world.controller (sides_in world) tag ≡ (sides_of lines frames device, acted) → IsLines lines → IsWhole frames
-    → IsStepped state (step tag) (world_of world.host world.controller device lines frames) (acted_as mark acted)
+    → IsStepped state (step tag) (world_of world.host world.controller device lines frames) (acted_as state.tags mark acted)
 stream-stepped {step} {mark} {moves} steps tags state world tag lines frames device acted fits acts is standing whole =
     done-stepped state world (step tag) (moves world.controller (sides_in world) tag) mark lines frames device acted acts fits
     (record {
-      told = steps.told state tag fits.matched acts ∙ ap (acted_as mark) (sym (steps.acted state world tag fits acts));
+      told = steps.told state tag fits.matched acts ∙ ap (acted_as state.tags mark) (sym (steps.acted state world tag fits acts));
       fits = steps.fits state world tag fits acts;
     }) is standing whole
     (tags world.controller (sides_in world) tag)
@@ -215,15 +214,15 @@ fits-as state world is fits = subst (λ s. Fits s world) is fits
 
 -- the outcome of an event, told by what the host made of it and by the doorbells that it rang: an event of a TD is its client's, and one of
 -- the controller's own commands the retirement's
-told-td : (retirement : Option HostRetirement) (doors : List ℕ) (place : Place) → place.slot < TAGS
-    → ringing place.client doors ≡ handled_as retirement doors (Matched (tag_of place))
-told-td retirement doors place within = ap (λ c. ringing c doors) (sym (client-of place within))
+told-td : (tags : ℕ) (retirement : Option HostRetirement) (doors : List ℕ) (place : Place) → place.slot < tags
+    → ringing place.client doors ≡ handled_as tags retirement doors (Matched (tag_of tags place))
+told-td tags retirement doors place within = ap (λ c. ringing c doors) (sym (client-of tags place within))
 
 told-for : (state : Shared) (world : World) (done : Completion) (doors : List ℕ) → Fits state world → IsOwnEvent state done
-    → (event_place done).slot < TAGS → ringing (event_place done).client doors ≡ handled_as world.host.retirement doors (handled_for done)
-told-for state world (CommandDone place) doors fits own within = told-td world.host.retirement doors place within
-told-for state world (DataDone place) doors fits own within = told-td world.host.retirement doors place within
-told-for state world (StatusDone place) doors fits own within = told-td world.host.retirement doors place within
+    → (event_place done).slot < state.tags → ringing (event_place done).client doors ≡ handled_as state.tags world.host.retirement doors (handled_for state.tags done)
+told-for state world (CommandDone place) doors fits own within = told-td state.tags world.host.retirement doors place within
+told-for state world (DataDone place) doors fits own within = told-td state.tags world.host.retirement doors place within
+told-for state world (StatusDone place) doors fits own within = told-td state.tags world.host.retirement doors place within
 told-for state world (EngineDone place) doors fits own within =
     ap (λ (p : Place). ringing p.client doors) (sym own.place_same)
     ∙ sym (ap (λ r. retirement_seen r doors) (fits.engine.retirement ∙ ap (option_map host_retirement) own.under_way))
@@ -235,7 +234,7 @@ seen-by : (state : Shared) (world : World) (event : Event) (events : List Comple
     → handled (event_sides world) world.frames event ≡ (record { host = host; lines = lines }, handled_it) → event_doors (event_sides world) event ≡ doors
     → IsHost host → IsLines lines → IsWhole world.frames
     → IsStepped state EventStep (world_of host (rung_all world.controller doors) world.device lines world.frames)
-    (handled_as world.host.retirement doors handled_it)
+    (handled_as state.tags world.host.retirement doors handled_it)
 seen-by state world event [] host lines doors handled_it every fits is some first so rang hosting standing whole = absurd (false≢true some)
 seen-by state world event (done ∷ rest) host lines doors handled_it every fits is some first so rang hosting standing whole =
     let it = every state world done rest fits is in
@@ -246,16 +245,16 @@ seen-by state world event (done ∷ rest) host lines doors handled_it every fits
     ap (λ (a : EventSides × Handled). record world
     { host = a.0.host; controller = rung_all world.controller (event_doors (event_sides world) event); lines = a.0.lines }) so
     ∙ ap (λ ds. world_of host (rung_all world.controller ds) world.device lines world.frames) rang in
-    let told : (shared_step state EventStep).1 ≡ handled_as world.host.retirement doors handled_it =
+    let told : (shared_step state EventStep).1 ≡ handled_as state.tags world.host.retirement doors handled_it =
     event-marked state done rest fits.matched is
     ∙ ap (λ ds. ringing (event_place done).client ds) (sym fit.doors ∙ rang)
     ∙ told-for state world done doors fits own (event-within state done fits.matched own)
-    ∙ ap (handled_as world.host.retirement doors) (sym fit.matched)
-    ∙ ap (λ (a : EventSides × Handled). handled_as world.host.retirement doors a.1) so in
+    ∙ ap (handled_as state.tags world.host.retirement doors) (sym fit.matched)
+    ∙ ap (λ (a : EventSides × Handled). handled_as state.tags world.host.retirement doors a.1) so in
     let sound : IsSoundWorld (event_world world event) = subst IsSoundWorld (sym after)
     (record { host = hosting; lines = standing; frames = whole; tags = fits.sound.tags }) in
     stepped state (world_of host (rung_all world.controller doors) world.device lines world.frames) EventStep
-    (handled_as world.host.retirement doors handled_it) (ap is_some_of is)
+    (handled_as state.tags world.host.retirement doors handled_it) (ap is_some_of is)
     (subst (λ w. Fits (shared_step state EventStep).0 w) after (fit.fits sound)) told
 
 -- an event, where every event fits
@@ -265,7 +264,7 @@ pub seen-on : (state : Shared) (world : World) (event : Event) (host : HostState
     → handled (event_sides world) world.frames event ≡ (record { host = host; lines = lines }, handled_it) → event_doors (event_sides world) event ≡ doors
     → IsHost host → IsLines lines → IsWhole world.frames
     → IsStepped state EventStep (world_of host (rung_all world.controller doors) world.device lines world.frames)
-    (handled_as world.host.retirement doors handled_it)
+    (handled_as state.tags world.host.retirement doors handled_it)
 seen-on state world event host lines doors handled_it every fits acts first so rang hosting standing whole =
     seen-by state world event state.events host lines doors handled_it every fits refl acts first so rang hosting standing whole
 
@@ -277,74 +276,85 @@ event-pends state world fits acts none =
 -- TAKE
 
 -- a reply under the slot's tag marks the step as the settling of its index
-settled-told : (client slot : ℕ) (part : Part) (rest : List ℕ) (reply : Reply) → slot < TAGS → mark_by reply ≡ Settle (index_of (slot_tag client slot))
-    → outcome_of client (settled part slot rest (Some reply)) ≡ replying client (Some reply)
-settled-told client slot part rest reply within marks =
-    let index : slot ≡ (slot_tag client slot - 1) % TAGS = omega arith in
+settled-told : (tags : ℕ) (client slot : ℕ) (part : Part) (rest : List ℕ) (reply : Reply) → slot < tags → mark_by tags reply ≡ Settle (index_of tags (slot_tag tags client slot))
+    → outcome_of client (settled part slot rest (Some reply)) ≡ replying tags client (Some reply)
+settled-told tags client slot part rest reply within marks =
+    let index : slot ≡ slot_of tags (slot_tag tags client slot) = sym (slot-of_tag tags client slot within) in
     ap (λ m. record { acted = true; owner = Some client; mark = m; reply = Some reply; refused = None; doors = [] })
     (ap (λ k. Settle (suc k)) index ∙ sym marks)
 
-settled-sent : (client slot : ℕ) (part : Part) (rest : List ℕ) (ticket : ℕ) (buffer : List ℕ) (answer : TaskAnswer) (request : Request) → slot < TAGS
-    → outcome_of client (settled part slot rest (answered_by (slot_tag client slot) ticket buffer answer request))
-    ≡ replying client (settled part slot rest (answered_by (slot_tag client slot) ticket buffer answer request)).reply
-settled-sent client slot part rest ticket buffer (WithStatus answer) (Execute op) within =
-    settled-told client slot part rest (StatusReply (slot_tag client slot) ticket (status_of answer) (record { items = sense_of answer }) buffer) within refl
-settled-sent client slot part rest ticket buffer (WithStatus answer) (Manage what noted) within = refl
-settled-sent client slot part rest ticket buffer (WithResponse code) (Execute op) within = refl
-settled-sent client slot part rest ticket buffer (WithResponse code) (Manage what noted) within =
-    settled-told client slot part rest (TaskReply (slot_tag client slot) ticket (response_number code)) within refl
+settled-sent : (tags : ℕ) (client slot : ℕ) (part : Part) (rest : List ℕ) (ticket : ℕ) (buffer : List ℕ) (answer : TaskAnswer) (request : Request) → slot < tags
+    → outcome_of client (settled part slot rest (answered_by (slot_tag tags client slot) ticket buffer answer request))
+    ≡ replying tags client (settled part slot rest (answered_by (slot_tag tags client slot) ticket buffer answer request)).reply
+settled-sent tags client slot part rest ticket buffer (WithStatus answer) (Execute op) within =
+    settled-told tags client slot part rest (StatusReply (slot_tag tags client slot) ticket (status_of answer) (record { items = sense_of answer }) buffer) within refl
+settled-sent tags client slot part rest ticket buffer (WithStatus answer) (Manage what noted) within = refl
+settled-sent tags client slot part rest ticket buffer (WithResponse code) (Execute op) within = refl
+settled-sent tags client slot part rest ticket buffer (WithResponse code) (Manage what noted) within =
+    settled-told tags client slot part rest (TaskReply (slot_tag tags client slot) ticket (response_number code)) within refl
 
-settled-gone : (client slot : ℕ) (part : Part) (rest : List ℕ) (ticket : ℕ) (buffer : List ℕ) (request : Request) → slot < TAGS
-    → outcome_of client (settled part slot rest (aborted_by (slot_tag client slot) ticket buffer request))
-    ≡ replying client (settled part slot rest (aborted_by (slot_tag client slot) ticket buffer request)).reply
-settled-gone client slot part rest ticket buffer (Execute op) within =
-    settled-told client slot part rest (Aborted (slot_tag client slot) ticket buffer) within refl
-settled-gone client slot part rest ticket buffer (Manage what noted) within = refl
+settled-gone : (tags : ℕ) (client slot : ℕ) (part : Part) (rest : List ℕ) (ticket : ℕ) (buffer : List ℕ) (request : Request) → slot < tags
+    → outcome_of client (settled part slot rest (aborted_by (slot_tag tags client slot) ticket buffer request))
+    ≡ replying tags client (settled part slot rest (aborted_by (slot_tag tags client slot) ticket buffer request)).reply
+settled-gone tags client slot part rest ticket buffer (Execute op) within =
+    settled-told tags client slot part rest (Aborted (slot_tag tags client slot) ticket buffer) within refl
+settled-gone tags client slot part rest ticket buffer (Manage what noted) within = refl
 
-settled-by : (client slot : ℕ) (part : Part) (rest : List ℕ) (task : TaggedTask) (phase : Phase) → slot < TAGS
-    → outcome_of client (settled part slot rest (reply_from (slot_tag client slot) task phase)) ≡ replying client
-    (settled part slot rest (reply_from (slot_tag client slot) task phase)).reply
-settled-by client slot part rest task Queued within = refl
-settled-by client slot part rest task (Begun progress) within = refl
-settled-by client slot part rest task (Sent answer) within = settled-sent client slot part rest task.ticket task.buffer answer task.request within
-settled-by client slot part rest task Gone within = settled-gone client slot part rest task.ticket task.buffer task.request within
+settled-by : (tags : ℕ) (client slot : ℕ) (part : Part) (rest : List ℕ) (task : TaggedTask) (phase : Phase) → slot < tags
+    → outcome_of client (settled part slot rest (reply_from (slot_tag tags client slot) task phase)) ≡ replying tags client
+    (settled part slot rest (reply_from (slot_tag tags client slot) task phase)).reply
+settled-by tags client slot part rest task Queued within = refl
+settled-by tags client slot part rest task (Begun progress) within = refl
+settled-by tags client slot part rest task (Sent answer) within = settled-sent tags client slot part rest task.ticket task.buffer answer task.request within
+settled-by tags client slot part rest task Gone within = settled-gone tags client slot part rest task.ticket task.buffer task.request within
 
-settled-held : (client slot : ℕ) (part : Part) (rest : List ℕ) (held : Option Entry) → held_at part.entries slot ≡ held → length part.entries ≡ TAGS
-    → outcome_of client (settled part slot rest (option_and_then (entry_reply (slot_tag client slot)) held)) ≡ replying client
-    (settled part slot rest (option_and_then (entry_reply (slot_tag client slot)) held)).reply
-settled-held client slot part rest None is long = refl
-settled-held client slot part rest (Some entry) is long =
-    settled-by client slot part rest entry.task entry.task.phase (omega (arith, held-within part.entries slot entry is, long))
+-- what stands in a part stands in a slot of a tag
+abbrev AreSlots : ℕ → Part → Type 0
+AreSlots tags part = (slot : ℕ) (entry : Entry) → held_at part.entries slot ≡ Some entry → slot < tags
 
-taken-told : (client : ℕ) (part : Part) (queue : List ℕ) → length part.entries ≡ TAGS
-    → outcome_of client (taken client part queue) ≡ replying client (taken client part queue).reply
-taken-told client part [] long = refl
-taken-told client part (slot ∷ rest) long = settled-held client slot part rest (held_at part.entries slot) refl long
+settled-held : (tags client slot : ℕ) (part : Part) (rest : List ℕ) (held : Option Entry) → held_at part.entries slot ≡ held → AreSlots tags part
+    → outcome_of client (settled part slot rest (option_and_then (entry_reply (slot_tag tags client slot)) held)) ≡ replying tags client
+    (settled part slot rest (option_and_then (entry_reply (slot_tag tags client slot)) held)).reply
+settled-held tags client slot part rest None is slots = refl
+settled-held tags client slot part rest (Some entry) is slots =
+    settled-by tags client slot part rest entry.task entry.task.phase (slots slot entry is)
 
-routed-told : (state : Shared) (client : ℕ) (found : Option Part) → IfSome found (λ part. length part.entries ≡ TAGS)
-    → (routed_to state client (take_act client) found).1 ≡ replying client (routed_to state client (take_act client) found).1.reply
-routed-told state client None long = refl
-routed-told state client (Some part) long = taken-told client part part.ready long
+taken-told : (tags client : ℕ) (part : Part) (queue : List ℕ) → AreSlots tags part
+    → outcome_of client (taken tags client part queue) ≡ replying tags client (taken tags client part queue).reply
+taken-told tags client part [] slots = refl
+taken-told tags client part (slot ∷ rest) slots = settled-held tags client slot part rest (held_at part.entries slot) refl slots
+
+routed-told : (state : Shared) (client : ℕ) (found : Option Part) → IfSome found (AreSlots state.tags)
+    → (routed_to state client (take_act state.tags client) found).1 ≡ replying state.tags client (routed_to state client (take_act state.tags client) found).1.reply
+routed-told state client None slots = refl
+routed-told state client (Some part) slots = taken-told state.tags client part part.ready slots
+
+slots-of : (state : Shared) (client : ℕ) (found : Option Part) → IsMatched state → slice_get state.parts client ≡ found → IfSome found (AreSlots state.tags)
+slots-of state client None all is = tt
+slots-of state client (Some part) all is = λ slot entry held.
+    let place : Place = record { client = client; slot = slot } in
+    (held-place state place entry all (ap (λ at. option_map_or (held_in place) at None) is ∙ held)).slot
 
 take-told : (state : Shared) (client : ℕ) → IsMatched state → due state (Take client) ≡ true
-    → (shared_step state (Take client)).1 ≡ replying client (shared_step state (Take client)).1.reply
+    → (shared_step state (Take client)).1 ≡ replying state.tags client (shared_step state (Take client)).1.reply
 take-told state client all acts =
-    let whole : shared_step state (Take client) ≡ routed state client (take_act client) = rw acts refl in
-    subst (λ (a : Shared × Outcome). a.1 ≡ replying client a.1.reply) (sym whole) (routed-told state client (slice_get state.parts client) (all.slots client))
+    let whole : shared_step state (Take client) ≡ routed state client (take_act state.tags client) = rw acts refl in
+    subst (λ (a : Shared × Outcome). a.1 ≡ replying state.tags client a.1.reply) (sym whole)
+    (routed-told state client (slice_get state.parts client) (slots-of state client (slice_get state.parts client) all refl))
 
 pub taken-on : (state : Shared) (world : World) (client : ℕ) (host : HostState) (frames : List TagBuffers) (reply : Option Reply) → Fits state world
     → due state (Take client) ≡ true
     → replied world.host world.frames client ≡ record { host = host; frames = frames; reply = reply } → IsHost host → IsLines world.lines → IsWhole frames
-    → IsStepped state (Take client) (world_of host world.controller world.device world.lines frames) (replying client reply)
+    → IsStepped state (Take client) (world_of host world.controller world.device world.lines frames) (replying state.tags client reply)
 taken-on state world client host frames reply fits acts so hosting standing whole =
     let fit : TakeFits state world client = takes-fit state world client fits acts in
     let after : take_world world client ≡ world_of host world.controller world.device world.lines frames = ap
     (λ (g : Given). record world { host = g.host; frames = g.frames }) so in
     let sound : IsSoundWorld (take_world world client) = subst IsSoundWorld (sym after)
     (record { host = hosting; lines = standing; frames = whole; tags = fits.sound.tags }) in
-    stepped state (world_of host world.controller world.device world.lines frames) (Take client) (replying client reply) acts
+    stepped state (world_of host world.controller world.device world.lines frames) (Take client) (replying state.tags client reply) acts
     (subst (λ w. Fits (shared_step state (Take client)).0 w) after (fit.fits sound))
-    (take-told state client fits.matched acts ∙ ap (replying client) (sym fit.reply) ∙ ap (λ (g : Given). replying client g.reply) so)
+    (take-told state client fits.matched acts ∙ ap (replying state.tags client) (sym fit.reply) ∙ ap (λ (g : Given). replying state.tags client g.reply) so)
 
 -- a list has a first element where it isn't empty
 pub some-first : {T : Type 0} (list : List T) → is_some (slice_get list 0) ≡ is_some_of list
@@ -353,29 +363,30 @@ some-first (first ∷ rest) = refl
 
 -- A NEW BUS
 
-pub record IsOpened (units : List BlockMaps) (new : World) : Type 0 where
+pub record IsOpened (tags : ℕ) (units : List BlockMaps) (new : World) : Type 0 where
   pub fits : FitsItself new
-  pub opens : decoded new ≡ opening units
+  pub opens : decoded new ≡ opening tags units
 
-opened-at : (units : List BlockMaps) (clients : ℕ) (lines : LinesState) → 1 ≤ length units → length units ≤ MAX_CLIENTS → clients ≡ length units → IsOpeningLines lines
-    → IsHost (opening_host clients) → IsLines lines → IsWhole opening_frames
-    → IsOpened units (world_of (opening_host clients) new_controller (opening_device units) lines opening_frames)
-opened-at units clients lines some most count new hosting standing whole =
-    let world : World = opening_world units clients lines in
-    let sound : IsSoundWorld world = record { host = hosting; lines = standing; frames = whole; tags = length-replicate {A = Option DeviceTask} GREATEST_TAG None } in
-    let fits : Fits (opening units) world =
-    subst (λ n. Fits (opening units) (opening_world units n lines)) (sym count)
-    (opening-fits units lines some most new (subst (λ n. IsSoundWorld (opening_world units n lines)) count sound)) in
-    let back : decoded world ≡ opening units = decoded-back (opening units) world fits in
+opened-at : (tags : ℕ) (units : List BlockMaps) (clients : ℕ) (lines : LinesState) → 1 ≤ length units → length units ≤ MAX_CLIENTS → length units * tags ≤ STREAMS
+    → clients ≡ length units → IsOpeningLines lines
+    → IsHost (opening_host tags clients) → IsLines lines → IsWhole opening_frames
+    → IsOpened tags units (world_of (opening_host tags clients) new_controller (opening_device STREAMS units) lines opening_frames)
+opened-at tags units clients lines some most streams count new hosting standing whole =
+    let world : World = opening_world tags units clients lines in
+    let sound : IsSoundWorld world = record { host = hosting; lines = standing; frames = whole; tags = length-replicate {A = Option DeviceTask} STREAMS None } in
+    let fits : Fits (opening tags units) world =
+    subst (λ n. Fits (opening tags units) (opening_world tags units n lines)) (sym count)
+    (opening-fits tags units lines hosting.number some most streams new (subst (λ n. IsSoundWorld (opening_world tags units n lines)) count sound)) in
+    let back : decoded world ≡ opening tags units = decoded-back (opening tags units) world fits in
     record { fits = subst (λ s. Fits s world) (sym back) fits; opens = back }
 
-pub opened : (units : List BlockMaps) (clients : ℕ) (host : HostState) (controller : ControllerState) (device : Device) (lines : LinesState)
+pub opened : (tags : ℕ) (units : List BlockMaps) (clients : ℕ) (host : HostState) (controller : ControllerState) (device : Device) (lines : LinesState)
     (frames : List TagBuffers)
-    → 1 ≤ length units → length units ≤ MAX_CLIENTS → clients ≡ length units → host ≡ opening_host clients → controller ≡ new_controller
-    → device ≡ opening_device units → frames ≡ opening_frames
-    → IsOpeningLines lines → IsHost host → IsLines lines → IsWhole frames → IsOpened units (world_of host controller device lines frames)
-opened units clients host controller device lines frames some most count host_is controller_is device_is frames_is new hosting standing whole =
-    let same : world_of (opening_host clients) new_controller (opening_device units) lines opening_frames ≡ world_of host controller device lines frames =
+    → 1 ≤ length units → length units ≤ MAX_CLIENTS → length units * tags ≤ STREAMS → clients ≡ length units → host ≡ opening_host tags clients → controller ≡ new_controller
+    → device ≡ opening_device STREAMS units → frames ≡ opening_frames
+    → IsOpeningLines lines → IsHost host → IsLines lines → IsWhole frames → IsOpened tags units (world_of host controller device lines frames)
+opened tags units clients host controller device lines frames some most streams count host_is controller_is device_is frames_is new hosting standing whole =
+    let same : world_of (opening_host tags clients) new_controller (opening_device STREAMS units) lines opening_frames ≡ world_of host controller device lines frames =
     rw (host_is, controller_is, device_is, frames_is) refl in
-    subst (IsOpened units) same
-    (opened-at units clients lines some most count new (subst IsHost host_is hosting) standing (subst IsWhole frames_is whole))
+    subst (IsOpened tags units) same
+    (opened-at tags units clients lines some most streams count new (subst IsHost host_is hosting) standing (subst IsWhole frames_is whole))

@@ -69,10 +69,10 @@ idle-taken state step world rests fits =
 controller-idle : (state : Shared) (step : Step) (world : World) (mark : ℕ → Mark) (lines : LinesState)
     (frames : List TagBuffers) (device : Device) (acted : Acted) →
     due state step ≡ false → Fits state world → ◌≡◌ {A = Sides × Acted} (sides_in world, Idle) (sides_of lines frames device, acted) →
-    IsTaken state step (world_of world.host world.controller device lines frames) (acted_as mark acted)
+    IsTaken state step (world_of world.host world.controller device lines frames) (acted_as state.tags mark acted)
 controller-idle state step world mark lines frames device acted rests fits is =
     let P : Sides × Acted → Type 0 = λ after.
-    IsTaken state step (world_of world.host world.controller after.0.device after.0.lines after.0.frames) (acted_as mark after.1) in
+    IsTaken state step (world_of world.host world.controller after.0.device after.0.lines after.0.frames) (acted_as state.tags mark after.1) in
     subst P is (idle-taken state step world rests fits)
 
 -- NOTHING TO ACT ON
@@ -96,10 +96,10 @@ idle-commanded world none =
 
 pub command-taken : (state : Shared) (world : World) (lines : LinesState) (device : Device) (acted : Acted) → Fits state world
     → commanded (sides_in world) ≡ (sides_of lines world.frames device, acted) → IsLines lines → IsWhole world.frames
-    → IsTaken state CommandPipe (world_of world.host world.controller device lines world.frames) (acted_as Carry acted)
+    → IsTaken state CommandPipe (world_of world.host world.controller device lines world.frames) (acted_as state.tags Carry acted)
 command-taken state world lines device acted fits is standing whole =
     elim (due state CommandPipe) as
-    (λ b. due state CommandPipe ≡ b → IsTaken state CommandPipe (world_of world.host world.controller device lines world.frames) (acted_as Carry acted)) [
+    (λ b. due state CommandPipe ≡ b → IsTaken state CommandPipe (world_of world.host world.controller device lines world.frames) (acted_as state.tags Carry acted)) [
       | true ↦ λ acts. due-taken state CommandPipe _ _ acts (carried state world lines device acted fits acts is standing whole)
       | false ↦ λ rests. controller-idle state CommandPipe world Carry lines world.frames device acted rests fits
           (sym (idle-commanded world (sym (commands_due state world fits).due ∙ rests)) ∙ is)
@@ -110,13 +110,13 @@ abbrev StreamsAreTaken : (ℕ → Step) → (ℕ → Mark) → (ControllerState 
 StreamsAreTaken step mark moves =
     (state : Shared) (world : World) (tag : ℕ) (lines : LinesState) (frames : List TagBuffers) (device : Device) (acted : Acted) → Fits state world
     → moves world.controller (sides_in world) tag ≡ (sides_of lines frames device, acted) → IsLines lines → IsWhole frames
-    → IsTaken state (step tag) (world_of world.host world.controller device lines frames) (acted_as mark acted)
+    → IsTaken state (step tag) (world_of world.host world.controller device lines frames) (acted_as state.tags mark acted)
 
 stream-taken : {step : ℕ → Step} {mark : ℕ → Mark} {moves : ControllerState → Sides → ℕ → Sides × Acted} → AreStreamSteps step mark moves
     → KeepTags moves → StreamsAreIdle step moves → StreamsAreTaken step mark moves
 stream-taken {step} {mark} {moves} steps tags idles state world tag lines frames device acted fits is standing whole =
     elim (due state (step tag)) as
-    (λ b. due state (step tag) ≡ b → IsTaken state (step tag) (world_of world.host world.controller device lines frames) (acted_as mark acted)) [
+    (λ b. due state (step tag) ≡ b → IsTaken state (step tag) (world_of world.host world.controller device lines frames) (acted_as state.tags mark acted)) [
       | true ↦ λ acts. due-taken state (step tag) _ _ acts (stream-stepped steps tags state world tag lines frames device acted fits acts is standing whole)
       | false ↦ λ rests. controller-idle state (step tag) world mark lines frames device acted rests fits (sym (idles state world tag fits rests) ∙ is)
     ] refl
@@ -142,7 +142,7 @@ pub event-taken : (state : Shared) (world : World) (event : Event) (host : HostS
     → handled (event_sides world) world.frames event ≡ (record { host = host; lines = lines }, handled_it) → event_doors (event_sides world) event ≡ doors
     → IsHost host → IsLines lines → IsWhole world.frames
     → IsTaken state EventStep (world_of host (rung_all world.controller doors) world.device lines world.frames)
-    (handled_as world.host.retirement doors handled_it)
+    (handled_as state.tags world.host.retirement doors handled_it)
 event-taken state world event host lines doors handled_it every fits first so rang hosting standing whole =
     let acts : due state EventStep ≡ true = event-is-due state world event fits first in
     due-taken state EventStep _ _ acts (seen-on state world event host lines doors handled_it every fits acts first so rang hosting standing whole)
@@ -151,27 +151,27 @@ event-taken state world event host lines doors handled_it every fits first so ra
 take-due : (state : Shared) (world : World) (client : ℕ) (host : HostState) (frames : List TagBuffers) (reply : Option Reply) → Fits state world
     → due state (Take client) ≡ true
     → replied world.host world.frames client ≡ record { host = host; frames = frames; reply = reply } → IsHost host → IsLines world.lines → IsWhole frames
-    → IsTaken state (Take client) (world_of host world.controller world.device world.lines frames) (replying client reply)
+    → IsTaken state (Take client) (world_of host world.controller world.device world.lines frames) (replying state.tags client reply)
 take-due state world client host frames reply fits acts so hosting standing whole =
     due-taken state (Take client) _ _ acts (taken-on state world client host frames reply fits acts so hosting standing whole)
 
 -- what comes of a reply that there is
-given-as : (client : ℕ) (reply : Option Reply) → is_some reply ≡ true → replying client reply ≡ taken_as client reply
-given-as client None some = absurd (false≢true some)
-given-as client (Some reply) some = refl
+given-as : (tags : ℕ) (client : ℕ) (reply : Option Reply) → is_some reply ≡ true → replying tags client reply ≡ taken_as tags client reply
+given-as tags client None some = absurd (false≢true some)
+given-as tags client (Some reply) some = refl
 
 -- a Take, due or not
 pub take-taken : (state : Shared) (world : World) (client : ℕ) (host : HostState) (frames : List TagBuffers) (reply : Option Reply) → Fits state world
     → replied world.host world.frames client ≡ record { host = host; frames = frames; reply = reply } → IsHost host → IsLines world.lines → IsWhole frames
-    → IsTaken state (Take client) (world_of host world.controller world.device world.lines frames) (taken_as client reply)
+    → IsTaken state (Take client) (world_of host world.controller world.device world.lines frames) (taken_as state.tags client reply)
 take-taken state world client host frames reply fits so hosting standing whole =
     let after : World = world_of host world.controller world.device world.lines frames in
     let P : Given → Type 0 = λ given.
-    IsTaken state (Take client) (world_of given.host world.controller world.device world.lines given.frames) (taken_as client given.reply) in
-    elim (due state (Take client)) as (λ b. due state (Take client) ≡ b → IsTaken state (Take client) after (taken_as client reply)) [
+    IsTaken state (Take client) (world_of given.host world.controller world.device world.lines given.frames) (taken_as state.tags client given.reply) in
+    elim (due state (Take client)) as (λ b. due state (Take client) ≡ b → IsTaken state (Take client) after (taken_as state.tags client reply)) [
       | true ↦ λ acts.
           let some : is_some reply ≡ true = sym (ap (λ (g : Given). is_some g.reply) so) ∙ (takes-fit state world client fits acts).brings in
-          subst (λ outcome. IsTaken state (Take client) after outcome) (given-as client reply some)
+          subst (λ outcome. IsTaken state (Take client) after outcome) (given-as state.tags client reply some)
           (take-due state world client host frames reply fits acts so hosting standing whole)
       | false ↦ λ rests.
           subst P (sym (take-is-idle state world client fits rests) ∙ so) (idle-taken state (Take client) world rests fits)

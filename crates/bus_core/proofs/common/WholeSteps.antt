@@ -13,7 +13,8 @@ use Rattle.scsi_cmd.specs.declared.Task.{Task}
 use Rattle.stream_array.specs.Rings.{LinesState}
 use Rattle.uas_profile.specs.declared.Pipe.{Pipe}
 use Rattle.uas_profile.specs.declared.Place.{Place}
-use Rattle.uas_profile.specs.Places.{place_of}
+use Rattle.uas_profile.specs.Tags.{place_of}
+use Rattle.uas_profile.specs.declared.TheConstants.{STREAMS}
 use Rattle.uas_host.specs.declared.Handled.{Handled}
 use Rattle.uas_host.specs.declared.Retirement.{Retirement}
 use Rattle.uas_host.specs.declared.RetirementStage.TheVariants.{Stopping}
@@ -34,12 +35,12 @@ use Rattle.bus_core.proofs.submit.Submitted.{Accepts, Refuses}
 use Rattle.bus_core.proofs.submit.TaskSubmitted.{Accepts as AcceptsTask, Refuses as RefusesTask}
 
 -- the opening
-pub opening-after : (units : List BlockMaps) (clients : ℕ) (host : HostState) (controller : ControllerState) (device : Device) (lines : LinesState)
-    (frames : List TagBuffers) → clients ≡ length units → host ≡ opening_host clients → controller ≡ new_controller
-    → device ≡ opening_device units → frames ≡ opening_frames
-    → world_of host controller device lines frames ≡ opening_world units (length units) lines
-opening-after units clients host controller device lines frames count host_is controller_is device_is frames_is =
-    let hosts : host ≡ opening_host (length units) = host_is ∙ ap opening_host count in
+pub opening-after : (tags : ℕ) (units : List BlockMaps) (clients : ℕ) (host : HostState) (controller : ControllerState) (device : Device) (lines : LinesState)
+    (frames : List TagBuffers) → clients ≡ length units → host ≡ opening_host tags clients → controller ≡ new_controller
+    → device ≡ opening_device STREAMS units → frames ≡ opening_frames
+    → world_of host controller device lines frames ≡ opening_world tags units (length units) lines
+opening-after tags units clients host controller device lines frames count host_is controller_is device_is frames_is =
+    let hosts : host ≡ opening_host tags (length units) = host_is ∙ ap (opening_host tags) count in
     λ i. world_of (hosts i) (controller_is i) (device_is i) lines (frames_is i)
 
 -- a step of the controller, by what it made of its sides
@@ -100,7 +101,7 @@ pub retire-begun : (world : World) (pipe : Pipe) (tag : ℕ) (host : HostState) 
     → world_of host (rung_all world.controller doors) world.device lines world.frames ≡ retire_after world pipe tag
 retire-begun world pipe tag host lines doors began it =
     begun-by world pipe host lines doors began (retirement_for world.host pipe tag)
-    (stopping (is_none world.host.retirement && is_left_over_on world.host pipe tag) pipe (place_of (length world.host.clients) tag)) it
+    (stopping (is_none world.host.retirement && is_left_over_on world.host pipe tag) pipe (place_of world.host.tags (length world.host.clients) tag)) it
 
 -- a submission
 pub submit-answered : (world : World) (client tag ticket : ℕ) (command : Command) (host : HostState) (lines : LinesState) (frames : List TagBuffers)

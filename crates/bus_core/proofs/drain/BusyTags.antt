@@ -1,12 +1,11 @@
 -- The tags of which the device has a task are the busy ones. Cited by the answers of next_busy.
-use Rattle.std.proofs.Common.{◌≡◌, ℕ, ◌<◌, ◌≤◌, false, Option, Some, None, IfSome, IfNone, refl, ap, sym, ◌∙◌}
+use Rattle.std.proofs.Common.{◌≡◌, ℕ, ◌<◌, ◌≤◌, false, length, Option, Some, None, IfSome, IfNone, refl, ap, sym, ◌∙◌}
 use Rattle.std.specs.Prelude.{is_some, IsSome}
 use Rattle.scsi_cmd.specs.declared.Request.{Request}
 use Rattle.scsi_cmd.specs.declared.Request.TheVariants.{Execute, Manage}
 use Rattle.solo_model.specs.declared.Phase.{Phase}
 use Rattle.solo_model.specs.declared.Phase.TheVariants.{Queued, Begun, Sent, Gone}
 use Rattle.solo_model.specs.declared.TaskProgress.TheVariants.{Moving, Ended}
-use Rattle.uas_profile.specs.declared.TheConstants.{GREATEST_TAG}
 use Rattle.uas_target.specs.declared.DeviceTask.{DeviceTask}
 use Rattle.uas_target.specs.Device.{task_of}
 use Rattle.machine_invariant.specs.Matched.{IsPhaseOf}
@@ -36,7 +35,7 @@ none-idle state world tag fits none = sym (busy-some state world tag fits) ∙ a
 
 -- the next task that the device finds is of the next busy tag
 pub found-busy : (state : Shared) (world : World) (tag : ℕ) (found : Option ℕ) → Fits state world
-    → IfSome found (λ next. (tag < next) × (next ≤ GREATEST_TAG) × IsSome (task_of world.device next)
+    → IfSome found (λ next. (tag < next) × (next ≤ length world.device.tasks) × IsSome (task_of world.device next)
     × ((other : ℕ) → tag < other → other < next → task_of world.device other ≡ None))
     → IfNone found ((other : ℕ) → tag < other → task_of world.device other ≡ None) → IsNextBusy state tag found
 found-busy state world tag None fits next none = λ other above. none-idle state world other fits (none other above)

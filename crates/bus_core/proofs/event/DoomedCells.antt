@@ -11,7 +11,6 @@ use Rattle.cycle_ring.specs.Items.{ItemRing}
 use Rattle.scsi_cmd.specs.Request.{is_command}
 use Rattle.uas_profile.specs.declared.Direction.{Direction}
 use Rattle.uas_profile.specs.declared.Direction.TheVariants.{Nothing, ToHost, ToDevice}
-use Rattle.uas_profile.specs.declared.TheConstants.{TAGS}
 use Rattle.scsi_cmd.specs.Held.{held_at}
 use Rattle.solo_model.specs.declared.Phase.{Phase}
 use Rattle.solo_model.specs.declared.Phase.TheVariants.{Queued, Begun, Sent, Gone}
@@ -21,7 +20,7 @@ use Rattle.uas_profile.specs.declared.TdState.TheVariants.{Pending, LeftOver}
 use Rattle.uas_host.specs.declared.HostClient.{HostClient}
 use Rattle.uas_host.specs.Seen.{after_response, doomed as host_doomed, is_doomed as is_host_doomed, left_over_data as host_left_over_data}
 use Rattle.uas_profile.specs.TdStates.{is_pending}
-use Rattle.uas_profile.specs.Places.{tag_of}
+use Rattle.uas_profile.specs.Tags.{tag_of}
 use Rattle.uas_host.specs.Tds.{data_td, status_td}
 use Rattle.shared_machine.specs.declared.Td.{Td}
 use Rattle.shared_machine.specs.Td.{Entry, left_over_data, left_over_td, request_direction}
@@ -106,41 +105,41 @@ out-left ring trbs Nothing td holds = holds
 out-left ring trbs ToHost td holds = holds
 out-left ring trbs ToDevice td holds = holds-left_data ring trbs td holds
 
-doomed-held : (noted : List ℕ) (client count : ℕ) (place : Place) (entry : Entry) (cell : Cell) → FitsCell client count place entry cell
+doomed-held : (tags : ℕ) (noted : List ℕ) (client count : ℕ) (place : Place) (entry : Entry) (cell : Cell) → FitsCell tags client count place entry cell
     → option_map (host_doomed noted) cell.held ≡ Some (host_side (doomed noted entry))
-doomed-held noted client count place entry cell fits = ap (option_map (host_doomed noted)) fits.held ∙ ap Some (doomed-side noted entry)
+doomed-held tags noted client count place entry cell fits = ap (option_map (host_doomed noted)) fits.held ∙ ap Some (doomed-side noted entry)
 
 -- what is left over stays on its rings
-cell-left : (noted : List ℕ) (client count : ℕ) (place : Place) (entry : Entry) (cell : Cell) → FitsCell client count place entry cell
-    → option_map (host_doomed noted) cell.held ≡ Some (host_side (left_entry entry)) → FitsCell client count place (left_entry entry) (doomed_cell noted cell)
-cell-left noted client count place entry cell fits held =
-    let trbs : List Trb = data_td (tag_of place) (request_bytes entry.task.request) in
+cell-left : (tags : ℕ) (noted : List ℕ) (client count : ℕ) (place : Place) (entry : Entry) (cell : Cell) → FitsCell tags client count place entry cell
+    → option_map (host_doomed noted) cell.held ≡ Some (host_side (left_entry entry)) → FitsCell tags client count place (left_entry entry) (doomed_cell noted cell)
+cell-left tags noted client count place entry cell fits held =
+    let trbs : List Trb = data_td (tag_of tags place) (request_bytes entry.task.request) in
     let way : Direction = request_direction entry.task.request in
-    cell-tds client count place entry cell entry.command_td (left_over_td entry.status_td) (left_over_data entry.data_td)
+    cell-tds tags client count place entry cell entry.command_td (left_over_td entry.status_td) (left_over_data entry.data_td)
     (option_map (host_doomed noted) cell.held) cell.status cell.data_in cell.data_out fits held
-    (holds-left cell.status (status_td (tag_of place)) entry.status_td.state entry.status_td.consumed fits.status)
+    (holds-left cell.status (status_td (tag_of tags place)) entry.status_td.state entry.status_td.consumed fits.status)
     (in-left cell.data_in trbs way entry.data_td fits.data_in) (out-left cell.data_out trbs way entry.data_td fits.data_out)
 
-cell-stays : (noted : List ℕ) (client count : ℕ) (place : Place) (entry : Entry) (cell : Cell) → FitsCell client count place entry cell
-    → option_map (host_doomed noted) cell.held ≡ Some (host_side entry) → FitsCell client count place entry (doomed_cell noted cell)
-cell-stays noted client count place entry cell fits held =
-    cell-tds client count place entry cell entry.command_td entry.status_td entry.data_td (option_map (host_doomed noted) cell.held)
+cell-stays : (tags : ℕ) (noted : List ℕ) (client count : ℕ) (place : Place) (entry : Entry) (cell : Cell) → FitsCell tags client count place entry cell
+    → option_map (host_doomed noted) cell.held ≡ Some (host_side entry) → FitsCell tags client count place entry (doomed_cell noted cell)
+cell-stays tags noted client count place entry cell fits held =
+    cell-tds tags client count place entry cell entry.command_td entry.status_td entry.data_td (option_map (host_doomed noted) cell.held)
     cell.status cell.data_in cell.data_out fits held fits.status fits.data_in fits.data_out
 
-cell-doomed : (noted : List ℕ) (client count : ℕ) (place : Place) (entry : Entry) (cell : Cell) → FitsCell client count place entry cell
-    → FitsCell client count place (doomed noted entry) (doomed_cell noted cell)
-cell-doomed noted client count place entry cell fits =
-    let held = doomed-held noted client count place entry cell fits in
+cell-doomed : (tags : ℕ) (noted : List ℕ) (client count : ℕ) (place : Place) (entry : Entry) (cell : Cell) → FitsCell tags client count place entry cell
+    → FitsCell tags client count place (doomed noted entry) (doomed_cell noted cell)
+cell-doomed tags noted client count place entry cell fits =
+    let held = doomed-held tags noted client count place entry cell fits in
     elim (is_doomed noted entry) as (λ b. option_map (host_doomed noted) cell.held ≡ Some (host_side (if b then left_entry entry else entry))
-    → FitsCell client count place (if b then left_entry entry else entry) (doomed_cell noted cell)) [
-      | true ↦ λ is. cell-left noted client count place entry cell fits is
-      | false ↦ λ is. cell-stays noted client count place entry cell fits is
+    → FitsCell tags client count place (if b then left_entry entry else entry) (doomed_cell noted cell)) [
+      | true ↦ λ is. cell-left tags noted client count place entry cell fits is
+      | false ↦ λ is. cell-stays tags noted client count place entry cell fits is
     ] held
 
 -- also where nothing stands
-pub held-doomed : (noted : List ℕ) (client count : ℕ) (place : Place) (held : Option Entry) (cell : Cell) → FitsHeld client count place held cell
-    → FitsHeld client count place (option_map (doomed noted) held) (doomed_cell noted cell)
-held-doomed noted client count place None cell fits = record {
+pub held-doomed : (tags : ℕ) (noted : List ℕ) (client count : ℕ) (place : Place) (held : Option Entry) (cell : Cell) → FitsHeld tags client count place held cell
+    → FitsHeld tags client count place (option_map (doomed noted) held) (doomed_cell noted cell)
+held-doomed tags noted client count place None cell fits = record {
   held = ap (option_map (host_doomed noted)) fits.held;
   task = fits.task;
   status = fits.status;
@@ -148,7 +147,7 @@ held-doomed noted client count place None cell fits = record {
   data_out = fits.data_out;
   lent = fits.lent;
 }
-held-doomed noted client count place (Some entry) cell fits = cell-doomed noted client count place entry cell fits
+held-doomed tags noted client count place (Some entry) cell fits = cell-doomed tags noted client count place entry cell fits
 
 -- ONE CLIENT
 
@@ -158,11 +157,11 @@ doomed_part noted part = record part { entries = map (option_map (doomed noted))
 abbrev pub doomed_client : List ℕ → HostClient → HostClient
 doomed_client noted held = record held { entries = after_response noted held.entries }
 
-pub FitsPart-doomed : (before after : World) (client : ℕ) (unit : BlockMaps) (held : HostClient) (part : Part) (noted : List ℕ)
-    → FitsPart before client unit held part
-    → ((slot : ℕ) → slot < TAGS → cell_at after (place_in client slot) ≡ doomed_cell noted (cell_at before (place_in client slot)))
-    → FitsPart after client unit (doomed_client noted held) (doomed_part noted part)
-FitsPart-doomed before after client unit held part noted fits cells = record {
+pub FitsPart-doomed : (tags : ℕ) (before after : World) (client : ℕ) (unit : BlockMaps) (held : HostClient) (part : Part) (noted : List ℕ)
+    → FitsPart tags before client unit held part
+    → ((slot : ℕ) → slot < tags → cell_at tags after (place_in client slot) ≡ doomed_cell noted (cell_at tags before (place_in client slot)))
+    → FitsPart tags after client unit (doomed_client noted held) (doomed_part noted part)
+FitsPart-doomed tags before after client unit held part noted fits cells = record {
   number = fits.number;
   unit_same = fits.unit_same;
   least_ticket = fits.least_ticket;
@@ -170,5 +169,5 @@ FitsPart-doomed before after client unit held part noted fits cells = record {
   slots = length-map part.entries (option_map (doomed noted)) ∙ fits.slots;
   cells = λ slot within.
       rw (cells slot within, get_or-map (option_map (doomed noted)) part.entries slot None)
-      (held-doomed noted client unit.count (place_in client slot) (held_at part.entries slot) (cell_at before (place_in client slot)) (fits.cells slot within));
+      (held-doomed tags noted client unit.count (place_in client slot) (held_at part.entries slot) (cell_at tags before (place_in client slot)) (fits.cells slot within));
 }

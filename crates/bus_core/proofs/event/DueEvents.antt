@@ -19,23 +19,23 @@ use Rattle.shared_machine.proofs.Standing.{get-none}
 use Rattle.bus_core.proofs.take.Taking.{ready-found}
 
 -- each event that waits has its text
-texts-some : (world : World) (k : ℕ) (events : List Completion) → is_some_of events ≡ nat_lt 0 (length (event_texts world k events))
-texts-some world k [] = refl
-texts-some world k (CommandDone place ∷ rest) = sym (lt-ltb 0 (suc (length (event_texts world (suc k) rest))) (omega arith))
-texts-some world k (DataDone place ∷ rest) = sym (lt-ltb 0 (suc (length (event_texts world k rest))) (omega arith))
-texts-some world k (StatusDone place ∷ rest) = sym (lt-ltb 0 (suc (length (event_texts world k rest))) (omega arith))
-texts-some world k (EngineDone place ∷ rest) = sym (lt-ltb 0 (suc (length (event_texts world k rest))) (omega arith))
+texts-some : (tags : ℕ) (world : World) (k : ℕ) (events : List Completion) → is_some_of events ≡ nat_lt 0 (length (event_texts tags world k events))
+texts-some tags world k [] = refl
+texts-some tags world k (CommandDone place ∷ rest) = sym (lt-ltb 0 (suc (length (event_texts tags world (suc k) rest))) (omega arith))
+texts-some tags world k (DataDone place ∷ rest) = sym (lt-ltb 0 (suc (length (event_texts tags world k rest))) (omega arith))
+texts-some tags world k (StatusDone place ∷ rest) = sym (lt-ltb 0 (suc (length (event_texts tags world k rest))) (omega arith))
+texts-some tags world k (EngineDone place ∷ rest) = sym (lt-ltb 0 (suc (length (event_texts tags world k rest))) (omega arith))
 
 pub events-are-due : EventsAreDue
-events-are-due state world fits = texts-some world 0 state.events ∙ ap (λ (es : List Event). nat_lt 0 (length es)) (sym fits.queues.texts)
+events-are-due state world fits = texts-some state.tags world 0 state.events ∙ ap (λ (es : List Event). nat_lt 0 (length es)) (sym fits.queues.texts)
 
 take-due : (state : Shared) (world : World) (client : ℕ) (at : Option Part) → Fits state world → slice_get state.parts client ≡ at
     → option_map_or has_ready at false ≡ is_some_of (client_of world.host client).ready.items
 take-due state world client None fits is =
-    let past : length world.host.clients ≤ client = omega (arith, clients-length world state.parts fits.clients, get-none state.parts client is) in
+    let past : length world.host.clients ≤ client = omega (arith, clients-length state.tags world state.parts fits.clients, get-none state.parts client is) in
     ap (λ (c : HostClient). is_some_of c.ready.items) (sym (index-past world.host.clients client new_client past))
 take-due state world client (Some part) fits is =
-    ap (λ ready. is_some_of ready) (sym (ready-found world client part (found world state.parts client part fits.clients is)))
+    ap (λ ready. is_some_of ready) (sym (ready-found state.tags world client part (found state.tags world state.parts client part fits.clients is)))
 
 pub takes-are-due : TakesAreDue
 takes-are-due state world client fits = take-due state world client (slice_get state.parts client) fits refl

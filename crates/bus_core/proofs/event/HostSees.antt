@@ -12,7 +12,7 @@ use Rattle.scsi_cmd.specs.declared.Request.TheVariants.{Execute, Manage}
 use Rattle.scsi_cmd.specs.declared.Op.{Op}
 use Rattle.scsi_cmd.specs.declared.Task.{Task}
 use Rattle.arrayvec.specs.ArrayVec.{ArrayVec}
-use Rattle.uas_profile.specs.declared.TheConstants.{TASK_SLOT, STREAMS, STATUS_BYTES, SHORT_PACKET}
+use Rattle.uas_profile.specs.declared.TheConstants.{STREAMS, STATUS_BYTES, SHORT_PACKET}
 use Rattle.scsi_cmd.specs.Held.{held_at}
 use Rattle.device_server.specs.declared.Answer.{Answer}
 use Rattle.solo_model.specs.declared.ResponseCode.{ResponseCode}
@@ -36,7 +36,7 @@ use Rattle.uas_host.specs.Seen.{after_response, completes, ended_in}
 use Rattle.uas_profile.specs.TdStates.{is_pending, is_seen, is_over}
 use Rattle.uas_host.specs.State.{HostState, client_of, with_client}
 use Rattle.uas_host.specs.State.{queued_if, is_data_over as is_host_data_over, is_ready as is_host_ready}
-use Rattle.uas_profile.specs.Places.{tag_of}
+use Rattle.uas_profile.specs.Tags.{tag_of}
 use Rattle.uas_host.specs.Events.{answer_in, data_after, goes_to_host, goes_to_device, seen, seen_data, host_seen}
 use Rattle.uas_host.specs.Events.{place_seen, with_seen, left_over_td as host_left_over, notice_on}
 use Rattle.uas_host.proofs.Texts.{answer_by-text}
@@ -48,6 +48,8 @@ use Rattle.bus_core.specs.Wire.{answer_text}
 use Rattle.bus_core.specs.Cells.{host_side, state_of, told_by}
 use Rattle.bus_core.specs.Fits.{unit_len}
 use Rattle.machine_invariant.proofs.MatchedEngine.{place_of-tag_of}
+use Rattle.uas_profile.specs.Tags.{task_slot}
+use Rattle.uas_profile.specs.Tags.{place_of}
 
 -- READY
 
@@ -151,11 +153,12 @@ with_seen-quiet notice client slot now quiet =
 abbrev pub host_with : HostState → Place → Entry → HostState
 host_with host place now = with_client host place.client (client_with (client_of host place.client) place.slot (host_side now))
 
-pub host_seen-is : (host : HostState) (place : Place) (entry now : Entry) (notice : Notice) → completes notice ≡ false → IsPlace (length host.clients) place
+pub host_seen-is : (tags : ℕ) (host : HostState) (place : Place) (entry now : Entry) (notice : Notice) → completes notice ≡ false → host.tags ≡ tags → IsPlace tags (length host.clients) place
     → held_at (client_of host place.client).entries place.slot ≡ Some (host_side entry) → seen notice (host_side entry) ≡ Some (host_side now)
-    → host_seen notice host (tag_of place) ≡ Some (host_with host place now)
-host_seen-is host place entry now notice quiet there held sees =
-    ap (option_and_then (place_seen notice host)) (place_of-tag_of (length host.clients) place there)
+    → host_seen notice host (tag_of tags place) ≡ Some (host_with host place now)
+host_seen-is tags host place entry now notice quiet number there held sees =
+    ap (λ t. option_and_then (place_seen notice host) (place_of t (length host.clients) (tag_of tags place))) number
+    ∙ ap (option_and_then (place_seen notice host)) (place_of-tag_of tags (length host.clients) place there)
     ∙ ap (λ h. option_map (with_client host place.client)
     (option_map (with_seen notice (client_of host place.client) place.slot) (option_and_then (seen notice) h))) held
     ∙ ap (λ h. option_map (with_client host place.client) (option_map (with_seen notice (client_of host place.client) place.slot) h)) sees
@@ -170,7 +173,11 @@ index-take (byte ∷ bytes) zero at less = absurd (omega arith)
 index-take (byte ∷ bytes) (suc n) zero less = refl
 index-take (byte ∷ bytes) (suc n) (suc at) less = index-take bytes n at (omega arith)
 
-text-len : (tag : ℕ) (answer : Answer) → unit_len 0 (answer_text tag (WithStatus answer)) ≡ length (answer_text tag (WithStatus answer))
+-- the length that a Sense unit tells
+abbrev told_len : List ℕ → ℕ
+told_len bytes = 16 + slice_index bytes 15
+
+text-len : (tag : ℕ) (answer : Answer) → told_len (answer_text tag (WithStatus answer)) ≡ length (answer_text tag (WithStatus answer))
 unfolding unit_text
 text-len tag Good = refl
 text-len tag (Check sense) = refl
@@ -182,18 +189,18 @@ text-bounds tag Good = (omega arith, omega arith)
 text-bounds tag (Check sense) = (omega arith, omega arith)
 
 -- a command slot's unit is a Sense unit, which tells its length
-sense-len : (slot : ℕ) (bytes : List ℕ) → slot < TASK_SLOT → unit_len slot bytes ≡ unit_len 0 bytes
-sense-len slot bytes less = ap (λ b. if b then 8 else 16 + slice_index bytes 15) (ne_eqb slot TASK_SLOT (λ same. omega (arith, less, same)))
+sense-len : (tags : ℕ) (slot : ℕ) (bytes : List ℕ) → slot < (task_slot tags) → unit_len tags slot bytes ≡ told_len bytes
+sense-len tags slot bytes less = ap (λ b. if b then 8 else 16 + slice_index bytes 15) (ne_eqb slot (task_slot tags) (λ same. omega (arith, less, same)))
 
 -- the length that a status buffer tells once it begins with an answer
-unit_len-answer : (slot tag : ℕ) (answer : Answer) (bytes : List ℕ) → slot < TASK_SLOT
+unit_len-answer : (tags : ℕ) (slot tag : ℕ) (answer : Answer) (bytes : List ℕ) → slot < (task_slot tags)
     → take (length (answer_text tag (WithStatus answer))) bytes ≡ answer_text tag (WithStatus answer)
-    → unit_len slot bytes ≡ length (answer_text tag (WithStatus answer))
-unit_len-answer slot tag answer bytes less is =
+    → unit_len tags slot bytes ≡ length (answer_text tag (WithStatus answer))
+unit_len-answer tags slot tag answer bytes less is =
     let bounds = text-bounds tag answer in
-    sense-len slot bytes less
+    sense-len tags slot bytes less
     ∙ ap (λ n. 16 + n) (sym (index-take bytes (length (answer_text tag (WithStatus answer))) 15 (omega (arith, bounds.0))))
-    ∙ ap (λ bs. unit_len 0 bs) is ∙ text-len tag answer
+    ∙ ap (λ bs. told_len bs) is ∙ text-len tag answer
 
 fits-answer : (tag : ℕ) (answer : Answer) → tag ≤ STREAMS → FitsUnit (SenseUnit tag (status_of answer) (record { items = sense_of answer }))
 fits-answer tag Good most = (omega arith, omega arith)
@@ -208,14 +215,14 @@ answer_in-text tag answer most =
     sym (answer_by-text tag unit fits (first_fault-unit_text unit fits))
     ∙ ap (λ b. if b then Some (Answered (status_of answer) (record { items = sense_of answer })) else None) same
 
-pub status_notice-is : (frames : List TagBuffers) (slot tag : ℕ) (answer : Answer) → slot < TASK_SLOT → tag ≤ STREAMS
+pub status_notice-is : (tags : ℕ) (frames : List TagBuffers) (slot tag : ℕ) (answer : Answer) → slot < (task_slot tags) → tag ≤ STREAMS
     → take (length (answer_text tag (WithStatus answer))) (held_for frames tag).status ≡ answer_text tag (WithStatus answer)
-    → notice_on Status frames (STATUS_BYTES - unit_len slot (held_for frames tag).status) SHORT_PACKET tag
+    → notice_on Status frames (STATUS_BYTES - unit_len tags slot (held_for frames tag).status) SHORT_PACKET tag
     ≡ Some (Answered (status_of answer) (record { items = sense_of answer }))
-status_notice-is frames slot tag answer less most is =
-    let len = unit_len-answer slot tag answer (held_for frames tag).status less is in
+status_notice-is tags frames slot tag answer less most is =
+    let len = unit_len-answer tags slot tag answer (held_for frames tag).status less is in
     let bounds = text-bounds tag answer in
-    let left : STATUS_BYTES - (STATUS_BYTES - unit_len slot (held_for frames tag).status) ≡ length (answer_text tag (WithStatus answer)) = omega (arith, len, bounds.1) in
+    let left : STATUS_BYTES - (STATUS_BYTES - unit_len tags slot (held_for frames tag).status) ≡ length (answer_text tag (WithStatus answer)) = omega (arith, len, bounds.1) in
     ap (λ n. answer_in tag (take n (held_for frames tag).status)) left ∙ ap (answer_in tag) is ∙ answer_in-text tag answer most
 
 -- THE NEWS OF A RESPONSE
@@ -233,12 +240,12 @@ response_in-text tag code most =
     sym (answer_by-text tag unit fits (first_fault-unit_text unit fits)) ∙ ap (λ b. if b then Some (Responded (response_number code)) else None) same
 
 -- of the last slot: 8 bytes, of which the last tells the code
-pub response_notice-is : (frames : List TagBuffers) (slot tag : ℕ) (code : ResponseCode) → slot ≡ TASK_SLOT → tag ≤ STREAMS
+pub response_notice-is : (tags : ℕ) (frames : List TagBuffers) (slot tag : ℕ) (code : ResponseCode) → slot ≡ (task_slot tags) → tag ≤ STREAMS
     → take (length (answer_text tag (WithResponse code))) (held_for frames tag).status ≡ answer_text tag (WithResponse code)
-    → notice_on Status frames (STATUS_BYTES - unit_len slot (held_for frames tag).status) SHORT_PACKET tag ≡ Some (Responded (response_number code))
-response_notice-is frames slot tag code last most is =
-    let len : unit_len slot (held_for frames tag).status ≡ 8 =
-    ap (λ b. if b then 8 else 16 + slice_index (held_for frames tag).status 15) (eq-eqb slot TASK_SLOT last) in
-    let left : STATUS_BYTES - (STATUS_BYTES - unit_len slot (held_for frames tag).status) ≡ length (answer_text tag (WithResponse code)) =
+    → notice_on Status frames (STATUS_BYTES - unit_len tags slot (held_for frames tag).status) SHORT_PACKET tag ≡ Some (Responded (response_number code))
+response_notice-is tags frames slot tag code last most is =
+    let len : unit_len tags slot (held_for frames tag).status ≡ 8 =
+    ap (λ b. if b then 8 else 16 + slice_index (held_for frames tag).status 15) (eq-eqb slot (task_slot tags) last) in
+    let left : STATUS_BYTES - (STATUS_BYTES - unit_len tags slot (held_for frames tag).status) ≡ length (answer_text tag (WithResponse code)) =
     omega (arith, len, response-len tag code) in
     ap (λ n. answer_in tag (take n (held_for frames tag).status)) left ∙ ap (answer_in tag) is ∙ response_in-text tag code most

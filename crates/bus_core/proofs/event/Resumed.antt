@@ -5,12 +5,12 @@ use Rattle.std.proofs.Common.{refl, arith, ap, sym, subst, ◌∙◌}
 use Rattle.std.specs.Prelude.{nat_lt, filter, fold}
 use Rattle.std.specs.List.{range_with_len}
 use Rattle.std.specs.Option.{option_map_or}
-use Rattle.std.proofs.lemmas.Bool.{lt-ltb, le-leb, ltb-false}
+use Rattle.std.proofs.lemmas.Bool.{lt-ltb, le-leb}
 use Rattle.xhci_trb.specs.declared.Trb.{Trb}
 use Rattle.cycle_ring.specs.Items.{ItemRing}
 use Rattle.uas_profile.specs.declared.Pipe.{Pipe}
 use Rattle.uas_profile.specs.declared.Pipe.TheVariants.{Command, Status, DataIn, DataOut}
-use Rattle.uas_profile.specs.declared.TheConstants.{TAGS, STREAMS}
+use Rattle.uas_profile.specs.declared.TheConstants.{STREAMS}
 use Rattle.stream_array.specs.Contexts.{has_stream}
 use Rattle.uas_profile.specs.Pipes.{HasStreams}
 use Rattle.stream_array.specs.Rings.{ring_of, stream_ring}
@@ -20,7 +20,7 @@ use Rattle.uas_profile.specs.declared.TdState.TheVariants.{Pending, Seen, LeftOv
 use Rattle.uas_profile.specs.Doors.{door}
 use Rattle.uas_profile.specs.Pipes.{target_of}
 use Rattle.uas_host.specs.Retirement.{has_pending, resumed_doors}
-use Rattle.uas_profile.specs.Places.{place_of, tag_of}
+use Rattle.uas_profile.specs.Tags.{place_of, tag_of}
 use Rattle.xhci_ctl.specs.Doorbells.{pipe_at, rung_by, rung_in, rung_on}
 use Rattle.xhci_ctl.specs.Pipes.{ControllerState}
 use Rattle.shared_machine.specs.declared.Td.{Td}
@@ -38,6 +38,9 @@ use Rattle.bus_core.proofs.retire.EngineCellWrites.{cell_ring, length-td_trbs, r
 use Rattle.bus_core.proofs.retire.EngineDue.{has_pending-holds}
 use Rattle.bus_core.proofs.common.Framing.{SamePipes}
 use Rattle.bus_core.proofs.common.Framing.{AllFit}
+use Rattle.shared_machine.specs.Shared.{greatest_tag}
+use Rattle.uas_profile.proofs.TagLaws.{unnamed-is_above}
+use Rattle.uas_profile.specs.Tags.{AreTags}
 
 -- WHICH STREAMS
 
@@ -53,17 +56,17 @@ data-pending : (ring : ItemRing) (trbs : List Trb) (td : Option Td) → HoldsDat
 data-pending ring trbs None holds = has_pending-holds ring [] 0 holds
 data-pending ring trbs (Some td) holds = held-pending ring trbs td.state td.consumed holds
 
-cell-pending : (client count : ℕ) (pipe : Pipe) (place : Place) (entry : Entry) (cell : Cell) → HasStreams pipe → FitsCell client count place entry cell
+cell-pending : (tags : ℕ) (client count : ℕ) (pipe : Pipe) (place : Place) (entry : Entry) (cell : Cell) → HasStreams pipe → FitsCell tags client count place entry cell
     → has_pending (cell_ring pipe cell) ≡ has_trb_on pipe entry
-cell-pending client count Command place entry cell streams fits = absurd streams
-cell-pending client count Status place entry cell streams fits =
-    held-pending cell.status (td_trbs Status (tag_of place) entry) entry.status_td.state entry.status_td.consumed fits.status
-cell-pending client count DataIn place entry cell streams fits =
-    data-pending cell.data_in (td_trbs DataIn (tag_of place) entry) (td_on DataIn entry) fits.data_in
-    ∙ ap (λ n. has_data_trb n (td_on DataIn entry)) (length-td_trbs DataIn (tag_of place) entry streams)
-cell-pending client count DataOut place entry cell streams fits =
-    data-pending cell.data_out (td_trbs DataOut (tag_of place) entry) (td_on DataOut entry) fits.data_out
-    ∙ ap (λ n. has_data_trb n (td_on DataOut entry)) (length-td_trbs DataOut (tag_of place) entry streams)
+cell-pending tags client count Command place entry cell streams fits = absurd streams
+cell-pending tags client count Status place entry cell streams fits =
+    held-pending cell.status (td_trbs Status (tag_of tags place) entry) entry.status_td.state entry.status_td.consumed fits.status
+cell-pending tags client count DataIn place entry cell streams fits =
+    data-pending cell.data_in (td_trbs DataIn (tag_of tags place) entry) (td_on DataIn entry) fits.data_in
+    ∙ ap (λ n. has_data_trb n (td_on DataIn entry)) (length-td_trbs DataIn (tag_of tags place) entry streams)
+cell-pending tags client count DataOut place entry cell streams fits =
+    data-pending cell.data_out (td_trbs DataOut (tag_of tags place) entry) (td_on DataOut entry) fits.data_out
+    ∙ ap (λ n. has_data_trb n (td_on DataOut entry)) (length-td_trbs DataOut (tag_of tags place) entry streams)
 
 -- nothing is pending where no entry stands
 empty-pending : (ring : ItemRing) → HoldsTrbs ring [] 0 → has_pending ring ≡ false
@@ -84,40 +87,29 @@ unused-ring world DataOut tag streams none = empty-pending (stream_ring world.li
 
 -- the cells of all clients fit, and the rings of all other tags are empty
 pub record StreamsFit (state : Shared) (world : World) : Type 0 where
-  pub all : AllFit world state.parts
-  pub unused : (tag : ℕ) → TAGS * length state.parts < tag → AreUnused world.lines tag
+  pub number : AreTags state.tags
+  pub all : AllFit state.tags world state.parts
+  pub unused : (tag : ℕ) → greatest_tag state < tag → AreUnused world.lines tag
 
-pending-at : (state : Shared) (world : World) (pipe : Pipe) (place : Place) → HasStreams pipe → StreamsFit state world → IsPlace (length state.parts) place
-    → has_pending (ring_of world.lines pipe (tag_of place)) ≡ part_fact state place.client (entry_fact (has_trb_on pipe) place.slot)
+pending-at : (state : Shared) (world : World) (pipe : Pipe) (place : Place) → HasStreams pipe → StreamsFit state world → IsPlace state.tags (length state.parts) place
+    → has_pending (ring_of world.lines pipe (tag_of state.tags place)) ≡ part_fact state place.client (entry_fact (has_trb_on pipe) place.slot)
 pending-at state world pipe place streams fits there =
-    ap (λ (ring : ItemRing). has_pending ring) (ring-of-cell world pipe place streams)
-    ∙ at-place state.parts world place (has_trb_on pipe) (λ (cell : Cell) fact. has_pending (cell_ring pipe cell) ≡ fact) fits.all there
-    (λ empty. cell-empty pipe (cell_at world place) streams empty.status empty.data_in empty.data_out)
-    (λ entry count full. cell-pending place.client count pipe place entry (cell_at world place) streams full)
-
--- a tag that names no place is no client's
-pub unnamed-above : (clients tag : ℕ) → 1 ≤ tag → place_of clients tag ≡ None → TAGS * clients < tag
-unnamed-above clients zero some none = absurd (omega (arith, some))
-unnamed-above clients (suc before) some none =
-    elim (nat_lt (before / TAGS) clients) as (λ b. nat_lt (before / TAGS) clients ≡ b
-    → cond {A = Option Place} b (Some (record { client = before / TAGS; slot = before % TAGS })) None ≡ None → TAGS * clients < suc before) [
-      | true ↦ λ is named. absurd (some-none (record { client = before / TAGS; slot = before % TAGS }) named)
-      | false ↦ λ is named. let above : clients ≤ before / TAGS = ltb-false (before / TAGS) clients is in omega arith
-    ] refl none
-  where
-    some-none : (place : Place) → Some place ≡ None → ⊥
-    some-none place is = let no : ◌≡◌ {A = Option Place} (Some place) None = is in cc
+    ap (λ (ring : ItemRing). has_pending ring) (ring-of-cell state.tags world pipe place streams)
+    ∙ at-place state.tags state.parts world place (has_trb_on pipe) (λ (cell : Cell) fact. has_pending (cell_ring pipe cell) ≡ fact) fits.all there
+    (λ empty. cell-empty pipe (cell_at state.tags world place) streams empty.status empty.data_in empty.data_out)
+    (λ entry count full. cell-pending state.tags place.client count pipe place entry (cell_at state.tags world place) streams full)
 
 pub pending-same : (state : Shared) (world : World) (pipe : Pipe) (tag : ℕ) → HasStreams pipe → StreamsFit state world → 1 ≤ tag
     → has_pending (ring_of world.lines pipe tag) ≡ place_fact state tag (has_trb_on pipe)
 pending-same state world pipe tag streams fits some =
-    elim (place_of (length state.parts) tag) as (λ o. place_of (length state.parts) tag ≡ o
+    elim (place_of state.tags (length state.parts) tag) as (λ o. place_of state.tags (length state.parts) tag ≡ o
     → has_pending (ring_of world.lines pipe tag) ≡ option_map_or (λ (p : Place). part_fact state p.client (entry_fact (has_trb_on pipe) p.slot)) o false) [
-      | None ↦ λ is. unused-ring world pipe tag streams (fits.unused tag (unnamed-above (length state.parts) tag some is))
+      | None ↦ λ is. unused-ring world pipe tag streams (fits.unused tag (unnamed-is_above state.tags (length state.parts) tag some is))
       | Some place ↦ λ is.
           subst (λ t. has_pending (ring_of world.lines pipe t) ≡ part_fact state place.client (entry_fact (has_trb_on pipe) place.slot))
-          (place_of-tag (length state.parts) tag place is)
-          (pending-at state world pipe place streams fits (is-place (length state.parts) tag place is))
+          (place_of-tag state.tags (length state.parts) tag place (omega (arith, fits.number.least)) is)
+          (pending-at state world pipe place streams fits
+          (is-place state.tags (length state.parts) tag place (omega (arith, fits.number.least)) is))
     ] refl
 
 filter-alike : (one other : ℕ → Bool) (first count : ℕ) → 1 ≤ first → ((tag : ℕ) → 1 ≤ tag → one tag ≡ other tag)

@@ -30,7 +30,7 @@ use Rattle.uas_profile.specs.declared.TdState.TheVariants.{LeftOver, Retired}
 use Rattle.uas_host.specs.Retirement.{resumed_doors, retired_host, with_first_freed, trbs_before}
 use Rattle.uas_host.specs.Seen.{seen, with_retired, with_seen}
 use Rattle.uas_host.specs.State.{HostState, client_of, with_client}
-use Rattle.uas_profile.specs.Places.{tag_of}
+use Rattle.uas_profile.specs.Tags.{tag_of}
 use Rattle.shared_machine.specs.declared.Completion.{Completion}
 use Rattle.shared_machine.specs.declared.RetirementStage.TheVariants.{MoveAnswered}
 use Rattle.shared_machine.specs.declared.Td.{Td}
@@ -122,23 +122,23 @@ first_freed-some lines pipe tag zero some = absurd (omega (arith, some))
 first_freed-some lines pipe tag (suc more) some = refl
 
 -- the ring of the TD, all of it freed
-abbrev pub emptied_ring : World → Pipe → Place → ItemRing
-emptied_ring world pipe place =
-    reclaimed (places_of pipe) (ring_of (freed_lines world) pipe (tag_of place)).got (ring_of (freed_lines world) pipe (tag_of place))
+abbrev pub emptied_ring : ℕ → World → Pipe → Place → ItemRing
+emptied_ring tags world pipe place =
+    reclaimed (places_of pipe) (ring_of (freed_lines world) pipe (tag_of tags place)).got (ring_of (freed_lines world) pipe (tag_of tags place))
 
-abbrev pub retired_lines : World → Pipe → Place → LinesState
-retired_lines world pipe place = with_ring (freed_lines world) pipe (tag_of place) (emptied_ring world pipe place)
+abbrev pub retired_lines : ℕ → World → Pipe → Place → LinesState
+retired_lines tags world pipe place = with_ring (freed_lines world) pipe (tag_of tags place) (emptied_ring tags world pipe place)
 
-pub ring-of-freed : (world : World) (pipe : Pipe) (place : Place) → HasStreams pipe → ring_of (freed_lines world) pipe (tag_of place)
-    ≡ cell_ring pipe (cell_at world place)
-ring-of-freed world Command place streams = absurd streams
-ring-of-freed world Status place streams = refl
-ring-of-freed world DataIn place streams = refl
-ring-of-freed world DataOut place streams = refl
+pub ring-of-freed : (tags : ℕ) (world : World) (pipe : Pipe) (place : Place) → HasStreams pipe → ring_of (freed_lines world) pipe (tag_of tags place)
+    ≡ cell_ring pipe (cell_at tags world place)
+ring-of-freed tags world Command place streams = absurd streams
+ring-of-freed tags world Status place streams = refl
+ring-of-freed tags world DataIn place streams = refl
+ring-of-freed tags world DataOut place streams = refl
 
 -- a TD that is there has a TRB
-pub data-some : (slot : ℕ) (entry : Entry) → is_td_left_over entry.data_td ≡ true → IsMatchedEntry slot entry → 1 ≤ data_trbs entry.task.request
-data-some slot entry left sound =
+pub data-some : (tags : ℕ) (slot : ℕ) (entry : Entry) → is_td_left_over entry.data_td ≡ true → IsMatchedEntry tags slot entry → 1 ≤ data_trbs entry.task.request
+data-some tags slot entry left sound =
     let some : 0 < request_bytes entry.task.request = ltb-true 0 (request_bytes entry.task.request) (sym sound.moves ∙ there entry.data_td left) in
     omega (arith, some, data_trbs-count entry.task.request)
   where
@@ -146,11 +146,11 @@ data-some slot entry left sound =
     there None left = absurd (false≢true left)
     there (Some td) left = refl
 
-pub trbs-some : (pipe : Pipe) (slot : ℕ) (entry : Entry) → is_left_over_on pipe entry ≡ true → IsMatchedEntry slot entry → 1 ≤ trbs_on pipe entry
-trbs-some Command slot entry so sound = absurd (false≢true so)
-trbs-some Status slot entry so sound = omega arith
-trbs-some DataIn slot entry so sound = data-some slot entry (left-in (request_direction entry.task.request) entry.data_td so).1 sound
-trbs-some DataOut slot entry so sound = data-some slot entry (left-out (request_direction entry.task.request) entry.data_td so).1 sound
+pub trbs-some : (tags : ℕ) (pipe : Pipe) (slot : ℕ) (entry : Entry) → is_left_over_on pipe entry ≡ true → IsMatchedEntry tags slot entry → 1 ≤ trbs_on pipe entry
+trbs-some tags Command slot entry so sound = absurd (false≢true so)
+trbs-some tags Status slot entry so sound = omega arith
+trbs-some tags DataIn slot entry so sound = data-some tags slot entry (left-in (request_direction entry.task.request) entry.data_td so).1 sound
+trbs-some tags DataOut slot entry so sound = data-some tags slot entry (left-out (request_direction entry.task.request) entry.data_td so).1 sound
 
 -- once the controller was moved, all TRBs of the TD are consumed
 pub whole-once-moved : (state : Shared) (world : World) (pipe : Pipe) (place : Place) (td : Td) → (at : IsUnderWay state world pipe place MoveAnswered)
@@ -165,47 +165,47 @@ trbs_before-known zero trbs few = refl
 trbs_before-known (suc n) [] few = absurd (omega (arith, few))
 trbs_before-known (suc n) (trb ∷ rest) few = ap suc (trbs_before-known n rest (omega (arith, few)))
 
-pub record IsEmptied (world : World) (pipe : Pipe) (place : Place) (entry : Entry) : Type 0 where
-  pub some : 1 ≤ (ring_of (freed_lines world) pipe (tag_of place)).got
-  pub empty : HoldsTrbs (emptied_ring world pipe place) [] 0
-  pub freed : trbs_before (take (ring_of (freed_lines world) pipe (tag_of place)).got (ring_of (freed_lines world) pipe (tag_of place)).put)
-      ≡ (ring_of (freed_lines world) pipe (tag_of place)).got
-  pub whole : (td : Td) → td_on pipe entry ≡ Some td → td.consumed ≡ length (td_trbs pipe (tag_of place) entry)
+pub record IsEmptied (tags : ℕ) (world : World) (pipe : Pipe) (place : Place) (entry : Entry) : Type 0 where
+  pub some : 1 ≤ (ring_of (freed_lines world) pipe (tag_of tags place)).got
+  pub empty : HoldsTrbs (emptied_ring tags world pipe place) [] 0
+  pub freed : trbs_before (take (ring_of (freed_lines world) pipe (tag_of tags place)).got (ring_of (freed_lines world) pipe (tag_of tags place)).put)
+      ≡ (ring_of (freed_lines world) pipe (tag_of tags place)).got
+  pub whole : (td : Td) → td_on pipe entry ≡ Some td → td.consumed ≡ length (td_trbs pipe (tag_of tags place) entry)
 
 pub emptied-is : (state : Shared) (world : World) (pipe : Pipe) (place : Place) → Fits state world
-    → (at : IsUnderWay state world pipe place MoveAnswered) → IsEmptied world pipe place at.entry
+    → (at : IsUnderWay state world pipe place MoveAnswered) → IsEmptied state.tags world pipe place at.entry
 emptied-is state world pipe place fits at =
-    let left : IsLeftOn pipe (tag_of place) at.entry (cell_ring pipe (cell_at world place)) =
-    left-on place.client at.at.part.unit.count pipe place at.entry (cell_at world place) at.at.cell at.left in
-    let ring : ItemRing = ring_of (freed_lines world) pipe (tag_of place) in
-    let same = ring-of-freed world pipe place at.retiring.streams in
+    let left : IsLeftOn pipe (tag_of state.tags place) at.entry (cell_ring pipe (cell_at state.tags world place)) =
+    left-on state.tags place.client at.at.part.unit.count pipe place at.entry (cell_at state.tags world place) at.at.cell at.left in
+    let ring : ItemRing = ring_of (freed_lines world) pipe (tag_of state.tags place) in
+    let same = ring-of-freed state.tags world pipe place at.retiring.streams in
     let all : left.td.consumed ≡ trbs_on pipe at.entry = whole-once-moved state world pipe place left.td at left.on in
-    let count : length (td_trbs pipe (tag_of place) at.entry) ≡ trbs_on pipe at.entry = length-td_trbs pipe (tag_of place) at.entry at.retiring.streams in
+    let count : length (td_trbs pipe (tag_of state.tags place) at.entry) ≡ trbs_on pipe at.entry = length-td_trbs pipe (tag_of state.tags place) at.entry at.retiring.streams in
     let put = ap (λ (r : ItemRing). r.put) same ∙ left.holds.0 in
     let got = ap (λ (r : ItemRing). r.got) same ∙ left.holds.1 in
-    let long : (ring_of (freed_lines world) pipe (tag_of place)).got ≡ length (ring_of (freed_lines world) pipe (tag_of place)).put =
-    got ∙ all ∙ sym count ∙ sym (length-map (td_trbs pipe (tag_of place) at.entry) known) ∙ sym (ap length put) in
+    let long : (ring_of (freed_lines world) pipe (tag_of state.tags place)).got ≡ length (ring_of (freed_lines world) pipe (tag_of state.tags place)).put =
+    got ∙ all ∙ sym count ∙ sym (length-map (td_trbs pipe (tag_of state.tags place) at.entry) known) ∙ sym (ap length put) in
     record {
-      some = omega (arith, got, all, trbs-some pipe place.slot at.entry at.left at.at.matched.here.sound);
+      some = omega (arith, got, all, trbs-some state.tags pipe place.slot at.entry at.left at.at.matched.here.sound);
       empty = (
-        ap (λ n. drop n (ring_of (freed_lines world) pipe (tag_of place)).put) long ∙ drop-length (ring_of (freed_lines world) pipe (tag_of place)).put,
+        ap (λ n. drop n (ring_of (freed_lines world) pipe (tag_of state.tags place)).put) long ∙ drop-length (ring_of (freed_lines world) pipe (tag_of state.tags place)).put,
         omega arith,
       );
       freed =
-          ap (λ (ts : List Item). trbs_before (take (ring_of (freed_lines world) pipe (tag_of place)).got ts)) put
-          ∙ trbs_before-known (ring_of (freed_lines world) pipe (tag_of place)).got (td_trbs pipe (tag_of place) at.entry)
+          ap (λ (ts : List Item). trbs_before (take (ring_of (freed_lines world) pipe (tag_of state.tags place)).got ts)) put
+          ∙ trbs_before-known (ring_of (freed_lines world) pipe (tag_of state.tags place)).got (td_trbs pipe (tag_of state.tags place) at.entry)
           (omega (arith, got, all, count));
       whole = λ td on. whole-once-moved state world pipe place td at on ∙ sym count;
     }
 
 -- THE WORLD AFTER IT
 
-abbrev pub retired_doors : World → Pipe → Place → List ℕ
-retired_doors world pipe place = resumed_doors (retired_lines world pipe place) pipe
+abbrev pub retired_doors : ℕ → World → Pipe → Place → List ℕ
+retired_doors tags world pipe place = resumed_doors (retired_lines tags world pipe place) pipe
 
-abbrev pub retired_world : World → Pipe → Place → Entry → World
-retired_world world pipe place entry = handled_world world
-    (record { host = host_after world.host place (retired_entry pipe entry); lines = retired_lines world pipe place }) (retired_doors world pipe place)
+abbrev pub retired_world : ℕ → World → Pipe → Place → Entry → World
+retired_world tags world pipe place entry = handled_world world
+    (record { host = host_after world.host place (retired_entry pipe entry); lines = retired_lines tags world pipe place }) (retired_doors tags world pipe place)
 
 -- the part once the TD is retired
 abbrev pub retired_part : Pipe → Place → Part → Entry → Part
@@ -224,16 +224,16 @@ rung_state state pipe place part entry rest =
     with_pipe (unrung_state state pipe place part entry rest) pipe
     (all_rung (pipe_of (unrung_state state pipe place part entry rest) pipe) (streams_pending (unrung_state state pipe place part entry rest) pipe))
 
-pub ring-here : (world : World) (pipe : Pipe) (place : Place) (entry : Entry) → IsLines world.lines → tag_of place ≤ STREAMS → HasStreams pipe
-    → cell_at (retired_world world pipe place entry) place
-    ≡ record (with_cell_ring pipe (cell_at world place) (emptied_ring world pipe place)) { held = (cell_at (retired_world world pipe place entry) place).held }
-ring-here world Command place entry lines most streams = absurd streams
-ring-here world Status place entry lines most streams =
-    ap (λ ring. record (cell_at (retired_world world Status place entry) place) { status = ring })
-    (stream_ring-same world.lines.status (tag_of place) (emptied_ring world Status place) (omega arith) (omega (arith, most, lines.status)))
-ring-here world DataIn place entry lines most streams =
-    ap (λ ring. record (cell_at (retired_world world DataIn place entry) place) { data_in = ring })
-    (stream_ring-same world.lines.data_in (tag_of place) (emptied_ring world DataIn place) (omega arith) (omega (arith, most, lines.data_in)))
-ring-here world DataOut place entry lines most streams =
-    ap (λ ring. record (cell_at (retired_world world DataOut place entry) place) { data_out = ring })
-    (stream_ring-same world.lines.data_out (tag_of place) (emptied_ring world DataOut place) (omega arith) (omega (arith, most, lines.data_out)))
+pub ring-here : (tags : ℕ) (world : World) (pipe : Pipe) (place : Place) (entry : Entry) → IsLines world.lines → tag_of tags place ≤ STREAMS → HasStreams pipe
+    → cell_at tags (retired_world tags world pipe place entry) place
+    ≡ record (with_cell_ring pipe (cell_at tags world place) (emptied_ring tags world pipe place)) { held = (cell_at tags (retired_world tags world pipe place entry) place).held }
+ring-here tags world Command place entry lines most streams = absurd streams
+ring-here tags world Status place entry lines most streams =
+    ap (λ ring. record (cell_at tags (retired_world tags world Status place entry) place) { status = ring })
+    (stream_ring-same world.lines.status (tag_of tags place) (emptied_ring tags world Status place) (omega arith) (omega (arith, most, lines.status)))
+ring-here tags world DataIn place entry lines most streams =
+    ap (λ ring. record (cell_at tags (retired_world tags world DataIn place entry) place) { data_in = ring })
+    (stream_ring-same world.lines.data_in (tag_of tags place) (emptied_ring tags world DataIn place) (omega arith) (omega (arith, most, lines.data_in)))
+ring-here tags world DataOut place entry lines most streams =
+    ap (λ ring. record (cell_at tags (retired_world tags world DataOut place entry) place) { data_out = ring })
+    (stream_ring-same world.lines.data_out (tag_of tags place) (emptied_ring tags world DataOut place) (omega arith) (omega (arith, most, lines.data_out)))

@@ -19,7 +19,7 @@ use Rattle.uas_host.specs.Notices.{CommandSeen}
 use Rattle.uas_profile.specs.declared.Place.{Place}
 use Rattle.uas_profile.specs.TdStates.{is_pending}
 use Rattle.uas_host.specs.State.{HostState, client_of}
-use Rattle.uas_profile.specs.Places.{tag_of}
+use Rattle.uas_profile.specs.Tags.{tag_of}
 use Rattle.uas_host.specs.Events.{awaits_command, done_before, is_awaited as is_awaited_by, with_commands_freed}
 use Rattle.xhci_ctl.specs.Steps.{endpoint_of}
 use Rattle.shared_machine.specs.declared.Completion.{Completion}
@@ -45,32 +45,37 @@ use Rattle.machine_invariant.proofs.MatchedPlaces.{one_self}
 use Rattle.machine_invariant.proofs.MatchedSteps.{seen_state}
 use Rattle.bus_core.proofs.event.SeenStreams.{HasEventFit, data-fits, event-done, status-fits}
 use Rattle.bus_core.proofs.event.SeenWorlds.{FreesOne, IsSeenAt, event-fits, handled-is, seen-at, seen-cell, seen-others, seen_world}
+use Rattle.uas_profile.proofs.TagLaws.{tags-apart as places-apart}
+use Rattle.uas_profile.specs.Tags.{place_of}
 
 -- WHAT THE HOST WAITS FOR
 
 -- the command TD of a place is pending, or isn't
-is_awaited-trb : (host : HostState) (place : Place) (held : HostEntry) → tag_of place ≤ STREAMS → IsPlace (length host.clients) place
-    → held_at (client_of host place.client).entries place.slot ≡ Some held → is_awaited_by host (command_trb place) ≡ is_pending held.command_td
-is_awaited-trb host place held most there is =
-    ap (λ tag. option_map_or (awaits_command host) tag false) (command_tag-trb place most)
+is_awaited-trb : (tags : ℕ) (host : HostState) (place : Place) (held : HostEntry) → tag_of tags place ≤ STREAMS → host.tags ≡ tags
+    → IsPlace tags (length host.clients) place
+    → held_at (client_of host place.client).entries place.slot ≡ Some held → is_awaited_by host (command_trb tags place) ≡ is_pending held.command_td
+is_awaited-trb tags host place held most number there is =
+    ap (λ tag. option_map_or (awaits_command host) tag false) (command_tag-trb tags place most)
+    ∙ ap (λ t. option_map_or (λ (h : HostEntry). is_pending h.command_td)
+    (option_and_then (λ (p : Place). held_at (client_of host p.client).entries p.slot) (place_of t (length host.clients) (tag_of tags place))) false) number
     ∙ ap (λ at. option_map_or (λ (h : HostEntry). is_pending h.command_td)
     (option_and_then (λ (p : Place). held_at (client_of host p.client).entries p.slot) at) false)
-    (place_of-tag_of (length host.clients) place there)
+    (place_of-tag_of tags (length host.clients) place there)
     ∙ ap (λ h. option_map_or (λ (h : HostEntry). is_pending h.command_td) h false) is
 
 -- the first TRB is freed, and the next stays
-done_before-next : (host : HostState) (n : ℕ) (places : List Place)
-    → ((place : Place) → slice_get places 0 ≡ Some place → is_awaited_by host (command_trb place) ≡ true)
-    → done_before host (take n (map command_item places)) ≡ 0
-done_before-next host zero places waits = refl
-done_before-next host (suc n) [] waits = refl
-done_before-next host (suc n) (place ∷ places) waits = ap (λ b. cond b 0 (suc (done_before host (take n (map command_item places))))) (waits place refl)
+done_before-next : (tags : ℕ) (host : HostState) (n : ℕ) (places : List Place)
+    → ((place : Place) → slice_get places 0 ≡ Some place → is_awaited_by host (command_trb tags place) ≡ true)
+    → done_before host (take n (map (command_item tags) places)) ≡ 0
+done_before-next tags host zero places waits = refl
+done_before-next tags host (suc n) [] waits = refl
+done_before-next tags host (suc n) (place ∷ places) waits = ap (λ b. cond b 0 (suc (done_before host (take n (map (command_item tags) places))))) (waits place refl)
 
-pub done_before-first : (host : HostState) (n : ℕ) (first : Place) (places : List Place) → is_awaited_by host (command_trb first) ≡ false
-    → ((place : Place) → slice_get places 0 ≡ Some place → is_awaited_by host (command_trb place) ≡ true)
-    → done_before host (take (suc n) (map command_item (first ∷ places))) ≡ 1
-done_before-first host n first places seen waits =
-    ap (λ b. cond b 0 (suc (done_before host (take n (map command_item places))))) seen ∙ ap suc (done_before-next host n places waits)
+pub done_before-first : (tags : ℕ) (host : HostState) (n : ℕ) (first : Place) (places : List Place) → is_awaited_by host (command_trb tags first) ≡ false
+    → ((place : Place) → slice_get places 0 ≡ Some place → is_awaited_by host (command_trb tags place) ≡ true)
+    → done_before host (take (suc n) (map (command_item tags) (first ∷ places))) ≡ 1
+done_before-first tags host n first places seen waits =
+    ap (λ b. cond b 0 (suc (done_before host (take n (map (command_item tags) places))))) seen ∙ ap suc (done_before-next tags host n places waits)
 
 -- THE RINGS AND THE QUEUES
 
@@ -86,7 +91,7 @@ abbrev after_command : World → Place → Entry → World
 after_command world place entry = seen_world world (command_lines world) place (command_seen entry)
 
 command-frees : (state : Shared) (world : World) (place : Place) (rest : List Completion) (at : IsSeenAt state world (CommandDone place) rest)
-    → FreesOne world (command_lines world) place (command_seen at.entry)
+    → FreesOne state.tags world (command_lines world) place (command_seen at.entry)
 command-frees state world place rest at = record {
   engine = refl;
   status_others = λ tag some apart. refl;
@@ -107,61 +112,59 @@ command-queues : (state : Shared) (world : World) (place : Place) (rest : List C
 command-queues state world place rest at fits =
     let after : World = after_command world place at.entry in
     let same : rest ≡ rest ++ [] = sym (append-nil rest) in
-    let put = fits.queues.put ∙ ap (λ es. map command_item (carried_places es ++ state.messages)) at.is in
+    let put = fits.queues.put ∙ ap (λ es. map (command_item state.tags) (carried_places es ++ state.messages)) at.is in
     let got : world.lines.command.got ≡ suc (length (carried_places rest)) = fits.queues.got ∙ ap (λ es. length (carried_places es)) at.is in
-    let within : AreWithin (CommandDone place ∷ rest) = subst AreWithin at.is (events-within state fits.matched) in
-    let reads = one-reads world after place rest at.is_place.slot within.1 refl
+    let within : AreWithin state.tags (CommandDone place ∷ rest) = subst (AreWithin state.tags) at.is (events-within state fits.matched) in
+    let reads = one-reads state.tags world after place rest at.is_place.slot within.1 refl
     (seen-others state world (CommandDone place) rest (command_lines world) (command_seen at.entry) at (command-frees state world place rest at))
     (λ some. (refl, refl)) (λ some. (refl, refl)) in
     record {
-      put = ap (λ (ts : List Item). drop 1 ts) put ∙ ap (λ es. map command_item (carried_places es ++ state.messages)) same;
+      put = ap (λ (ts : List Item). drop 1 ts) put ∙ ap (λ es. map (command_item state.tags) (carried_places es ++ state.messages)) same;
       got = omega (arith, got, ap (λ es. length (carried_places es)) same);
-      texts = ap (λ (es : List Event). drop 1 es) (fits.queues.texts ∙ ap (event_texts world 0) at.is)
-          ∙ sym (event_texts-shifted world after 1 0 rest (λ i. shifted world.lines.command.at world.lines.command.base i) reads)
-          ∙ ap (event_texts after 0) same;
+      texts = ap (λ (es : List Event). drop 1 es) (fits.queues.texts ∙ ap (event_texts state.tags world 0) at.is)
+          ∙ sym (event_texts-shifted state.tags world after 1 0 rest (λ i. shifted world.lines.command.at world.lines.command.base i) reads)
+          ∙ ap (event_texts state.tags after 0) same;
     }
 
 -- ONE TRB IS FREED
 
 -- a place that is there is also one of the host's clients after the event
-there-after : (state : Shared) (world : World) (place other : Place) (entry : Entry) → Fits state world → IsPlace (length state.parts) other
-    → IsPlace (length (host_with world.host place entry).clients) other
+there-after : (state : Shared) (world : World) (place other : Place) (entry : Entry) → Fits state world → IsPlace state.tags (length state.parts) other
+    → IsPlace state.tags (length (host_with world.host place entry).clients) other
 there-after state world place other entry fits there =
     let long : length (host_with world.host place entry).clients ≡ length state.parts =
-    length-set world.host.clients place.client _ ∙ clients-length world state.parts fits.clients in
-    subst (λ n. IsPlace n other) (sym long) there
+    length-set world.host.clients place.client _ ∙ clients-length state.tags world state.parts fits.clients in
+    subst (λ n. IsPlace state.tags n other) (sym long) there
 
 -- another TRB of the command pipe is still awaited
 next-awaited : (state : Shared) (world : World) (place : Place) (rest : List Completion) (at : IsSeenAt state world (CommandDone place) rest)
     (next : Place) → Fits state world
     → slice_get (carried_places rest ++ state.messages) 0 ≡ Some next
-    → is_awaited_by (host_with world.host place (command_seen at.entry)) (command_trb next) ≡ true
+    → is_awaited_by (host_with world.host place (command_seen at.entry)) (command_trb state.tags next) ≡ true
 next-awaited state world place rest at next fits is =
     let first : pipe_places state ≡ place ∷ (carried_places rest ++ state.messages) = ap (λ es. carried_places es ++ state.messages) at.is in
     let once = (matched-once state fits.matched place).command in
     let none : times place (carried_places rest ++ state.messages) ≡ 0 = omega (arith, once, ap (times place) first, one_self place) in
     let some : 1 ≤ times next (carried_places rest ++ state.messages) = times-member (carried_places rest ++ state.messages) 0 next is in
     let other : IsPendingCommand state.parts next = matched-pending state fits.matched 1 next (ap (λ places. slice_get places 1) first ∙ is) in
-    let there : IsPlace (length state.parts) next = held-place state next other.entry fits.matched other.held in
-    let cell : HasCell world next other.entry = fits-cell state world next other.entry fits other.held in
+    let there : IsPlace state.tags (length state.parts) next = held-place state next other.entry fits.matched other.held in
+    let cell : HasCell state.tags world next other.entry = fits-cell state world next other.entry fits other.held in
     let within = at.is_place.slot in
     let inside = there.slot in
-    let apart : tag_of next ≡ tag_of place → ⊥ = λ same.
-    let client : next.client ≡ place.client = omega arith in
-    let slot : next.slot ≡ place.slot = omega arith in
-    let one : next ≡ place = λ i. record { client = client i; slot = slot i } in
+    let apart : tag_of state.tags next ≡ tag_of state.tags place → ⊥ = λ same.
+    let one : next ≡ place = places-apart state.tags next place inside within same in
     omega (arith, none, some, ap (λ p. times p (carried_places rest ++ state.messages)) one) in
     let kept = seen-others state world (CommandDone place) rest (command_lines world) (command_seen at.entry) at
     (command-frees state world place rest at) next.client next.slot inside apart in
-    is_awaited-trb (host_with world.host place (command_seen at.entry)) next (host_side other.entry) cell.tag
+    is_awaited-trb state.tags (host_with world.host place (command_seen at.entry)) next (host_side other.entry) cell.tag fits.tags
     (there-after state world place next (command_seen at.entry) fits there)
     (ap (λ (c : Cell). c.held) kept ∙ cell.fits.held)
     ∙ ap is_pending other.pending
 
 first-seen : (state : Shared) (world : World) (place : Place) (rest : List Completion) (at : IsSeenAt state world (CommandDone place) rest) → Fits state world
-    → is_awaited_by (host_with world.host place (command_seen at.entry)) (command_trb place) ≡ false
+    → is_awaited_by (host_with world.host place (command_seen at.entry)) (command_trb state.tags place) ≡ false
 first-seen state world place rest at fits =
-    is_awaited-trb (host_with world.host place (command_seen at.entry)) place (host_side (command_seen at.entry)) at.most
+    is_awaited-trb state.tags (host_with world.host place (command_seen at.entry)) place (host_side (command_seen at.entry)) at.most fits.tags
     (there-after state world place place (command_seen at.entry) fits at.is_place)
     (seen-cell state world (CommandDone place) rest (command_lines world) at
     (with_event_seen at.entry.command_td) at.entry.status_td at.entry.data_td fits
@@ -172,11 +175,11 @@ one-done : (state : Shared) (world : World) (place : Place) (rest : List Complet
 one-done state world place rest at fits =
     let host : HostState = host_with world.host place (command_seen at.entry) in
     let got : world.lines.command.got ≡ suc (length (carried_places rest)) = fits.queues.got ∙ ap (λ es. length (carried_places es)) at.is in
-    let put : world.lines.command.put ≡ map command_item (place ∷ (carried_places rest ++ state.messages)) =
-    fits.queues.put ∙ ap (λ es. map command_item (carried_places es ++ state.messages)) at.is in
+    let put : world.lines.command.put ≡ map (command_item state.tags) (place ∷ (carried_places rest ++ state.messages)) =
+    fits.queues.put ∙ ap (λ es. map (command_item state.tags) (carried_places es ++ state.messages)) at.is in
     ap (λ n. done_before host (take n world.lines.command.put)) got
     ∙ ap (λ (ts : List Item). done_before host (take (suc (length (carried_places rest))) ts)) put
-    ∙ done_before-first host (length (carried_places rest)) place (carried_places rest ++ state.messages) (first-seen state world place rest at fits)
+    ∙ done_before-first state.tags host (length (carried_places rest)) place (carried_places rest ++ state.messages) (first-seen state world place rest at fits)
     (λ next is. next-awaited state world place rest at next fits is)
 
 -- no stream is touched
@@ -197,20 +200,20 @@ pub command-fits : (state : Shared) (world : World) (place : Place) (rest : List
 command-fits state world place rest fits is =
     let at : IsSeenAt state world (CommandDone place) rest = seen-at state world (CommandDone place) rest fits is refl in
     let now : Entry = command_seen at.entry in
-    let there : IsPlace (length world.host.clients) place =
-    subst (λ n. IsPlace n place) (sym (clients-length world state.parts fits.clients)) at.is_place in
+    let there : IsPlace state.tags (length world.host.clients) place =
+    subst (λ n. IsPlace state.tags n place) (sym (clients-length state.tags world state.parts fits.clients)) at.is_place in
     let ended = command_text-waits state world 0 place fits (ap (λ es. slice_get (carried_places es) 0) is) in
-    let does = handled-is world place at.entry (command_seen at.entry) CommandPipe
-    (pointer_of COMMAND_RING_PLACES world.lines.command 0) 0 SUCCESS CommandSeen refl there at.cell.held ended
+    let does = handled-is state.tags world place at.entry (command_seen at.entry) CommandPipe
+    (pointer_of COMMAND_RING_PLACES world.lines.command 0) 0 SUCCESS CommandSeen refl fits.tags there at.cell.held ended
     refl (command_seen-side at.entry (awaited-pends at.entry.command_td 1 at.awaits))
     ∙ ap (λ n. (
       record { host = host_with world.host place (command_seen at.entry); lines = with_commands_freed (without_event world.lines) n },
       Matched
-          (tag_of place),
+          (tag_of state.tags place),
     ))
     (one-done state world place rest at fits) in (
       command_text world,
-      ap (λ (es : List Event). slice_get es 0) (fits.queues.texts ∙ ap (event_texts world 0) is),
+      ap (λ (es : List Event). slice_get es 0) (fits.queues.texts ∙ ap (event_texts state.tags world 0) is),
       event-done state world (command_text world) (CommandDone place) rest (command_lines world) (command_seen at.entry) is refl refl does
           (event-fits state world (CommandDone place) rest (command_lines world) at
           (with_event_seen at.entry.command_td) at.entry.status_td at.entry.data_td fits refl (λ entries. refl)

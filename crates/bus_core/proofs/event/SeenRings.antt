@@ -23,7 +23,7 @@ use Rattle.uas_host.specs.declared.Handled.TheVariants.{Matched}
 use Rattle.uas_profile.specs.declared.Place.{Place}
 use Rattle.uas_profile.specs.declared.TdState.{TdState}
 use Rattle.uas_profile.specs.declared.TdState.TheVariants.{Pending, Seen, LeftOver, Retired}
-use Rattle.uas_profile.specs.Places.{tag_of}
+use Rattle.uas_profile.specs.Tags.{tag_of}
 use Rattle.uas_host.specs.Tds.{data_td}
 use Rattle.uas_host.specs.Events.{Sides, event_doors, handled}
 use Rattle.shared_machine.specs.declared.Td.{Td}
@@ -77,23 +77,23 @@ freed-holds rings tag some within spent =
 pub stream-queues : (state : Shared) (world : World) (done : Completion) (rest : List Completion) (lines : LinesState) (now : Entry)
     (at : IsSeenAt state world done rest) → Fits state world
     → lines.command ≡ world.lines.command → lines.events.pending ≡ drop 1 world.lines.events.pending
-    → carried_places (done ∷ rest) ≡ carried_places rest → drop 1 (event_texts world 0 (done ∷ rest)) ≡ event_texts world 0 rest
-    → FreesOne world lines (event_place done) now
-    → KeepsData world (seen_world world lines (event_place done) now) (event_place done) rest
-    → KeepsStatus world (seen_world world lines (event_place done) now) (event_place done) rest
+    → carried_places (done ∷ rest) ≡ carried_places rest → drop 1 (event_texts state.tags world 0 (done ∷ rest)) ≡ event_texts state.tags world 0 rest
+    → FreesOne state.tags world lines (event_place done) now
+    → KeepsData state.tags world (seen_world world lines (event_place done) now) (event_place done) rest
+    → KeepsStatus state.tags world (seen_world world lines (event_place done) now) (event_place done) rest
     → FitsQueues (seen_state state (event_place done) at.part now rest) (seen_world world lines (event_place done) now)
 stream-queues state world done rest lines now at fits command popped carried texts frees data_kept status_kept =
     let after : World = seen_world world lines (event_place done) now in
     let left : carried_places state.events ≡ carried_places (rest ++ []) = ap carried_places at.is ∙ carried ∙ ap carried_places (sym (append-nil rest)) in
-    let within : AreWithin (done ∷ rest) = subst AreWithin at.is (events-within state fits.matched) in
-    let reads = one-reads world after (event_place done) rest at.is_place.slot within.1
+    let within : AreWithin state.tags (done ∷ rest) = subst (AreWithin state.tags) at.is (events-within state fits.matched) in
+    let reads = one-reads state.tags world after (event_place done) rest at.is_place.slot within.1
     frees.engine (seen-others state world done rest lines now at frees) data_kept status_kept in
     record {
-      put = ap (λ (r : ItemRing). r.put) command ∙ fits.queues.put ∙ ap (λ places. map command_item (places ++ state.messages)) left;
+      put = ap (λ (r : ItemRing). r.put) command ∙ fits.queues.put ∙ ap (λ places. map (command_item state.tags) (places ++ state.messages)) left;
       got = ap (λ (r : ItemRing). r.got) command ∙ fits.queues.got ∙ ap (λ (places : List Place). length places) left;
-      texts = popped ∙ ap (λ (es : List Event). drop 1 es) (fits.queues.texts ∙ ap (event_texts world 0) at.is) ∙ texts
-          ∙ sym (event_texts-kept world after 0 rest (ap (λ (r : ItemRing). r.base) command, ap (λ (r : ItemRing). r.at) command) reads)
-          ∙ ap (event_texts after 0) (sym (append-nil rest));
+      texts = popped ∙ ap (λ (es : List Event). drop 1 es) (fits.queues.texts ∙ ap (event_texts state.tags world 0) at.is) ∙ texts
+          ∙ sym (event_texts-kept state.tags world after 0 rest (ap (λ (r : ItemRing). r.base) command, ap (λ (r : ItemRing). r.at) command) reads)
+          ∙ ap (event_texts state.tags after 0) (sym (append-nil rest));
     }
 
 -- the first event of a place and a kind is the only one
@@ -112,20 +112,20 @@ abbrev pub with_handled : World → Sides → List ℕ → World
 with_handled world after doors =
     record world { host = after.host; controller = rung_all world.controller doors; lines = after.lines }
 
-matched-td : (done : Completion) → is_td_event done ≡ true → Matched (tag_of (event_place done)) ≡ handled_for done
-matched-td (CommandDone place) of_td = refl
-matched-td (DataDone place) of_td = refl
-matched-td (StatusDone place) of_td = refl
-matched-td (EngineDone place) of_td = absurd (false≢true of_td)
+matched-td : (tags : ℕ) (done : Completion) → is_td_event done ≡ true → Matched (tag_of tags (event_place done)) ≡ handled_for tags done
+matched-td tags (CommandDone place) of_td = refl
+matched-td tags (DataDone place) of_td = refl
+matched-td tags (StatusDone place) of_td = refl
+matched-td tags (EngineDone place) of_td = absurd (false≢true of_td)
 
 -- the host matched the event, and that host with these rings fits
 pub event-handled : (state : Shared) (world : World) (event : Event) (done : Completion) (rest : List Completion) (host : HostState) (lines : LinesState)
     → state.events ≡ done ∷ rest → is_td_event done ≡ true → event_doors (event_sides world) event ≡ []
-    → handled (event_sides world) world.frames event ≡ (record { host = host; lines = lines }, Matched (tag_of (event_place done)))
+    → handled (event_sides world) world.frames event ≡ (record { host = host; lines = lines }, Matched (tag_of state.tags (event_place done)))
     → (IsSoundWorld (record world { host = host; lines = lines }) → Fits (shared_step state EventStep).0 (record world { host = host; lines = lines }))
     → EventFits state world event done
 event-handled state world event done rest host lines first of_td quiet is fits = record {
-  matched = ap (λ after. after.1) is ∙ matched-td done of_td;
+  matched = ap (λ after. after.1) is ∙ matched-td state.tags done of_td;
   doors = quiet ∙ sym (seen-quiet state done rest first of_td);
   fits = subst (λ (doors : List ℕ). IsSoundWorld (with_handled world (handled (event_sides world) world.frames event).0 doors)
       → Fits (shared_step state EventStep).0 (with_handled world (handled (event_sides world) world.frames event).0 doors)) (sym quiet)
@@ -136,7 +136,7 @@ event-handled state world event done rest host lines first of_td quiet is fits =
 pub event-done : (state : Shared) (world : World) (event : Event) (done : Completion) (rest : List Completion) (lines : LinesState) (now : Entry)
     → state.events ≡ done ∷ rest → is_td_event done ≡ true → event_doors (event_sides world) event ≡ []
     → handled (event_sides world) world.frames event
-    ≡ (record { host = host_with world.host (event_place done) now; lines = lines }, Matched (tag_of (event_place done)))
+    ≡ (record { host = host_with world.host (event_place done) now; lines = lines }, Matched (tag_of state.tags (event_place done)))
     → (IsSoundWorld (seen_world world lines (event_place done) now) → Fits (shared_step state EventStep).0 (seen_world world lines (event_place done) now))
     → EventFits state world event done
 event-done state world event done rest lines now first of_td quiet is fits =
@@ -186,25 +186,25 @@ status_lines world tag = with_ring (without_event world.lines) Status tag (freed
 
 pub status-frees : (state : Shared) (world : World) (place : Place) (rest : List Completion) (at : IsSeenAt state world (StatusDone place) rest)
     (answer : TaskAnswer) → Fits state world
-    → at.entry.task.phase ≡ Sent answer → IsSpent (stream_ring world.lines.status (tag_of place))
-    → FreesOne world (status_lines world (tag_of place)) place (status_seen at.entry)
+    → at.entry.task.phase ≡ Sent answer → IsSpent (stream_ring world.lines.status (tag_of state.tags place))
+    → FreesOne state.tags world (status_lines world (tag_of state.tags place)) place (status_seen at.entry)
 status-frees state world place rest at answer fits sent spent = record {
   engine = refl;
-  status_others = λ tag some apart. stream_ring-other world.lines.status (tag_of place) tag (freed_ring world.lines.status (tag_of place))
+  status_others = λ tag some apart. stream_ring-other world.lines.status (tag_of state.tags place) tag (freed_ring world.lines.status (tag_of state.tags place))
       (omega arith) some apart;
   data_in_others = λ tag some apart. refl;
   data_out_others = λ tag some apart. refl;
   status = (
-    freed-holds world.lines.status (tag_of place) (omega arith) (omega (arith, at.most, fits.sound.lines.status)) spent,
+    freed-holds world.lines.status (tag_of state.tags place) (omega arith) (omega (arith, at.most, fits.sound.lines.status)) spent,
     awaited-spent at.entry.status_td 1 at.awaits,
   );
-  data_in = subst (λ p. HoldsData (cell_at world place).data_in (data_td (tag_of place) (request_bytes at.entry.task.request))
+  data_in = subst (λ p. HoldsData (cell_at state.tags world place).data_in (data_td (tag_of state.tags place) (request_bytes at.entry.task.request))
       (data_in_td (request_direction at.entry.task.request) (data_after_status p at.entry.data_td))) (sym sent)
-      (in-answered (cell_at world place).data_in (data_td (tag_of place) (request_bytes at.entry.task.request))
+      (in-answered (cell_at state.tags world place).data_in (data_td (tag_of state.tags place) (request_bytes at.entry.task.request))
       (request_direction at.entry.task.request) answer at.entry.data_td at.cell.data_in);
-  data_out = subst (λ p. HoldsData (cell_at world place).data_out (data_td (tag_of place) (request_bytes at.entry.task.request))
+  data_out = subst (λ p. HoldsData (cell_at state.tags world place).data_out (data_td (tag_of state.tags place) (request_bytes at.entry.task.request))
       (data_out_td (request_direction at.entry.task.request) (data_after_status p at.entry.data_td))) (sym sent)
-      (out-answered (cell_at world place).data_out (data_td (tag_of place) (request_bytes at.entry.task.request))
+      (out-answered (cell_at state.tags world place).data_out (data_td (tag_of state.tags place) (request_bytes at.entry.task.request))
       (request_direction at.entry.task.request) answer at.entry.data_td at.cell.data_out);
 }
 
@@ -213,7 +213,7 @@ pub pending-stays : (state : TdState) → state ≡ Pending → is_left_over sta
 pending-stays state pends left = false≢true (sym (ap is_left_over pends) ∙ left)
 
 pub status-ends : (state : Shared) (world : World) (place : Place) (rest : List Completion) (at : IsSeenAt state world (StatusDone place) rest)
-    → EndsStay state world (seen_world world (status_lines world (tag_of place)) place (status_seen at.entry)) place
+    → EndsStay state world (seen_world world (status_lines world (tag_of state.tags place)) place (status_seen at.entry)) place
 status-ends state world place rest at Command streams left = absurd streams
 status-ends state world place rest at Status streams left =
     absurd (pending-stays at.entry.status_td.state (awaited-pends at.entry.status_td 1 at.awaits) (left-on state world (StatusDone place) rest at Status left))

@@ -17,11 +17,11 @@ use Rattle.solo_model.specs.declared.Phase.{Phase}
 use Rattle.solo_model.specs.declared.Phase.TheVariants.{Sent}
 use Rattle.uas_host.specs.declared.Handled.TheVariants.{Matched}
 use Rattle.uas_profile.specs.declared.Place.{Place}
-use Rattle.uas_profile.specs.Places.{tag_of}
+use Rattle.uas_profile.specs.Tags.{tag_of}
 use Rattle.uas_host.specs.Tds.{data_td, data_trb_count, window_of}
 use Rattle.uas_host.specs.Notices.{Notice, DataInSeen, DataOutSeen}
 use Rattle.uas_host.specs.Events.{completes, event_doors, freed_on, handled, notice_of, seen, with_freed}
-use Rattle.uas_profile.specs.declared.TheConstants.{TASK_SLOT, SUCCESS}
+use Rattle.uas_profile.specs.declared.TheConstants.{SUCCESS}
 use Rattle.shared_machine.specs.declared.Td.{Td}
 use Rattle.shared_machine.specs.declared.Completion.{Completion}
 use Rattle.shared_machine.specs.declared.Completion.TheVariants.{DataDone, StatusDone}
@@ -52,6 +52,7 @@ use Rattle.bus_core.proofs.event.SeenRings.{awaited-sent, data-alone, freed-hold
 use Rattle.bus_core.proofs.event.SeenRings.{status_lines, stream-queues}
 use Rattle.bus_core.proofs.event.SeenResponses.{response-fits}
 pub use Rattle.bus_core.proofs.event.SeenRings.{HasEventFit, event-done}
+use Rattle.uas_profile.specs.Tags.{task_slot}
 
 -- STATUS
 
@@ -66,30 +67,30 @@ command-status_sent phase (WithResponse code) sent answers = absurd (subst IsCom
 
 -- the Sense unit of a command
 command-status : (state : Shared) (world : World) (place : Place) (rest : List Completion) (at : IsSeenAt state world (StatusDone place) rest) (op : Op)
-    → at.entry.task.request ≡ Execute op → Fits state world → EventFits state world (status_text world place) (StatusDone place)
+    → at.entry.task.request ≡ Execute op → Fits state world → EventFits state world (status_text state.tags world place) (StatusDone place)
 command-status state world place rest at op asks fits =
-    let tag : ℕ = tag_of place in
-    let cell : HasCell world place at.entry = record { count = at.part.unit.count; tag = at.most; fits = at.cell } in
-    let spent : IsSpent (stream_ring world.lines.status tag) = cell-status_spent world place at.entry cell at.awaits in
-    let text = status_text-is world place at.entry fits.sound.lines cell at.awaits in
+    let tag : ℕ = tag_of state.tags place in
+    let cell : HasCell state.tags world place at.entry = record { count = at.part.unit.count; tag = at.most; fits = at.cell } in
+    let spent : IsSpent (stream_ring world.lines.status tag) = cell-status_spent state.tags world place at.entry cell at.awaits in
+    let text = status_text-is state.tags world place at.entry fits.sound.lines cell at.awaits in
     let handed : IsSentBy at.entry.task.phase = awaited-sent at.entry.task.phase at.entry.status_td at.matched.status at.awaits in
     let answered : IsStatusSent at.entry.task.phase =
     command-status_sent at.entry.task.phase handed.answer handed.is (subst (λ r. IsPhaseOf r at.entry.task.phase) asks at.matched.answers) in
     let answer : Answer = answered.answer in
-    let less : place.slot < TASK_SLOT = subst (IsRequestIn place.slot) asks at.matched.asks in
-    let holds_answer = subst (λ p. HasAnswerIn p tag (cell_at world place).buffers.status) answered.is at.cell.answer in
-    let frees : FreesOne world (status_lines world tag) place (status_seen at.entry) = status-frees state world place rest at (WithStatus answer) fits answered.is spent in
-    let there : IsPlace (length world.host.clients) place =
-    subst (λ n. IsPlace n place) (sym (clients-length world state.parts fits.clients)) at.is_place in
+    let less : place.slot < (task_slot state.tags) = subst (IsRequestIn state.tags place.slot) asks at.matched.asks in
+    let holds_answer = subst (λ p. HasAnswerIn p tag (cell_at state.tags world place).buffers.status) answered.is at.cell.answer in
+    let frees : FreesOne state.tags world (status_lines world tag) place (status_seen at.entry) = status-frees state world place rest at (WithStatus answer) fits answered.is spent in
+    let there : IsPlace state.tags (length world.host.clients) place =
+    subst (λ n. IsPlace state.tags n place) (sym (clients-length state.tags world state.parts fits.clients)) at.is_place in
     let does = ap (handled (event_sides world) world.frames) text.is
-    ∙ handled-is world place at.entry (status_seen at.entry) Status text.pointer _ _ _ refl there at.cell.held text.ended
-    (status_notice-is world.frames place.slot tag answer less at.most holds_answer) (status_seen-side at.entry op answer asks answered.is
+    ∙ handled-is state.tags world place at.entry (status_seen at.entry) Status text.pointer _ _ _ refl fits.tags there at.cell.held text.ended
+    (status_notice-is state.tags world.frames place.slot tag answer less at.most holds_answer) (status_seen-side at.entry op answer asks answered.is
     (awaited-pends at.entry.status_td 1 at.awaits))
     ∙ ap (λ item. (
       record { host = host_with world.host place (status_seen at.entry); lines = with_freed (without_event world.lines) Status tag item },
       Matched tag,
     )) text.item in
-    event-done state world (status_text world place) (StatusDone place) rest (status_lines world tag) (status_seen at.entry) at.is refl
+    event-done state world (status_text state.tags world place) (StatusDone place) rest (status_lines world tag) (status_seen at.entry) at.is refl
     (ap (event_doors (event_sides world)) text.is) does
     (event-fits state world (StatusDone place) rest (status_lines world tag) at at.entry.command_td (with_event_seen at.entry.status_td)
     (data_after_status at.entry.task.phase at.entry.data_td) fits refl (λ entries. ap (λ r. after_answer r entries) asks)
@@ -100,7 +101,7 @@ command-status state world place rest at op asks fits =
 
 -- or the Response unit of a task management
 status-by : (state : Shared) (world : World) (place : Place) (rest : List Completion) (at : IsSeenAt state world (StatusDone place) rest) (request : Request)
-    → at.entry.task.request ≡ request → Fits state world → EventFits state world (status_text world place) (StatusDone place)
+    → at.entry.task.request ≡ request → Fits state world → EventFits state world (status_text state.tags world place) (StatusDone place)
 status-by state world place rest at (Execute op) asks fits = command-status state world place rest at op asks fits
 status-by state world place rest at (Manage what noted) asks fits = response-fits state world place rest at what noted asks fits
 
@@ -108,8 +109,8 @@ pub status-fits : (state : Shared) (world : World) (place : Place) (rest : List 
     → HasEventFit state world (StatusDone place)
 status-fits state world place rest fits is =
     let at : IsSeenAt state world (StatusDone place) rest = seen-at state world (StatusDone place) rest fits is refl in (
-      status_text world place,
-      ap (λ (es : List Event). slice_get es 0) (fits.queues.texts ∙ ap (event_texts world 0) is),
+      status_text state.tags world place,
+      ap (λ (es : List Event). slice_get es 0) (fits.queues.texts ∙ ap (event_texts state.tags world 0) is),
       status-by state world place rest at at.entry.task.request refl fits,
     )
 
@@ -147,49 +148,49 @@ data-holds ring tag entry moved free = (
 
 in-frees : (state : Shared) (world : World) (place : Place) (rest : List Completion) (at : IsSeenAt state world (DataDone place) rest)
     (moved : HasDataTd at.entry) → Fits state world
-    → request_direction at.entry.task.request ≡ ToHost → IsSpent (stream_ring world.lines.data_in (tag_of place))
-    → FreesOne world (in_lines world (tag_of place)) place (data_seen at.entry moved.td)
+    → request_direction at.entry.task.request ≡ ToHost → IsSpent (stream_ring world.lines.data_in (tag_of state.tags place))
+    → FreesOne state.tags world (in_lines world (tag_of state.tags place)) place (data_seen at.entry moved.td)
 in-frees state world place rest at moved fits way spent =
-    let tag : ℕ = tag_of place in
+    let tag : ℕ = tag_of state.tags place in
     let trbs : List Trb = data_td tag (request_bytes at.entry.task.request) in
     record {
       engine = refl;
       status_others = λ tag some apart. refl;
-      data_in_others = λ tag some apart. stream_ring-other world.lines.data_in (tag_of place) tag (freed_ring world.lines.data_in (tag_of place))
+      data_in_others = λ tag some apart. stream_ring-other world.lines.data_in (tag_of state.tags place) tag (freed_ring world.lines.data_in (tag_of state.tags place))
           (omega arith) some apart;
       data_out_others = λ tag some apart. refl;
       status = at.cell.status;
-      data_in = subst (λ w. HoldsData (stream_ring (in_lines world (tag_of place)).data_in (tag_of place))
-          (data_td (tag_of place) (request_bytes at.entry.task.request))
+      data_in = subst (λ w. HoldsData (stream_ring (in_lines world (tag_of state.tags place)).data_in (tag_of state.tags place))
+          (data_td (tag_of state.tags place) (request_bytes at.entry.task.request))
           (data_in_td w (Some (with_event_seen moved.td)))) (sym way)
-          (data-holds (stream_ring (in_lines world (tag_of place)).data_in (tag_of place)) (tag_of place) at.entry moved
-          (freed-holds world.lines.data_in (tag_of place) (omega arith) (omega (arith, at.most, fits.sound.lines.data_in)) spent));
-      data_out = subst (λ w. HoldsData (cell_at world place).data_out (data_td (tag_of place) (request_bytes at.entry.task.request))
+          (data-holds (stream_ring (in_lines world (tag_of state.tags place)).data_in (tag_of state.tags place)) (tag_of state.tags place) at.entry moved
+          (freed-holds world.lines.data_in (tag_of state.tags place) (omega arith) (omega (arith, at.most, fits.sound.lines.data_in)) spent));
+      data_out = subst (λ w. HoldsData (cell_at state.tags world place).data_out (data_td (tag_of state.tags place) (request_bytes at.entry.task.request))
           (data_out_td w (Some (with_event_seen moved.td)))) (sym way)
-          (subst (λ w. HoldsData (cell_at world place).data_out (data_td (tag_of place) (request_bytes at.entry.task.request))
+          (subst (λ w. HoldsData (cell_at state.tags world place).data_out (data_td (tag_of state.tags place) (request_bytes at.entry.task.request))
           (data_out_td w at.entry.data_td)) way at.cell.data_out);
     }
 
 out-frees : (state : Shared) (world : World) (place : Place) (rest : List Completion) (at : IsSeenAt state world (DataDone place) rest)
     (moved : HasDataTd at.entry) → Fits state world
-    → request_direction at.entry.task.request ≡ ToDevice → IsSpent (stream_ring world.lines.data_out (tag_of place))
-    → FreesOne world (out_lines world (tag_of place)) place (data_seen at.entry moved.td)
+    → request_direction at.entry.task.request ≡ ToDevice → IsSpent (stream_ring world.lines.data_out (tag_of state.tags place))
+    → FreesOne state.tags world (out_lines world (tag_of state.tags place)) place (data_seen at.entry moved.td)
 out-frees state world place rest at moved fits way spent = record {
   engine = refl;
   status_others = λ tag some apart. refl;
   data_in_others = λ tag some apart. refl;
-  data_out_others = λ tag some apart. stream_ring-other world.lines.data_out (tag_of place) tag (freed_ring world.lines.data_out (tag_of place))
+  data_out_others = λ tag some apart. stream_ring-other world.lines.data_out (tag_of state.tags place) tag (freed_ring world.lines.data_out (tag_of state.tags place))
       (omega arith) some apart;
   status = at.cell.status;
-  data_in = subst (λ w. HoldsData (cell_at world place).data_in (data_td (tag_of place) (request_bytes at.entry.task.request))
+  data_in = subst (λ w. HoldsData (cell_at state.tags world place).data_in (data_td (tag_of state.tags place) (request_bytes at.entry.task.request))
       (data_in_td w (Some (with_event_seen moved.td)))) (sym way)
-      (subst (λ w. HoldsData (cell_at world place).data_in (data_td (tag_of place) (request_bytes at.entry.task.request))
+      (subst (λ w. HoldsData (cell_at state.tags world place).data_in (data_td (tag_of state.tags place) (request_bytes at.entry.task.request))
       (data_in_td w at.entry.data_td)) way at.cell.data_in);
-  data_out = subst (λ w. HoldsData (stream_ring (out_lines world (tag_of place)).data_out (tag_of place))
-      (data_td (tag_of place) (request_bytes at.entry.task.request))
+  data_out = subst (λ w. HoldsData (stream_ring (out_lines world (tag_of state.tags place)).data_out (tag_of state.tags place))
+      (data_td (tag_of state.tags place) (request_bytes at.entry.task.request))
       (data_out_td w (Some (with_event_seen moved.td)))) (sym way)
-      (data-holds (stream_ring (out_lines world (tag_of place)).data_out (tag_of place)) (tag_of place) at.entry moved
-      (freed-holds world.lines.data_out (tag_of place) (omega arith) (omega (arith, at.most, fits.sound.lines.data_out)) spent));
+      (data-holds (stream_ring (out_lines world (tag_of state.tags place)).data_out (tag_of state.tags place)) (tag_of state.tags place) at.entry moved
+      (freed-holds world.lines.data_out (tag_of state.tags place) (omega arith) (omega (arith, at.most, fits.sound.lines.data_out)) spent));
 }
 
 -- the TD that was seen isn't left over
@@ -199,7 +200,7 @@ moved-stays entry moved left =
 
 in-ends : (state : Shared) (world : World) (place : Place) (rest : List Completion) (at : IsSeenAt state world (DataDone place) rest)
     (moved : HasDataTd at.entry) → request_direction at.entry.task.request ≡ ToHost
-    → EndsStay state world (seen_world world (in_lines world (tag_of place)) place (data_seen at.entry moved.td)) place
+    → EndsStay state world (seen_world world (in_lines world (tag_of state.tags place)) place (data_seen at.entry moved.td)) place
 in-ends state world place rest at moved way Command streams left = absurd streams
 in-ends state world place rest at moved way Status streams left = record { base = refl; at = refl; put = refl }
 in-ends state world place rest at moved way DataIn streams left =
@@ -209,7 +210,7 @@ in-ends state world place rest at moved way DataOut streams left = record { base
 
 out-ends : (state : Shared) (world : World) (place : Place) (rest : List Completion) (at : IsSeenAt state world (DataDone place) rest)
     (moved : HasDataTd at.entry) → request_direction at.entry.task.request ≡ ToDevice
-    → EndsStay state world (seen_world world (out_lines world (tag_of place)) place (data_seen at.entry moved.td)) place
+    → EndsStay state world (seen_world world (out_lines world (tag_of state.tags place)) place (data_seen at.entry moved.td)) place
 out-ends state world place rest at moved way Command streams left = absurd streams
 out-ends state world place rest at moved way Status streams left = record { base = refl; at = refl; put = refl }
 out-ends state world place rest at moved way DataIn streams left = record { base = refl; at = refl; put = refl }
@@ -221,48 +222,48 @@ seen-data : (entry : Entry) (moved : HasDataTd entry) → seen_data_td entry ent
 seen-data entry moved = ap (seen_data_td entry) moved.is ∙ ap (λ b. cond b (Some (data_seen entry moved.td)) None) moved.awaited
 
 -- the host's clients are as many as the parts
-host-there : (state : Shared) (world : World) (place : Place) → Fits state world → IsPlace (length state.parts) place
-    → IsPlace (length world.host.clients) place
-host-there state world place fits there = subst (λ n. IsPlace n place) (sym (clients-length world state.parts fits.clients)) there
+host-there : (state : Shared) (world : World) (place : Place) → Fits state world → IsPlace state.tags (length state.parts) place
+    → IsPlace state.tags (length world.host.clients) place
+host-there state world place fits there = subst (λ n. IsPlace state.tags n place) (sym (clients-length state.tags world state.parts fits.clients)) there
 
 -- by the pipe on which it was
 data-on : (state : Shared) (world : World) (place : Place) (rest : List Completion) (at : IsSeenAt state world (DataDone place) rest)
     (moved : HasDataTd at.entry) (pipe : Pipe) (notice : Notice) (lines : LinesState) → Fits state world
-    → (text : IsStreamText world.lines (data_text world place) 0 SUCCESS pipe (tag_of place))
-    → completes notice ≡ false → notice_of world.frames 0 SUCCESS (record { pipe = pipe; tag = tag_of place }) ≡ Some notice
+    → (text : IsStreamText world.lines (data_text state.tags world place) 0 SUCCESS pipe (tag_of state.tags place))
+    → completes notice ≡ false → notice_of world.frames 0 SUCCESS (record { pipe = pipe; tag = tag_of state.tags place }) ≡ Some notice
     → seen notice (host_side at.entry) ≡ Some (host_side (data_seen at.entry moved.td))
-    → freed_on pipe (host_with world.host place (data_seen at.entry moved.td)) (without_event world.lines) (tag_of place) text.pointer ≡ lines
-    → FreesOne world lines place (data_seen at.entry moved.td)
+    → freed_on pipe (host_with world.host place (data_seen at.entry moved.td)) (without_event world.lines) (tag_of state.tags place) text.pointer ≡ lines
+    → FreesOne state.tags world lines place (data_seen at.entry moved.td)
     → EndsStay state world (seen_world world lines place (data_seen at.entry moved.td)) place
     → FitsQueues (seen_state state place at.part (data_seen at.entry moved.td) rest) (seen_world world lines place (data_seen at.entry moved.td))
-    → EventFits state world (data_text world place) (DataDone place)
+    → EventFits state world (data_text state.tags world place) (DataDone place)
 data-on state world place rest at moved pipe notice lines fits text quiet tells sees lines_is frees ends queues =
     let now : Entry = data_seen at.entry moved.td in
     let does = ap (handled (event_sides world) world.frames) text.is
-    ∙ handled-is world place at.entry (data_seen at.entry moved.td) pipe text.pointer 0 SUCCESS notice quiet
+    ∙ handled-is state.tags world place at.entry (data_seen at.entry moved.td) pipe text.pointer 0 SUCCESS notice quiet fits.tags
     (host-there state world place fits at.is_place) at.cell.held text.ended tells sees
-    ∙ ap (λ ls. (record { host = host_with world.host place (data_seen at.entry moved.td); lines = ls }, Matched (tag_of place))) lines_is in
-    event-done state world (data_text world place) (DataDone place) rest lines now at.is refl
+    ∙ ap (λ ls. (record { host = host_with world.host place (data_seen at.entry moved.td); lines = ls }, Matched (tag_of state.tags place))) lines_is in
+    event-done state world (data_text state.tags world place) (DataDone place) rest lines now at.is refl
     (ap (event_doors (event_sides world)) text.is) does
     (event-fits state world (DataDone place) rest lines at at.entry.command_td at.entry.status_td
     (Some (with_event_seen moved.td)) fits refl (λ entries. refl) (seen-data at.entry moved) frees ends queues)
 
 data-by : (state : Shared) (world : World) (place : Place) (rest : List Completion) (way : Direction) (at : IsSeenAt state world (DataDone place) rest)
     (moved : HasDataTd at.entry)
-    → Fits state world → request_direction at.entry.task.request ≡ way → IsDataText way world place → IsSpentBy way world place
-    → EventFits state world (data_text world place) (DataDone place)
+    → Fits state world → request_direction at.entry.task.request ≡ way → IsDataText state.tags way world place → IsSpentBy state.tags way world place
+    → EventFits state world (data_text state.tags world place) (DataDone place)
 data-by state world place rest Nothing at moved fits way text spent = absurd text
 data-by state world place rest ToHost at moved fits way text spent =
-    let tag : ℕ = tag_of place in
-    let frees : FreesOne world (in_lines world tag) place (data_seen at.entry moved.td) = in-frees state world place rest at moved fits way spent in
+    let tag : ℕ = tag_of state.tags place in
+    let frees : FreesOne state.tags world (in_lines world tag) place (data_seen at.entry moved.td) = in-frees state world place rest at moved fits way spent in
     data-on state world place rest at moved DataIn DataInSeen (in_lines world tag) fits text refl refl
     (data_in_seen-side at.entry moved.td moved.is (awaited-pends moved.td (data_trbs at.entry.task.request) moved.awaited) way)
     (ap (with_freed (without_event world.lines) DataIn tag) text.item) frees (in-ends state world place rest at moved way)
     (stream-queues state world (DataDone place) rest (in_lines world tag) (data_seen at.entry moved.td) at fits refl refl refl refl frees
     (λ some. absurd (data-alone state place rest at.is (matched-once state fits.matched place).data_events some)) (λ some. (refl, refl)))
 data-by state world place rest ToDevice at moved fits way text spent =
-    let tag : ℕ = tag_of place in
-    let frees : FreesOne world (out_lines world tag) place (data_seen at.entry moved.td) = out-frees state world place rest at moved fits way spent.0 in
+    let tag : ℕ = tag_of state.tags place in
+    let frees : FreesOne state.tags world (out_lines world tag) place (data_seen at.entry moved.td) = out-frees state world place rest at moved fits way spent.0 in
     data-on state world place rest at moved DataOut DataOutSeen (out_lines world tag) fits text refl refl
     (data_out_seen-side at.entry moved.td moved.is (awaited-pends moved.td (data_trbs at.entry.task.request) moved.awaited) way)
     (ap (with_freed (without_event world.lines) DataOut tag) text.item) frees (out-ends state world place rest at moved way)
@@ -273,9 +274,9 @@ pub data-fits : (state : Shared) (world : World) (place : Place) (rest : List Co
     → HasEventFit state world (DataDone place)
 data-fits state world place rest fits is =
     let at : IsSeenAt state world (DataDone place) rest = seen-at state world (DataDone place) rest fits is refl in
-    let cell : HasCell world place at.entry = record { count = at.part.unit.count; tag = at.most; fits = at.cell } in (
-      data_text world place,
-      ap (λ (es : List Event). slice_get es 0) (fits.queues.texts ∙ ap (event_texts world 0) is),
+    let cell : HasCell state.tags world place at.entry = record { count = at.part.unit.count; tag = at.most; fits = at.cell } in (
+      data_text state.tags world place,
+      ap (λ (es : List Event). slice_get es 0) (fits.queues.texts ∙ ap (event_texts state.tags world 0) is),
       data-by state world place rest (request_direction at.entry.task.request) at (has-data_td at.entry at.entry.data_td refl at.awaits) fits refl
-          (data_text-is world place at.entry fits.sound.lines cell at.matched at.awaits) (cell-data_spent world place at.entry cell at.matched at.awaits),
+          (data_text-is state.tags world place at.entry fits.sound.lines cell at.matched at.awaits) (cell-data_spent state.tags world place at.entry cell at.matched at.awaits),
     )

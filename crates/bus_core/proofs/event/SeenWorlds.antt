@@ -18,7 +18,7 @@ use Rattle.uas_host.specs.Notices.{Notice}
 use Rattle.uas_profile.specs.declared.Place.{Place}
 use Rattle.uas_host.specs.declared.HostClient.{HostClient}
 use Rattle.uas_host.specs.State.{HostState, client_of}
-use Rattle.uas_profile.specs.Places.{tag_of}
+use Rattle.uas_profile.specs.Tags.{tag_of}
 use Rattle.uas_host.specs.Tds.{data_td, status_td}
 use Rattle.uas_host.specs.Events.{host_seen, ended_at, ended_on, ended_td, freed_on, handled_td, handled_notice, handled_seen, notice_of, seen}
 use Rattle.uas_host.specs.Seen.{completes}
@@ -45,6 +45,8 @@ use Rattle.machine_invariant.proofs.MatchedNext.{matched-no_stray}
 use Rattle.machine_invariant.proofs.MatchedSteps.{IsHeld, matched-held, seen_part, seen_state, shared_step-matched}
 use Rattle.shared_machine.proofs.Standing.{slice_get-back, get-within}
 use Rattle.bus_core.proofs.take.Taking.{fits-besides, ready-found}
+use Rattle.bus_core.proofs.common.Framing.{beyond-apart}
+use Rattle.uas_profile.proofs.TagLaws.{tags-within}
 
 -- AN EVENT THAT WAITS
 
@@ -55,14 +57,14 @@ pub record IsSeenAt (state : Shared) (world : World) (done : Completion) (rest :
   pub entry : Entry
   pub there : slice_get state.parts (event_place done).client ≡ Some part
   pub held : held_at part.entries (event_place done).slot ≡ Some entry
-  pub it : IsFound world (event_place done).client part
-  pub is_place : IsPlace (length state.parts) (event_place done)
-  pub most : tag_of (event_place done) ≤ STREAMS
-  pub cell : FitsCell (event_place done).client part.unit.count (event_place done) entry (cell_at world (event_place done))
-  pub matched : IsMatchedEntry (event_place done).slot entry
+  pub it : IsFound state.tags world (event_place done).client part
+  pub is_place : IsPlace state.tags (length state.parts) (event_place done)
+  pub most : tag_of state.tags (event_place done) ≤ STREAMS
+  pub cell : FitsCell state.tags (event_place done).client part.unit.count (event_place done) entry (cell_at state.tags world (event_place done))
+  pub matched : IsMatchedEntry state.tags (event_place done).slot entry
   pub awaits : awaits_event done entry ≡ true
 
-own-td : (state : Shared) (done : Completion) → is_td_event done ≡ true → IsOwnEvent state done → IsOwnTdEvent state.parts done
+own-td : (state : Shared) (done : Completion) → is_td_event done ≡ true → IsOwnEvent state done → IsOwnTdEvent state.tags state.parts done
 own-td state (CommandDone place) of_td own = own
 own-td state (DataDone place) of_td own = own
 own-td state (StatusDone place) of_td own = own
@@ -71,10 +73,10 @@ own-td state (EngineDone place) of_td own = absurd (false≢true of_td)
 pub seen-at : (state : Shared) (world : World) (done : Completion) (rest : List Completion) → Fits state world → state.events ≡ done ∷ rest
     → is_td_event done ≡ true → IsSeenAt state world done rest
 seen-at state world done rest fits is of_td =
-    let own : IsOwnTdEvent state.parts done =
+    let own : IsOwnTdEvent state.tags state.parts done =
     own-td state done of_td ((matched-no_stray state fits.matched).events 0 done (ap (λ es. slice_get es 0) is)) in
     let at : IsHeld state (event_place done) own.entry = matched-held state (event_place done) own.entry fits.matched own.held in
-    let it : IsFound world (event_place done).client at.found.part = found world state.parts
+    let it : IsFound state.tags world (event_place done).client at.found.part = found state.tags world state.parts
     (event_place done).client at.found.part fits.clients at.found.there in
     record {
       is = is;
@@ -84,8 +86,8 @@ seen-at state world done rest fits is of_td =
       held = at.found.held;
       it = it;
       is_place = own.there;
-      most = omega (arith, own.there.client, own.there.slot, fits.most_clients);
-      cell = subst (λ o. FitsHeld (event_place done).client at.found.part.unit.count (event_place done) o (cell_at world (event_place done))) at.found.held
+      most = omega (arith, (tags-within state.tags (length state.parts) (event_place done) own.there.client own.there.slot).1, fits.most_tags);
+      cell = subst (λ o. FitsHeld state.tags (event_place done).client at.found.part.unit.count (event_place done) o (cell_at state.tags world (event_place done))) at.found.held
           (it.fits.cells (event_place done).slot own.there.slot);
       matched = at.here.sound;
       awaits = own.awaits;
@@ -171,59 +173,59 @@ abbrev pub seen_world : World → LinesState → Place → Entry → World
 seen_world world lines place now = record world { host = host_with world.host place now; lines = lines }
 
 -- the rings of all other tags are as they were, and those of the place hold its TDs
-pub record FreesOne (world : World) (lines : LinesState) (place : Place) (now : Entry) : Type 0 where
+pub record FreesOne (tags : ℕ) (world : World) (lines : LinesState) (place : Place) (now : Entry) : Type 0 where
   pub engine : lines.engine ≡ world.lines.engine
-  pub status_others : (tag : ℕ) → 0 < tag → (tag ≡ tag_of place → ⊥) → stream_ring lines.status tag ≡ stream_ring world.lines.status tag
-  pub data_in_others : (tag : ℕ) → 0 < tag → (tag ≡ tag_of place → ⊥) → stream_ring lines.data_in tag ≡ stream_ring world.lines.data_in tag
-  pub data_out_others : (tag : ℕ) → 0 < tag → (tag ≡ tag_of place → ⊥) → stream_ring lines.data_out tag ≡ stream_ring world.lines.data_out tag
-  pub status : HoldsTd (stream_ring lines.status (tag_of place)) (status_td (tag_of place)) now.status_td
-  pub data_in : HoldsData (stream_ring lines.data_in (tag_of place)) (data_td (tag_of place) (request_bytes now.task.request))
+  pub status_others : (tag : ℕ) → 0 < tag → (tag ≡ tag_of tags place → ⊥) → stream_ring lines.status tag ≡ stream_ring world.lines.status tag
+  pub data_in_others : (tag : ℕ) → 0 < tag → (tag ≡ tag_of tags place → ⊥) → stream_ring lines.data_in tag ≡ stream_ring world.lines.data_in tag
+  pub data_out_others : (tag : ℕ) → 0 < tag → (tag ≡ tag_of tags place → ⊥) → stream_ring lines.data_out tag ≡ stream_ring world.lines.data_out tag
+  pub status : HoldsTd (stream_ring lines.status (tag_of tags place)) (status_td (tag_of tags place)) now.status_td
+  pub data_in : HoldsData (stream_ring lines.data_in (tag_of tags place)) (data_td (tag_of tags place) (request_bytes now.task.request))
       (data_in_td (request_direction now.task.request) now.data_td)
-  pub data_out : HoldsData (stream_ring lines.data_out (tag_of place)) (data_td (tag_of place) (request_bytes now.task.request))
+  pub data_out : HoldsData (stream_ring lines.data_out (tag_of tags place)) (data_td (tag_of tags place) (request_bytes now.task.request))
       (data_out_td (request_direction now.task.request) now.data_td)
 
 pub seen-others : (state : Shared) (world : World) (done : Completion) (rest : List Completion) (lines : LinesState) (now : Entry)
     → IsSeenAt state world done rest
-    → FreesOne world lines (event_place done) now → KeepsOthers world (seen_world world lines (event_place done) now) (event_place done)
+    → FreesOne state.tags world lines (event_place done) now → KeepsOthers state.tags world (seen_world world lines (event_place done) now) (event_place done)
 seen-others state world done rest lines now at frees other slot inside apart =
     let place : Place = event_place done in
-    let held_is = entry_at-other world.host (event_place done).client (event_place done).slot other slot
+    let held_is = entry_at-other state.tags world.host (event_place done).client (event_place done).slot other slot
     (client_with (client_of world.host (event_place done).client) (event_place done).slot (host_side now)) (Some (host_side now))
     (get-within world.host.clients (event_place done).client at.it.held at.it.held_is) refl apart in
-    let status_is = frees.status_others (tag_of (place_in other slot)) (omega arith) apart in
-    let in_is = frees.data_in_others (tag_of (place_in other slot)) (omega arith) apart in
-    let out_is = frees.data_out_others (tag_of (place_in other slot)) (omega arith) apart in
-    λ i. record (cell_at world (place_in other slot)) { held = held_is i; status = status_is i; data_in = in_is i; data_out = out_is i }
+    let status_is = frees.status_others (tag_of state.tags (place_in other slot)) (omega arith) apart in
+    let in_is = frees.data_in_others (tag_of state.tags (place_in other slot)) (omega arith) apart in
+    let out_is = frees.data_out_others (tag_of state.tags (place_in other slot)) (omega arith) apart in
+    λ i. record (cell_at state.tags world (place_in other slot)) { held = held_is i; status = status_is i; data_in = in_is i; data_out = out_is i }
 
 pub seen-cell : (state : Shared) (world : World) (done : Completion) (rest : List Completion) (lines : LinesState) (at : IsSeenAt state world done rest)
     (command status : Td) (moved : Option Td)
-    → Fits state world → FreesOne world lines (event_place done) (with_tds at.entry command status moved)
-    → FitsCell (event_place done).client at.part.unit.count (event_place done) (with_tds at.entry command status moved)
-    (cell_at (seen_world world lines (event_place done) (with_tds at.entry command status moved)) (event_place done))
+    → Fits state world → FreesOne state.tags world lines (event_place done) (with_tds at.entry command status moved)
+    → FitsCell state.tags (event_place done).client at.part.unit.count (event_place done) (with_tds at.entry command status moved)
+    (cell_at state.tags (seen_world world lines (event_place done) (with_tds at.entry command status moved)) (event_place done))
 seen-cell state world done rest lines at command status moved fits frees =
     let there = get-within world.host.clients (event_place done).client at.it.held at.it.held_is in
     let now : Entry = with_tds at.entry command status moved in
-    let after : Cell = cell_at (seen_world world lines (event_place done) (with_tds at.entry command status moved)) (event_place done) in
-    cell-tds (event_place done).client at.part.unit.count (event_place done) at.entry (cell_at world (event_place done)) command status moved
+    let after : Cell = cell_at state.tags (seen_world world lines (event_place done) (with_tds at.entry command status moved)) (event_place done) in
+    cell-tds state.tags (event_place done).client at.part.unit.count (event_place done) at.entry (cell_at state.tags world (event_place done)) command status moved
     after.held after.status after.data_in after.data_out at.cell
     (entry_at-same world.host (event_place done).client (event_place done).slot
     (client_with (client_of world.host (event_place done).client) (event_place done).slot (host_side now))
     (client_of world.host (event_place done).client).entries
-    (Some (host_side now)) there (omega (arith, at.is_place.slot, (fits.sound.host.clients (event_place done).client there).slots)) refl)
+    (Some (host_side now)) there (omega (arith, at.is_place.slot, (fits.sound.host.clients (event_place done).client there).slots, fits.matched.tags.most)) refl)
     frees.status frees.data_in frees.data_out
 
 -- what became ready is the last of its client's ready ones
-pub queue-same : (world : World) (client slot : ℕ) (part : Part) (now : Entry) → IsFound world client part
+pub queue-same : (tags : ℕ) (world : World) (client slot : ℕ) (part : Part) (now : Entry) → IsFound tags world client part
     → ready_after part.ready slot now ≡ (client_with (client_of world.host client) slot (host_side now)).ready.items
-queue-same world client slot part now it =
-    ap (λ q. cond (is_ready now) (q ++ slot ∷ []) q) (sym (ready-found world client part it))
+queue-same tags world client slot part now it =
+    ap (λ q. cond (is_ready now) (q ++ slot ∷ []) q) (sym (ready-found tags world client part it))
     ∙ ap (λ b. cond b ((client_of world.host client).ready.items ++ slot ∷ []) (client_of world.host client).ready.items) (sym (is_ready-side now))
 
 pub event-fits : (state : Shared) (world : World) (done : Completion) (rest : List Completion) (lines : LinesState)
     (at : IsSeenAt state world done rest) (command status : Td) (moved : Option Td)
     → Fits state world → is_td_event done ≡ true → ChangesOne done at.entry.task.request
     → seen_by done at.entry ≡ Some (with_tds at.entry command status moved)
-    → FreesOne world lines (event_place done) (with_tds at.entry command status moved)
+    → FreesOne state.tags world lines (event_place done) (with_tds at.entry command status moved)
     → EndsStay state world (seen_world world lines (event_place done) (with_tds at.entry command status moved)) (event_place done)
     → FitsQueues (seen_state state (event_place done) at.part (with_tds at.entry command status moved) rest)
     (seen_world world lines (event_place done) (with_tds at.entry command status moved))
@@ -238,7 +240,7 @@ event-fits state world done rest lines at command status moved fits of_td one se
     seen-stepped state done rest at.part at.entry now at.is of_td one at.there at.held sees in
     let others = seen-others state world done rest lines now at frees in
     let held_now : HostClient = client_with (client_of world.host client) slot (host_side now) in
-    let changes : ChangesCell world after client slot held_now at.part.unit = record {
+    let changes : ChangesCell state.tags world after client slot held_now at.part.unit = record {
       hosts = refl;
       units = sym (slice_get-back world.device.units client at.part.unit at.it.unit_is);
       others = others;
@@ -246,23 +248,23 @@ event-fits state world done rest lines at command status moved fits of_td one se
     let least_is : at.part.least_ticket ≡ held_now.least_ticket =
     at.it.fits.least_ticket ∙ ap (λ (c : HostClient). c.least_ticket) (sym (client_of-found world.host client at.it.held at.it.held_is)) in
     subst (λ s. Fits s after) (sym stepped)
-    (fits-besides state (seen_state state (event_place done) at.part now rest) world after fits refl refl refl refl (record {
+    (fits-besides state (seen_state state (event_place done) at.part now rest) world after fits refl refl refl refl refl refl (record {
       long = length-set state.parts client (seen_part at.part slot now);
       sound = sound;
       queues = queues;
       engine = engine-changed state (seen_state state (event_place done) at.part now rest) world after (event_place done) fits.matched fits.engine
-          refl refl frees.engine at.is_place.slot others ends;
+          refl refl refl frees.engine at.is_place.slot others ends;
       matched = subst IsMatched stepped (shared_step-matched state EventStep fits.matched);
-      clients = AllFit-set world after state.parts client slot at.part.unit held_now at.part (seen_part at.part slot now)
+      clients = AllFit-set state.tags world after state.parts client slot at.part.unit held_now at.part (seen_part at.part slot now)
           fits.clients at.there at.is_place.slot changes
-          (FitsPart-set world after client slot at.part.unit at.part.unit at.it.held held_now at.part (Some now) at.part.least_ticket
+          (FitsPart-set state.tags fits.matched.tags world after client slot at.part.unit at.part.unit at.it.held held_now at.part (Some now) at.part.least_ticket
           (ready_after at.part.ready slot now)
-          at.it.fits at.is_place.slot changes refl least_is (queue-same world client slot at.part now at.it)
+          at.it.fits at.is_place.slot changes refl least_is (queue-same state.tags world client slot at.part now at.it)
           (seen-cell state world done rest lines at command status moved fits frees));
       others = fits.others;
       unused = λ other over.
-          unused-kept world after (event_place done) other others (omega (arith, over, fits.some_client))
-          (λ same. omega (arith, over, same, at.is_place.client, at.is_place.slot)) (fits.unused other over);
+          unused-kept state.tags world after (event_place done) other fits.matched.tags others (omega (arith, over))
+          (beyond-apart state.tags (length state.parts) (event_place done) other at.is_place over) (fits.unused other over);
     }))
 
 -- WHAT THE HOST MAKES OF IT
@@ -282,33 +284,33 @@ ended_at-events lines pointer =
     ]
 
 -- an event of a TD of which the host sees the notice: the rings that it frees
-pub handled-as : (world : World) (place : Place) (pipe : Pipe) (pointer residual code : ℕ) (notice : Notice) (host : HostState)
-    → ended_at world.lines pointer ≡ Some (record { pipe = pipe; tag = tag_of place })
-    → notice_of world.frames residual code (record { pipe = pipe; tag = tag_of place }) ≡ Some notice
-    → host_seen notice world.host (tag_of place) ≡ Some host
+pub handled-as : (tags : ℕ) (world : World) (place : Place) (pipe : Pipe) (pointer residual code : ℕ) (notice : Notice) (host : HostState)
+    → ended_at world.lines pointer ≡ Some (record { pipe = pipe; tag = tag_of tags place })
+    → notice_of world.frames residual code (record { pipe = pipe; tag = tag_of tags place }) ≡ Some notice
+    → host_seen notice world.host (tag_of tags place) ≡ Some host
     → handled_td (event_sides world) world.frames pointer residual code (ended_at (without_event world.lines) pointer)
-    ≡ (record { host = host; lines = freed_on pipe host (without_event world.lines) (tag_of place) pointer }, Matched (tag_of place))
-handled-as world place pipe pointer residual code notice host ended tells sees =
-    let td : EndedTd = record { pipe = pipe; tag = tag_of place } in
+    ≡ (record { host = host; lines = freed_on pipe host (without_event world.lines) (tag_of tags place) pointer }, Matched (tag_of tags place))
+handled-as tags world place pipe pointer residual code notice host ended tells sees =
+    let td : EndedTd = record { pipe = pipe; tag = tag_of tags place } in
     ap (handled_td (event_sides world) world.frames pointer residual code) (ended_at-events world.lines pointer ∙ ended)
-    ∙ ap (handled_notice (event_sides world) pointer (record { pipe = pipe; tag = tag_of place })) tells
-    ∙ ap (handled_seen (event_sides world) pointer (record { pipe = pipe; tag = tag_of place })) sees
+    ∙ ap (handled_notice (event_sides world) pointer (record { pipe = pipe; tag = tag_of tags place })) tells
+    ∙ ap (handled_seen (event_sides world) pointer (record { pipe = pipe; tag = tag_of tags place })) sees
 
 -- an event of a TD that the host awaits
-pub handled-is : (world : World) (place : Place) (entry now : Entry) (pipe : Pipe) (pointer residual code : ℕ) (notice : Notice)
-    → completes notice ≡ false → IsPlace (length world.host.clients) place → (cell_at world place).held ≡ Some (host_side entry)
-    → ended_at world.lines pointer ≡ Some (record { pipe = pipe; tag = tag_of place })
-    → notice_of world.frames residual code (record { pipe = pipe; tag = tag_of place }) ≡ Some notice
+pub handled-is : (tags : ℕ) (world : World) (place : Place) (entry now : Entry) (pipe : Pipe) (pointer residual code : ℕ) (notice : Notice)
+    → completes notice ≡ false → world.host.tags ≡ tags → IsPlace tags (length world.host.clients) place → (cell_at tags world place).held ≡ Some (host_side entry)
+    → ended_at world.lines pointer ≡ Some (record { pipe = pipe; tag = tag_of tags place })
+    → notice_of world.frames residual code (record { pipe = pipe; tag = tag_of tags place }) ≡ Some notice
     → seen notice (host_side entry) ≡ Some (host_side now)
     → handled_td (event_sides world) world.frames pointer residual code (ended_at (without_event world.lines) pointer)
     ≡ (
       record {
         host = host_with world.host place now;
         lines = freed_on pipe (host_with world.host place now) (without_event world.lines)
-            (tag_of place) pointer;
+            (tag_of tags place) pointer;
       },
-      Matched (tag_of place),
+      Matched (tag_of tags place),
     )
-handled-is world place entry now pipe pointer residual code notice quiet there held ended tells sees =
-    handled-as world place pipe pointer residual code notice (host_with world.host place now) ended tells
-    (host_seen-is world.host place entry now notice quiet there held sees)
+handled-is tags world place entry now pipe pointer residual code notice quiet number there held ended tells sees =
+    handled-as tags world place pipe pointer residual code notice (host_with world.host place now) ended tells
+    (host_seen-is tags world.host place entry now notice quiet number there held sees)

@@ -18,7 +18,7 @@ use Rattle.uas_profile.specs.declared.Direction.TheVariants.{Nothing, ToHost, To
 use Rattle.uas_host.specs.declared.HostEntry.{HostEntry}
 use Rattle.uas_profile.specs.declared.Place.{Place}
 use Rattle.uas_profile.specs.declared.TdState.TheVariants.{LeftOver}
-use Rattle.uas_profile.specs.Places.{tag_of}
+use Rattle.uas_profile.specs.Tags.{tag_of}
 use Rattle.uas_host.specs.Tds.{data_td, data_trb_count, status_td, window_of}
 use Rattle.shared_machine.specs.declared.Td.{Td}
 use Rattle.shared_machine.specs.Td.{Entry, data_in_td, data_out_td, has_data_trb, has_trb_on, is_in_ring, is_left_over_on, is_td_left_over}
@@ -82,12 +82,12 @@ cell_ring DataIn cell = cell.data_in
 cell_ring DataOut cell = cell.data_out
 
 -- it is the ring of the tag's stream
-pub ring-of-cell : (world : World) (pipe : Pipe) (place : Place) → HasStreams pipe → ring_of world.lines pipe (tag_of place)
-    ≡ cell_ring pipe (cell_at world place)
-ring-of-cell world Command place streams = absurd streams
-ring-of-cell world Status place streams = refl
-ring-of-cell world DataIn place streams = refl
-ring-of-cell world DataOut place streams = refl
+pub ring-of-cell : (tags : ℕ) (world : World) (pipe : Pipe) (place : Place) → HasStreams pipe → ring_of world.lines pipe (tag_of tags place)
+    ≡ cell_ring pipe (cell_at tags world place)
+ring-of-cell tags world Command place streams = absurd streams
+ring-of-cell tags world Status place streams = refl
+ring-of-cell tags world DataIn place streams = refl
+ring-of-cell tags world DataOut place streams = refl
 
 -- a TD that is left over stands on its ring
 pub record IsLeftOn (pipe : Pipe) (tag : ℕ) (entry : Entry) (ring : ItemRing) : Type 0 where
@@ -102,23 +102,23 @@ left-data ring trbs None so holds = absurd (false≢true so)
 left-data ring trbs (Some td) so holds =
     let left : td.state ≡ LeftOver = left-state td.state so in (td, refl, left, subst (HoldsIn ring trbs td.consumed) left holds)
 
-pub left-on : (client count : ℕ) (pipe : Pipe) (place : Place) (entry : Entry) (cell : Cell) → FitsCell client count place entry cell
-    → is_left_over_on pipe entry ≡ true → IsLeftOn pipe (tag_of place) entry (cell_ring pipe cell)
-left-on client count Command place entry cell fits so = absurd (false≢true so)
-left-on client count Status place entry cell fits so =
+pub left-on : (tags : ℕ) (client count : ℕ) (pipe : Pipe) (place : Place) (entry : Entry) (cell : Cell) → FitsCell tags client count place entry cell
+    → is_left_over_on pipe entry ≡ true → IsLeftOn pipe (tag_of tags place) entry (cell_ring pipe cell)
+left-on tags client count Command place entry cell fits so = absurd (false≢true so)
+left-on tags client count Status place entry cell fits so =
     let left : entry.status_td.state ≡ LeftOver = left-state entry.status_td.state so in
     record {
       td = entry.status_td;
       on = refl;
       left = left;
-      holds = subst (HoldsIn cell.status (status_td (tag_of place)) entry.status_td.consumed) left fits.status;
+      holds = subst (HoldsIn cell.status (status_td (tag_of tags place)) entry.status_td.consumed) left fits.status;
     }
-left-on client count DataIn place entry cell fits so =
-    let it = left-data cell.data_in (data_td (tag_of place) (request_bytes entry.task.request))
+left-on tags client count DataIn place entry cell fits so =
+    let it = left-data cell.data_in (data_td (tag_of tags place) (request_bytes entry.task.request))
     (data_in_td (request_direction entry.task.request) entry.data_td) so fits.data_in in
     record { td = it.0; on = it.1; left = it.2; holds = it.3 }
-left-on client count DataOut place entry cell fits so =
-    let it = left-data cell.data_out (data_td (tag_of place) (request_bytes entry.task.request))
+left-on tags client count DataOut place entry cell fits so =
+    let it = left-data cell.data_out (data_td (tag_of tags place) (request_bytes entry.task.request))
     (data_out_td (request_direction entry.task.request) entry.data_td) so fits.data_out in
     record { td = it.0; on = it.1; left = it.2; holds = it.3 }
 
@@ -165,24 +165,24 @@ in-kept ring trbs change Nothing found so holds = holds
 in-kept ring trbs change ToHost found so holds = absurd (false≢true so)
 in-kept ring trbs change ToDevice found so holds = holds
 
-pub cell-changed : (client count : ℕ) (pipe : Pipe) (place : Place) (entry : Entry) (cell : Cell) (change : Td → Td) (ring : ItemRing) (held : Option HostEntry)
-    → FitsCell client count place entry cell → is_left_over_on pipe entry ≡ true
-    → ((td : Td) → td_on pipe entry ≡ Some td → td.state ≡ LeftOver → HoldsTd ring (td_trbs pipe (tag_of place) entry) (change td))
+pub cell-changed : (tags : ℕ) (client count : ℕ) (pipe : Pipe) (place : Place) (entry : Entry) (cell : Cell) (change : Td → Td) (ring : ItemRing) (held : Option HostEntry)
+    → FitsCell tags client count place entry cell → is_left_over_on pipe entry ≡ true
+    → ((td : Td) → td_on pipe entry ≡ Some td → td.state ≡ LeftOver → HoldsTd ring (td_trbs pipe (tag_of tags place) entry) (change td))
     → held ≡ Some (host_side (with_td_on change pipe entry))
-    → FitsCell client count place (with_td_on change pipe entry) (record (with_cell_ring pipe cell ring) { held = held })
-cell-changed client count Command place entry cell change ring held fits so holds is = absurd (false≢true so)
-cell-changed client count Status place entry cell change ring held fits so holds is =
-    cell-tds client count place entry cell entry.command_td (change entry.status_td) entry.data_td held ring cell.data_in cell.data_out fits is
+    → FitsCell tags client count place (with_td_on change pipe entry) (record (with_cell_ring pipe cell ring) { held = held })
+cell-changed tags client count Command place entry cell change ring held fits so holds is = absurd (false≢true so)
+cell-changed tags client count Status place entry cell change ring held fits so holds is =
+    cell-tds tags client count place entry cell entry.command_td (change entry.status_td) entry.data_td held ring cell.data_in cell.data_out fits is
     (holds entry.status_td refl (left-state entry.status_td.state so)) fits.data_in fits.data_out
-cell-changed client count DataIn place entry cell change ring held fits so holds is =
-    let trbs : List Trb = data_td (tag_of place) (request_bytes entry.task.request) in
+cell-changed tags client count DataIn place entry cell change ring held fits so holds is =
+    let trbs : List Trb = data_td (tag_of tags place) (request_bytes entry.task.request) in
     let way : Direction = request_direction entry.task.request in
-    cell-tds client count place entry cell entry.command_td entry.status_td (option_map change entry.data_td) held cell.status ring cell.data_out fits is
+    cell-tds tags client count place entry cell entry.command_td entry.status_td (option_map change entry.data_td) held cell.status ring cell.data_out fits is
     fits.status (in-changed ring trbs change way entry.data_td so holds) (out-kept cell.data_out trbs change way entry.data_td so fits.data_out)
-cell-changed client count DataOut place entry cell change ring held fits so holds is =
-    let trbs : List Trb = data_td (tag_of place) (request_bytes entry.task.request) in
+cell-changed tags client count DataOut place entry cell change ring held fits so holds is =
+    let trbs : List Trb = data_td (tag_of tags place) (request_bytes entry.task.request) in
     let way : Direction = request_direction entry.task.request in
-    cell-tds client count place entry cell entry.command_td entry.status_td (option_map change entry.data_td) held cell.status cell.data_in ring fits is
+    cell-tds tags client count place entry cell entry.command_td entry.status_td (option_map change entry.data_td) held cell.status cell.data_in ring fits is
     fits.status (in-kept cell.data_in trbs change way entry.data_td so fits.data_in) (out-changed ring trbs change way entry.data_td so holds)
 
 -- RINGS THAT DIFFER IN WHAT IS CONSUMED

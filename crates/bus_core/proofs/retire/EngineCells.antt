@@ -1,26 +1,24 @@
 -- What the steps of a retirement leave of the world: the cells and the event texts, and what stands on a place's rings. Cited by
 -- the proofs of Engine, Retire and the event of the controller's command.
-use Rattle.std.proofs.Common.{◌≡◌, ℕ, zero, suc, ◌*◌, ◌/◌, ◌%◌, ◌<◌, ◌≤◌, Bool, true, false, cond, List, [], ◌∷◌, ◌++◌, length, length-set, Some, None}
+use Rattle.std.proofs.Common.{◌≡◌, ℕ, suc, ◌<◌, ◌≤◌, Bool, false, List, [], ◌∷◌, ◌++◌, length, length-set, Some, None}
 use Rattle.std.proofs.Common.{refl, arith, ap, sym, subst, ◌∙◌}
-use Rattle.std.specs.Prelude.{nat_lt, slice_get, slice_set, slice_index_or}
+use Rattle.std.specs.Prelude.{slice_get, slice_set, slice_index_or}
 use Rattle.std.specs.Option.{option_map_or}
-use Rattle.std.proofs.lemmas.Bool.{ltb-true}
 use Rattle.std.proofs.lemmas.List.{append-nil}
-use Rattle.std.proofs.lemmas.Option.{none-some}
 use Rattle.block_unit.specs.BlockMaps.{BlockMaps}
 use Rattle.cycle_ring.specs.Ring.{pointer_of}
 use Rattle.cycle_ring.specs.Items.{ItemRing}
 use Rattle.event_ring.specs.declared.Event.TheVariants.{Transfer}
 use Rattle.uas_profile.specs.declared.Pipe.{Pipe}
 use Rattle.uas_profile.specs.declared.Pipe.TheVariants.{Command, Status, DataIn, DataOut}
-use Rattle.uas_profile.specs.declared.TheConstants.{TAGS, COMMAND_RING_PLACES, SLOT, SUCCESS}
+use Rattle.uas_profile.specs.declared.TheConstants.{COMMAND_RING_PLACES, SLOT, SUCCESS}
 use Rattle.stream_array.specs.Rings.{LinesState, stream_ring, with_ring}
 use Rattle.frame_store.specs.Buffers.{held_for}
 use Rattle.scsi_cmd.specs.Held.{held_at}
 use Rattle.uas_profile.specs.declared.Place.{Place}
 use Rattle.uas_host.specs.declared.HostClient.{HostClient}
 use Rattle.uas_host.specs.State.{new_client}
-use Rattle.uas_profile.specs.Places.{place_of, tag_of}
+use Rattle.uas_profile.specs.Tags.{place_of, tag_of}
 use Rattle.uas_target.specs.Device.{Device, task_of}
 use Rattle.xhci_ctl.specs.Steps.{endpoint_of}
 use Rattle.shared_machine.specs.declared.Completion.{Completion}
@@ -39,34 +37,33 @@ use Rattle.bus_core.proofs.common.EventTexts.{carried_places-append, event_texts
 use Rattle.bus_core.proofs.common.Framing.{AllFit, AllFit-set, ChangesCell, FitsClient-kept, SamePipes, fits-anew, found}
 use Rattle.machine_invariant.proofs.MatchedPlaces.{one_self}
 use Rattle.shared_machine.proofs.Standing.{get-none}
+use Rattle.shared_machine.specs.Shared.{greatest_tag}
+use Rattle.uas_profile.proofs.TagLaws.{named-is_place}
+use Rattle.uas_profile.specs.Tags.{AreTags}
+use Rattle.bus_core.proofs.common.Framing.{beyond-apart}
 
 -- A PLACE AND ITS CELL
 
 -- a tag that names a place names one that is there
-pub is-place : (clients tag : ℕ) (place : Place) → place_of clients tag ≡ Some place → IsPlace clients place
-is-place clients zero place is = absurd (none-some place is)
-is-place clients (suc before) place is =
-    elim (nat_lt (before / TAGS) clients) as (λ b. nat_lt (before / TAGS) clients ≡ b
-    → cond b (Some (record { client = before / TAGS; slot = before % TAGS })) None ≡ Some place → IsPlace clients place) [
-      | true ↦ λ below named. let same : record { client = before / TAGS; slot = before % TAGS } ≡ place = cc in
-          subst (IsPlace clients) same (record { client = ltb-true (before / TAGS) clients below; slot = omega arith })
-      | false ↦ λ above none. absurd (none-some place none)
-    ] refl is
+pub is-place : (tags clients tag : ℕ) (place : Place) → 0 < tags → place_of tags clients tag ≡ Some place → IsPlace tags clients place
+is-place tags clients tag place some is =
+    let named = named-is_place tags clients tag place some is in
+    record { client = named.client; slot = named.slot }
 
 -- what is so of a cell and a fact of its place: where nothing stands there and where an entry does
-pub at-place : (parts : List Part) (world : World) (place : Place) (fact : Entry → Bool) (P : Cell → Bool → Type 0) → AllFit world parts
-    → IsPlace (length parts) place → (IsEmptyCell (cell_at world place) → P (cell_at world place) false)
-    → ((entry : Entry) (count : ℕ) → FitsCell place.client count place entry (cell_at world place) → P (cell_at world place) (fact entry))
-    → P (cell_at world place) (option_map_or (entry_fact fact place.slot) (slice_get parts place.client) false)
-at-place parts world place fact P all there empty full =
+pub at-place : (tags : ℕ) (parts : List Part) (world : World) (place : Place) (fact : Entry → Bool) (P : Cell → Bool → Type 0) → AllFit tags world parts
+    → IsPlace tags (length parts) place → (IsEmptyCell (cell_at tags world place) → P (cell_at tags world place) false)
+    → ((entry : Entry) (count : ℕ) → FitsCell tags place.client count place entry (cell_at tags world place) → P (cell_at tags world place) (fact entry))
+    → P (cell_at tags world place) (option_map_or (entry_fact fact place.slot) (slice_get parts place.client) false)
+at-place tags parts world place fact P all there empty full =
     elim (slice_get parts place.client) as (λ o. slice_get parts place.client ≡ o
-    → P (cell_at world place) (option_map_or (entry_fact fact place.slot) o false)) [
+    → P (cell_at tags world place) (option_map_or (entry_fact fact place.slot) o false)) [
       | None ↦ λ is. absurd (omega (arith, there.client, get-none parts place.client is))
       | Some part ↦ λ is.
-          let cell : FitsHeld place.client part.unit.count place (held_at part.entries place.slot) (cell_at world place) =
-          (found world parts place.client part all is).fits.cells place.slot there.slot in
-          elim (held_at part.entries place.slot) as (λ h. FitsHeld place.client part.unit.count place h (cell_at world place)
-          → P (cell_at world place) (option_map_or fact h false)) [
+          let cell : FitsHeld tags place.client part.unit.count place (held_at part.entries place.slot) (cell_at tags world place) =
+          (found tags world parts place.client part all is).fits.cells place.slot there.slot in
+          elim (held_at part.entries place.slot) as (λ h. FitsHeld tags place.client part.unit.count place h (cell_at tags world place)
+          → P (cell_at tags world place) (option_map_or fact h false)) [
             | None ↦ λ fits. empty fits
             | Some entry ↦ λ fits. full entry part.unit.count fits
           ] cell
@@ -76,6 +73,7 @@ at-place parts world place fact P all there empty full =
 
 -- The clients, the device, the buffers and the streams of two worlds are the same.
 pub record KeepsCells (before after : World) : Type 0 where
+  pub number : after.host.tags ≡ before.host.tags
   pub hosts : after.host.clients ≡ before.host.clients
   pub device : after.device ≡ before.device
   pub frames : after.frames ≡ before.frames
@@ -83,8 +81,8 @@ pub record KeepsCells (before after : World) : Type 0 where
   pub data_in : after.lines.data_in ≡ before.lines.data_in
   pub data_out : after.lines.data_out ≡ before.lines.data_out
 
-cell-kept : (before after : World) (place : Place) → KeepsCells before after → cell_at after place ≡ cell_at before place
-cell-kept before after place kept =
+cell-kept : (tags : ℕ) (before after : World) (place : Place) → KeepsCells before after → cell_at tags after place ≡ cell_at tags before place
+cell-kept tags before after place kept =
     let hosts = kept.hosts in
     let device = kept.device in
     let frames = kept.frames in
@@ -93,27 +91,27 @@ cell-kept before after place kept =
     let data_out = kept.data_out in
     λ i. record {
       held = held_at (slice_index_or (hosts i) place.client new_client).entries place.slot;
-      task = task_of (device i) (tag_of place);
-      status = stream_ring (status i) (tag_of place);
-      data_in = stream_ring (data_in i) (tag_of place);
-      data_out = stream_ring (data_out i) (tag_of place);
-      buffers = held_for (frames i) (tag_of place);
+      task = task_of (device i) (tag_of tags place);
+      status = stream_ring (status i) (tag_of tags place);
+      data_in = stream_ring (data_in i) (tag_of tags place);
+      data_out = stream_ring (data_out i) (tag_of tags place);
+      buffers = held_for (frames i) (tag_of tags place);
     }
 
-pub all-kept : (before after : World) (parts : List Part) → AllFit before parts → KeepsCells before after → AllFit after parts
-all-kept before after parts all kept client =
-    subst (λ us. FitsClient after client (slice_get us client) (slice_get after.host.clients client) (slice_get parts client))
+pub all-kept : (tags : ℕ) (before after : World) (parts : List Part) → AllFit tags before parts → KeepsCells before after → AllFit tags after parts
+all-kept tags before after parts all kept client =
+    subst (λ us. FitsClient tags after client (slice_get us client) (slice_get after.host.clients client) (slice_get parts client))
     (sym (ap (λ (d : Device). d.units) kept.device))
-    (subst (λ hs. FitsClient after client (slice_get before.device.units client) (slice_get hs client) (slice_get parts client)) (sym kept.hosts)
-    (FitsClient-kept before after client (slice_get before.device.units client) (slice_get before.host.clients client) (slice_get parts client) (all client)
-    (λ there is slot within. cell-kept before after (place_in client slot) kept)))
+    (subst (λ hs. FitsClient tags after client (slice_get before.device.units client) (slice_get hs client) (slice_get parts client)) (sym kept.hosts)
+    (FitsClient-kept tags before after client (slice_get before.device.units client) (slice_get before.host.clients client) (slice_get parts client) (all client)
+    (λ there is slot within. cell-kept tags before after (place_in client slot) kept)))
 
 -- a step that writes no cell: the world fits where its queues, its pipes and the controller's command ring do
-pub kept-fits : (state now : Shared) (before after : World) → Fits state before → KeepsCells before after → now.parts ≡ state.parts
+pub kept-fits : (state now : Shared) (before after : World) → Fits state before → KeepsCells before after → now.tags ≡ state.tags → now.parts ≡ state.parts
     → SamePipes after.controller now → FitsQueues now after → FitsEngine now after → IsMatched now → IsSoundWorld after → Fits now after
-kept-fits state now before after fits kept parts pipes queues engine matched sound =
-    fits-anew state now before after fits (ap length parts) pipes sound queues engine matched
-    (subst (AllFit after) (sym parts) (all-kept before after state.parts fits.clients kept))
+kept-fits state now before after fits kept number parts pipes queues engine matched sound =
+    fits-anew state now before after fits number kept.number (ap length parts) pipes sound queues engine matched
+    (subst (AllFit state.tags after) (sym parts) (all-kept state.tags before after state.parts fits.clients kept))
     (λ tag above. ap (λ (d : Device). task_of d tag) kept.device ∙ fits.others tag above)
     (λ tag above. unused-kept before after tag kept (fits.unused tag above))
   where
@@ -127,53 +125,54 @@ kept-fits state now before after fits kept parts pipes queues engine matched sou
 -- ONE CELL CHANGES
 
 -- the rings of all other tags are as they were
-pub record KeepsRings (before after : LinesState) (place : Place) : Type 0 where
-  pub status : (tag : ℕ) → 0 < tag → (tag ≡ tag_of place → ⊥) → stream_ring after.status tag ≡ stream_ring before.status tag
-  pub data_in : (tag : ℕ) → 0 < tag → (tag ≡ tag_of place → ⊥) → stream_ring after.data_in tag ≡ stream_ring before.data_in tag
-  pub data_out : (tag : ℕ) → 0 < tag → (tag ≡ tag_of place → ⊥) → stream_ring after.data_out tag ≡ stream_ring before.data_out tag
+pub record KeepsRings (tags : ℕ) (before after : LinesState) (place : Place) : Type 0 where
+  pub status : (tag : ℕ) → 0 < tag → (tag ≡ tag_of tags place → ⊥) → stream_ring after.status tag ≡ stream_ring before.status tag
+  pub data_in : (tag : ℕ) → 0 < tag → (tag ≡ tag_of tags place → ⊥) → stream_ring after.data_in tag ≡ stream_ring before.data_in tag
+  pub data_out : (tag : ℕ) → 0 < tag → (tag ≡ tag_of tags place → ⊥) → stream_ring after.data_out tag ≡ stream_ring before.data_out tag
 
 -- one ring of a place was written
-pub with_ring-keeps : (lines : LinesState) (pipe : Pipe) (place : Place) (ring : ItemRing) → KeepsRings lines (with_ring lines pipe (tag_of place) ring) place
-with_ring-keeps lines Command place ring = record { status = λ tag some apart. refl; data_in = λ tag some apart. refl; data_out = λ tag some apart. refl }
-with_ring-keeps lines Status place ring = record {
-  status = λ tag some apart. stream_ring-other lines.status (tag_of place) tag ring (omega arith) some apart;
+pub with_ring-keeps : (tags : ℕ) (lines : LinesState) (pipe : Pipe) (place : Place) (ring : ItemRing) → KeepsRings tags lines (with_ring lines pipe (tag_of tags place) ring) place
+with_ring-keeps tags lines Command place ring = record { status = λ tag some apart. refl; data_in = λ tag some apart. refl; data_out = λ tag some apart. refl }
+with_ring-keeps tags lines Status place ring = record {
+  status = λ tag some apart. stream_ring-other lines.status (tag_of tags place) tag ring (omega arith) some apart;
   data_in = λ tag some apart. refl;
   data_out = λ tag some apart. refl;
 }
-with_ring-keeps lines DataIn place ring = record {
+with_ring-keeps tags lines DataIn place ring = record {
   status = λ tag some apart. refl;
-  data_in = λ tag some apart. stream_ring-other lines.data_in (tag_of place) tag ring (omega arith) some apart;
+  data_in = λ tag some apart. stream_ring-other lines.data_in (tag_of tags place) tag ring (omega arith) some apart;
   data_out = λ tag some apart. refl;
 }
-with_ring-keeps lines DataOut place ring = record {
+with_ring-keeps tags lines DataOut place ring = record {
   status = λ tag some apart. refl;
   data_in = λ tag some apart. refl;
-  data_out = λ tag some apart. stream_ring-other lines.data_out (tag_of place) tag ring (omega arith) some apart;
+  data_out = λ tag some apart. stream_ring-other lines.data_out (tag_of tags place) tag ring (omega arith) some apart;
 }
 
 -- one client's part was written, under one of its slots
 pub record WritesOne (state now : Shared) (before after : World) (place : Place) (unit : BlockMaps) (held : HostClient) (part : Part) : Type 0 where
+  pub tags : now.tags ≡ state.tags
+  pub number : after.host.tags ≡ before.host.tags
   pub parts : now.parts ≡ slice_set state.parts place.client part
-  pub changes : ChangesCell before after place.client place.slot held unit
+  pub changes : ChangesCell state.tags before after place.client place.slot held unit
   pub device : after.device ≡ before.device
-  pub rings : KeepsRings before.lines after.lines place
-  pub client : FitsPart after place.client unit held part
+  pub rings : KeepsRings state.tags before.lines after.lines place
+  pub client : FitsPart state.tags after place.client unit held part
 
 pub written-all : (state now : Shared) (before after : World) (place : Place) (was : Part) (unit : BlockMaps) (held : HostClient) (part : Part)
-    → AllFit before state.parts → slice_get state.parts place.client ≡ Some was → place.slot < TAGS → WritesOne state now before after place unit held part
-    → AllFit after now.parts
+    → AllFit state.tags before state.parts → slice_get state.parts place.client ≡ Some was → place.slot < state.tags → WritesOne state now before after place unit held part
+    → AllFit state.tags after now.parts
 written-all state now before after place was unit held part all there within writes =
-    subst (AllFit after) (sym writes.parts)
-    (AllFit-set before after state.parts place.client place.slot unit held was part all there within writes.changes writes.client)
+    subst (AllFit state.tags after) (sym writes.parts)
+    (AllFit-set state.tags before after state.parts place.client place.slot unit held was part all there within writes.changes writes.client)
 
 -- the rings of tags that are no client's are other rings
 pub written-unused : (state now : Shared) (before after : World) (place : Place) (unit : BlockMaps) (held : HostClient) (part : Part)
-    → ((tag : ℕ) → TAGS * length state.parts < tag → AreUnused before.lines tag) → IsPlace (length state.parts) place
-    → WritesOne state now before after place unit held part → (tag : ℕ) → TAGS * length now.parts < tag → AreUnused after.lines tag
-written-unused state now before after place unit held part unused there writes tag above =
-    let long : length now.parts ≡ length state.parts = ap length writes.parts ∙ length-set state.parts place.client part in
-    let none : AreUnused before.lines tag = unused tag (omega (arith, above, long)) in
-    let apart : tag ≡ tag_of place → ⊥ = λ same. omega (arith, above, long, same, there.client, there.slot) in
+    → AreTags state.tags → ((tag : ℕ) → greatest_tag state < tag → AreUnused before.lines tag) → IsPlace state.tags (length state.parts) place
+    → WritesOne state now before after place unit held part → (tag : ℕ) → greatest_tag state < tag → AreUnused after.lines tag
+written-unused state now before after place unit held part are unused there writes tag above =
+    let none : AreUnused before.lines tag = unused tag above in
+    let apart : tag ≡ tag_of state.tags place → ⊥ = beyond-apart state.tags (length state.parts) place tag there above in
     let some : 0 < tag = omega (arith, above) in
     record {
       status = subst (λ ring. HoldsTrbs ring [] 0) (sym (writes.rings.status tag some apart)) none.status;
@@ -182,65 +181,65 @@ written-unused state now before after place unit held part unused there writes t
     }
 
 pub written-fits : (state now : Shared) (before after : World) (place : Place) (was : Part) (unit : BlockMaps) (held : HostClient) (part : Part)
-    → Fits state before → slice_get state.parts place.client ≡ Some was → IsPlace (length state.parts) place
+    → Fits state before → slice_get state.parts place.client ≡ Some was → IsPlace state.tags (length state.parts) place
     → WritesOne state now before after place unit held part
     → SamePipes after.controller now → FitsQueues now after → FitsEngine now after → IsMatched now → IsSoundWorld after → Fits now after
 written-fits state now before after place was unit held part fits there is_place writes pipes queues engine matched sound =
     let long : length now.parts ≡ length state.parts = ap length writes.parts ∙ length-set state.parts place.client part in
-    fits-anew state now before after fits long pipes sound queues engine matched
+    fits-anew state now before after fits writes.tags writes.number long pipes sound queues engine matched
     (written-all state now before after place was unit held part fits.clients there is_place.slot writes)
     (λ tag above. ap (λ (d : Device). task_of d tag) writes.device ∙ fits.others tag above)
-    (λ tag above. written-unused state now before after place unit held part fits.unused is_place writes tag (omega (arith, above, long)))
+    (λ tag above. written-unused state now before after place unit held part fits.matched.tags fits.unused is_place writes tag above)
 
 -- THE EVENTS
 
 -- no event of the controller's own commands waits, and what each other event reads is the same
-pub record ReadsAlike (before after : World) (events : List Completion) : Type 0 where
+pub record ReadsAlike (tags : ℕ) (before after : World) (events : List Completion) : Type 0 where
   pub none : retired_places events ≡ []
   pub command_base : after.lines.command ≡ before.lines.command
   pub moved : (place : Place) → 1 ≤ data_events place events
-      → data_event (stream_ring after.lines.data_in (tag_of place)) (stream_ring after.lines.data_out (tag_of place))
-      ≡ data_event (stream_ring before.lines.data_in (tag_of place)) (stream_ring before.lines.data_out (tag_of place))
+      → data_event (stream_ring after.lines.data_in (tag_of tags place)) (stream_ring after.lines.data_out (tag_of tags place))
+      ≡ data_event (stream_ring before.lines.data_in (tag_of tags place)) (stream_ring before.lines.data_out (tag_of tags place))
   pub sent : (place : Place) → 1 ≤ status_events place events
-      → status_event place.slot (stream_ring after.lines.status (tag_of place)) (held_for after.frames (tag_of place)).status
-      ≡ status_event place.slot (stream_ring before.lines.status (tag_of place)) (held_for before.frames (tag_of place)).status
+      → status_event tags place.slot (stream_ring after.lines.status (tag_of tags place)) (held_for after.frames (tag_of tags place)).status
+      ≡ status_event tags place.slot (stream_ring before.lines.status (tag_of tags place)) (held_for before.frames (tag_of tags place)).status
 
 no-cons : {T : Type 0} (first : T) (rest : List T) → first ∷ rest ≡ [] → ⊥
 no-cons first rest is = let no : suc (length rest) ≡ 0 = ap length is in omega (arith, no)
 
-pub texts-alike : (before after : World) (k : ℕ) (events : List Completion) → ReadsAlike before after events
-    → event_texts after k events ≡ event_texts before k events
-texts-alike before after k [] alike = refl
-texts-alike before after k (CommandDone place ∷ rest) alike =
-    ap (λ (ring : ItemRing). Transfer (pointer_of COMMAND_RING_PLACES ring k) 0 SUCCESS (endpoint_of Command) SLOT ∷ event_texts after (suc k) rest)
+pub texts-alike : (tags : ℕ) (before after : World) (k : ℕ) (events : List Completion) → ReadsAlike tags before after events
+    → event_texts tags after k events ≡ event_texts tags before k events
+texts-alike tags before after k [] alike = refl
+texts-alike tags before after k (CommandDone place ∷ rest) alike =
+    ap (λ (ring : ItemRing). Transfer (pointer_of COMMAND_RING_PLACES ring k) 0 SUCCESS (endpoint_of Command) SLOT ∷ event_texts tags after (suc k) rest)
     alike.command_base
     ∙ ap (λ es. Transfer (pointer_of COMMAND_RING_PLACES before.lines.command k) 0 SUCCESS (endpoint_of Command) SLOT ∷ es)
-    (texts-alike before after (suc k) rest
+    (texts-alike tags before after (suc k) rest
     (record { none = alike.none; command_base = alike.command_base; moved = alike.moved; sent = alike.sent }))
-texts-alike before after k (DataDone place ∷ rest) alike =
-    ap (λ e. e ∷ event_texts after k rest) (alike.moved place (omega (arith, one_self place)))
-    ∙ ap (λ es. data_event (stream_ring before.lines.data_in (tag_of place)) (stream_ring before.lines.data_out (tag_of place)) ∷ es)
-    (texts-alike before after k rest (record {
+texts-alike tags before after k (DataDone place ∷ rest) alike =
+    ap (λ e. e ∷ event_texts tags after k rest) (alike.moved place (omega (arith, one_self place)))
+    ∙ ap (λ es. data_event (stream_ring before.lines.data_in (tag_of tags place)) (stream_ring before.lines.data_out (tag_of tags place)) ∷ es)
+    (texts-alike tags before after k rest (record {
       none = alike.none;
       command_base = alike.command_base;
       moved = λ other some. alike.moved other (omega (arith, some));
       sent = alike.sent;
     }))
-texts-alike before after k (StatusDone place ∷ rest) alike =
-    ap (λ e. e ∷ event_texts after k rest) (alike.sent place (omega (arith, one_self place)))
-    ∙ ap (λ es. status_event place.slot (stream_ring before.lines.status (tag_of place)) (held_for before.frames (tag_of place)).status ∷ es)
-    (texts-alike before after k rest (record {
+texts-alike tags before after k (StatusDone place ∷ rest) alike =
+    ap (λ e. e ∷ event_texts tags after k rest) (alike.sent place (omega (arith, one_self place)))
+    ∙ ap (λ es. status_event tags place.slot (stream_ring before.lines.status (tag_of tags place)) (held_for before.frames (tag_of tags place)).status ∷ es)
+    (texts-alike tags before after k rest (record {
       none = alike.none;
       command_base = alike.command_base;
       moved = alike.moved;
       sent = λ other some. alike.sent other (omega (arith, some));
     }))
-texts-alike before after k (EngineDone place ∷ rest) alike = absurd (no-cons place (retired_places rest) alike.none)
+texts-alike tags before after k (EngineDone place ∷ rest) alike = absurd (no-cons place (retired_places rest) alike.none)
 
 -- the event of the controller's own command comes behind all others, and names no TRB of the command pipe
-pub texts-last : (world : World) (k : ℕ) (events : List Completion) (place : Place)
-    → event_texts world k (events ++ EngineDone place ∷ []) ≡ event_texts world k events ++ engine_event world.lines.engine ∷ []
-texts-last world k events place = event_texts-append world k events (EngineDone place ∷ [])
+pub texts-last : (tags : ℕ) (world : World) (k : ℕ) (events : List Completion) (place : Place)
+    → event_texts tags world k (events ++ EngineDone place ∷ []) ≡ event_texts tags world k events ++ engine_event world.lines.engine ∷ []
+texts-last tags world k events place = event_texts-append tags world k events (EngineDone place ∷ [])
 
 pub carried-last : (events : List Completion) (place : Place) → carried_places (events ++ EngineDone place ∷ []) ≡ carried_places events
 carried-last events place = carried_places-append events (EngineDone place ∷ []) ∙ append-nil (carried_places events)

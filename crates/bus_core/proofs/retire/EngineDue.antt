@@ -21,7 +21,7 @@ use Rattle.uas_profile.specs.TdStates.{is_left_over}
 use Rattle.uas_host.specs.State.{client_of}
 use Rattle.uas_host.specs.Retirement.{is_left_over_on as is_host_left_over_on, stop_trb, move_trb}
 use Rattle.uas_host.specs.Seen.{goes_to_device, goes_to_host, is_td_left_over as is_host_td_left_over}
-use Rattle.uas_profile.specs.Places.{place_of, tag_of}
+use Rattle.uas_profile.specs.Tags.{place_of, tag_of}
 use Rattle.xhci_ctl.specs.Pipes.{has_pending}
 use Rattle.shared_machine.specs.declared.Retirement.{Retirement}
 use Rattle.shared_machine.specs.declared.RetirementStage.{RetirementStage}
@@ -37,6 +37,7 @@ use Rattle.bus_core.specs.Fits.{Fits, HoldsCommand, HoldsCommandOf, host_retirem
 use Rattle.bus_core.specs.WorldDue.{EnginesAreDue, RetirementsAreDue}
 use Rattle.bus_core.proofs.common.CellWrites.{clients-length}
 use Rattle.bus_core.proofs.retire.EngineCells.{at-place, is-place}
+use Rattle.std.proofs.Common.{arith}
 
 -- ENGINE
 
@@ -45,20 +46,20 @@ pub has_pending-holds : (ring : ItemRing) (trbs : List Trb) (taken : ℕ) → Ho
 has_pending-holds ring trbs taken holds =
     ap (λ k. nat_lt k (length ring.put)) holds.1 ∙ ap (λ (ts : List Item). nat_lt taken (length ts)) holds.0 ∙ ap (nat_lt taken) (length-map trbs known)
 
-asked-pends : (lines : LinesState) (pipe : Pipe) (place : Place) (stage : RetirementStage) → HoldsCommand lines pipe place stage
+asked-pends : (tags : ℕ) (lines : LinesState) (pipe : Pipe) (place : Place) (stage : RetirementStage) → HoldsCommand tags lines pipe place stage
     → is_asked stage ≡ has_pending lines.engine
-asked-pends lines pipe place StopAsked holds = sym (has_pending-holds lines.engine (stop_trb pipe ∷ []) 0 holds)
-asked-pends lines pipe place StopAnswered holds = sym (has_pending-holds lines.engine (stop_trb pipe ∷ []) 1 holds)
-asked-pends lines pipe place MoveAsked holds = sym (has_pending-holds lines.engine (move_trb lines pipe (tag_of place) ∷ []) 0 holds)
-asked-pends lines pipe place MoveAnswered holds = sym (has_pending-holds lines.engine (move_trb lines pipe (tag_of place) ∷ []) 1 holds)
+asked-pends tags lines pipe place StopAsked holds = sym (has_pending-holds lines.engine (stop_trb pipe ∷ []) 0 holds)
+asked-pends tags lines pipe place StopAnswered holds = sym (has_pending-holds lines.engine (stop_trb pipe ∷ []) 1 holds)
+asked-pends tags lines pipe place MoveAsked holds = sym (has_pending-holds lines.engine (move_trb lines pipe (tag_of tags place) ∷ []) 0 holds)
+asked-pends tags lines pipe place MoveAnswered holds = sym (has_pending-holds lines.engine (move_trb lines pipe (tag_of tags place) ∷ []) 1 holds)
 
-command-pends : (lines : LinesState) (retirement : Option Retirement) → HoldsCommandOf lines retirement
+command-pends : (tags : ℕ) (lines : LinesState) (retirement : Option Retirement) → HoldsCommandOf tags lines retirement
     → option_map_or (λ (r : Retirement). is_asked r.stage) retirement false ≡ has_pending lines.engine
-command-pends lines None holds = sym (has_pending-holds lines.engine [] 0 holds)
-command-pends lines (Some retirement) holds = asked-pends lines retirement.pipe retirement.place retirement.stage holds
+command-pends tags lines None holds = sym (has_pending-holds lines.engine [] 0 holds)
+command-pends tags lines (Some retirement) holds = asked-pends tags lines retirement.pipe retirement.place retirement.stage holds
 
 pub engines-are-due : EnginesAreDue
-engines-are-due state world fits = command-pends world.lines state.retirement fits.engine.commands
+engines-are-due state world fits = command-pends state.tags world.lines state.retirement fits.engine.commands
 
 -- RETIRE
 
@@ -85,11 +86,11 @@ left_over-side Status entry = refl
 left_over-side DataIn entry = in-left (request_direction entry.task.request) entry.data_td
 left_over-side DataOut entry = out-left (request_direction entry.task.request) entry.data_td
 
-left_over-at : (state : Shared) (world : World) (pipe : Pipe) (place : Place) → Fits state world → IsPlace (length state.parts) place
+left_over-at : (state : Shared) (world : World) (pipe : Pipe) (place : Place) → Fits state world → IsPlace state.tags (length state.parts) place
     → part_fact state place.client (entry_fact (is_left_over_on pipe) place.slot)
     ≡ option_map_or (is_host_td_left_over pipe) (held_at (client_of world.host place.client).entries place.slot) false
 left_over-at state world pipe place fits there =
-    at-place state.parts world place (is_left_over_on pipe) (λ (cell : Cell) fact. fact ≡ option_map_or (is_host_td_left_over pipe) cell.held false)
+    at-place state.tags state.parts world place (is_left_over_on pipe) (λ (cell : Cell) fact. fact ≡ option_map_or (is_host_td_left_over pipe) cell.held false)
     fits.clients there
     (λ empty. ap (λ (h : Option HostEntry). option_map_or (is_host_td_left_over pipe) h false) (sym empty.held))
     (λ entry count full. sym (left_over-side pipe entry) ∙ ap (λ (h : Option HostEntry). option_map_or (is_host_td_left_over pipe) h false) (sym full.held))
@@ -98,15 +99,17 @@ pub left_over-of : (state : Shared) (world : World) (pipe : Pipe) (tag : ℕ) �
     → place_fact state tag (is_left_over_on pipe) ≡ is_host_left_over_on world.host pipe tag
 left_over-of state world pipe tag fits =
     let entry : Place → Option HostEntry = λ place. held_at (client_of world.host place.client).entries place.slot in
-    elim (place_of (length state.parts) tag) as (λ o. place_of (length state.parts) tag ≡ o
+    elim (place_of state.tags (length state.parts) tag) as (λ o. place_of state.tags (length state.parts) tag ≡ o
     → option_map_or (λ (p : Place). part_fact state p.client (entry_fact (is_left_over_on pipe) p.slot)) o false
     ≡ option_map_or (is_host_td_left_over pipe) (option_and_then (λ (p : Place). held_at (client_of world.host p.client).entries p.slot) o) false) [
       | None ↦ λ is. refl
-      | Some place ↦ λ is. left_over-at state world pipe place fits (is-place (length state.parts) tag place is)
+      | Some place ↦ λ is. left_over-at state world pipe place fits (is-place state.tags (length state.parts) tag place (omega (arith, fits.matched.tags.least)) is)
     ] refl
     ∙ ap (λ n. option_map_or (is_host_td_left_over pipe) (option_and_then (λ (p : Place). held_at (client_of world.host p.client).entries p.slot)
-    (place_of n tag)) false)
-    (sym (clients-length world state.parts fits.clients))
+    (place_of state.tags n tag)) false)
+    (sym (clients-length state.tags world state.parts fits.clients))
+    ∙ ap (λ t. option_map_or (is_host_td_left_over pipe) (option_and_then (λ (p : Place). held_at (client_of world.host p.client).entries p.slot)
+    (place_of t (length world.host.clients) tag)) false) (sym fits.tags)
 
 none-same : (retirement : Option Retirement) → is_none retirement ≡ is_none (option_map host_retirement retirement)
 none-same None = refl
@@ -132,9 +135,9 @@ retire-due state world pipe tag fits =
 named-some : (world : World) (pipe : Pipe) (tag : ℕ) (none : Bool)
     → (none && is_host_left_over_on world.host pipe tag)
     ≡ is_some {T = HostRetirement} (if none && is_host_left_over_on world.host pipe tag
-    then option_map (λ place. record { pipe = pipe; place = place; stage = Stopping }) (place_of (length world.host.clients) tag) else None)
+    then option_map (λ place. record { pipe = pipe; place = place; stage = Stopping }) (place_of world.host.tags (length world.host.clients) tag) else None)
 named-some world pipe tag none =
-    elim (place_of (length world.host.clients) tag) as (λ o.
+    elim (place_of world.host.tags (length world.host.clients) tag) as (λ o.
     let left : Bool = option_map_or (is_host_td_left_over pipe) (option_and_then (λ (p : Place). held_at (client_of world.host p.client).entries p.slot) o)
     false in
     (none && left) ≡ is_some {T = HostRetirement} (if none && left then option_map (λ place. record { pipe = pipe; place = place; stage = Stopping }) o

@@ -24,7 +24,7 @@ use Rattle.uas_host.specs.declared.HostEntry.{HostEntry}
 use Rattle.uas_profile.specs.Pipes.{target_of}
 use Rattle.uas_profile.specs.Pipes.{same_pipe}
 use Rattle.uas_host.specs.Retirement.{move_trb, stop_trb}
-use Rattle.uas_profile.specs.Places.{tag_of}
+use Rattle.uas_profile.specs.Tags.{tag_of}
 use Rattle.xhci_ctl.specs.declared.Acted.{Acted}
 use Rattle.xhci_ctl.specs.declared.Acted.TheVariants.{Acted as ActedOn, Idle}
 use Rattle.uas_profile.specs.declared.TheConstants.{STREAMS, ENGINE_RING_PLACES, MOST_DATA_TRBS}
@@ -64,6 +64,7 @@ use Rattle.machine_invariant.proofs.MatchedSteps.{shared_step-matched}
 use Rattle.shared_machine.proofs.Standing.{slice_get-back}
 use Rattle.bus_core.proofs.retire.EngineExecuted.{acted-is, stop-executed, passed_ring}
 use Rattle.bus_core.proofs.retire.EngineExecuted.{move-executed}
+use Rattle.uas_profile.proofs.TagLaws.{tags-within}
 
 -- THE STATE AFTER IT
 
@@ -91,15 +92,16 @@ running-same controller state DataOut same = ap (λ (p : PipeState). p.runs) sam
 
 -- what else there is of a state with another pipe
 pub record PipeApart (state : Shared) (pipe : Pipe) (now : PipeState) : Type 0 where
+  pub tags : (with_pipe state pipe now).tags ≡ state.tags
   pub parts : (with_pipe state pipe now).parts ≡ state.parts
   pub messages : (with_pipe state pipe now).messages ≡ state.messages
   pub events : (with_pipe state pipe now).events ≡ state.events
 
 pub pipe-apart : (state : Shared) (pipe : Pipe) (now : PipeState) → PipeApart state pipe now
-pipe-apart state Command now = record { parts = refl; messages = refl; events = refl }
-pipe-apart state Status now = record { parts = refl; messages = refl; events = refl }
-pipe-apart state DataIn now = record { parts = refl; messages = refl; events = refl }
-pipe-apart state DataOut now = record { parts = refl; messages = refl; events = refl }
+pipe-apart state Command now = record { tags = refl; parts = refl; messages = refl; events = refl }
+pipe-apart state Status now = record { tags = refl; parts = refl; messages = refl; events = refl }
+pipe-apart state DataIn now = record { tags = refl; parts = refl; messages = refl; events = refl }
+pipe-apart state DataOut now = record { tags = refl; parts = refl; messages = refl; events = refl }
 
 -- the world after a command of the controller's own
 abbrev pub acted_world : World → ControllerState → LinesState → World
@@ -107,19 +109,21 @@ acted_world world controller lines =
     record world { controller = controller; lines = posted (engine_consumed lines) (engine_event world.lines.engine) }
 
 -- its event joins those that wait, behind all others
-acted-queues : (state now : Shared) (world after : World) (place : Place) → Fits state world → now.messages ≡ state.messages
+acted-queues : (state now : Shared) (world after : World) (place : Place) → Fits state world → now.tags ≡ state.tags → now.messages ≡ state.messages
     → now.events ≡ state.events ++ EngineDone place ∷ [] → after.lines.command ≡ world.lines.command
     → after.lines.events.pending ≡ world.lines.events.pending ++ engine_event world.lines.engine ∷ []
-    → engine_event after.lines.engine ≡ engine_event world.lines.engine → ReadsAlike world after state.events → FitsQueues now after
-acted-queues state now world after place fits messages events command pending same alike =
+    → engine_event after.lines.engine ≡ engine_event world.lines.engine → ReadsAlike state.tags world after state.events → FitsQueues now after
+acted-queues state now world after place fits number messages events command pending same alike =
     let carried : carried_places now.events ≡ carried_places state.events = ap carried_places events ∙ carried-last state.events place in
     record {
-      put = ap (λ (r : ItemRing). r.put) command ∙ fits.queues.put ∙ ap (λ places. map command_item (places ++ state.messages)) (sym carried)
-          ∙ ap (λ messages. map command_item (carried_places now.events ++ messages)) (sym messages);
+      put = ap (λ (r : ItemRing). r.put) command ∙ fits.queues.put ∙ ap (λ places. map (command_item state.tags) (places ++ state.messages)) (sym carried)
+          ∙ ap (λ messages. map (command_item state.tags) (carried_places now.events ++ messages)) (sym messages)
+          ∙ ap (λ t. map (command_item t) (carried_places now.events ++ now.messages)) (sym number);
       got = ap (λ (r : ItemRing). r.got) command ∙ fits.queues.got ∙ ap (λ (places : List Place). length places) (sym carried);
-      texts = pending ∙ ap (λ es. es ++ engine_event world.lines.engine ∷ []) (fits.queues.texts ∙ sym (texts-alike world after 0 state.events alike))
-          ∙ ap (λ e. event_texts after 0 state.events ++ e ∷ []) (sym same)
-          ∙ sym (texts-last after 0 state.events place) ∙ ap (event_texts after 0) (sym events);
+      texts = pending ∙ ap (λ es. es ++ engine_event world.lines.engine ∷ []) (fits.queues.texts ∙ sym (texts-alike state.tags world after 0 state.events alike))
+          ∙ ap (λ e. event_texts state.tags after 0 state.events ++ e ∷ []) (sym same)
+          ∙ sym (texts-last state.tags after 0 state.events place) ∙ ap (event_texts state.tags after 0) (sym events)
+          ∙ ap (λ t. event_texts t after 0 now.events) (sym number);
     }
 
 -- the pipe's own retirement is at this stage
@@ -130,7 +134,7 @@ pub record IsUnderWay (state : Shared) (world : World) (pipe : Pipe) (place : Pl
   pub held : under state.parts place ≡ Some entry
   pub left : is_left_over_on pipe entry ≡ true
   pub at : IsPlaced state world place entry
-  pub commands : HoldsCommand world.lines pipe place stage
+  pub commands : HoldsCommand state.tags world.lines pipe place stage
   pub answered : retired_places state.events ≡ answered_place stage place
   pub hosts : world.host.retirement ≡ Some (host_retirement (under_way pipe place stage))
 
@@ -146,7 +150,7 @@ under-way state world pipe place stage fits is =
       held = stands.held;
       left = stands.so;
       at = placed state world place stands.entry fits stands.held;
-      commands = subst (HoldsCommandOf world.lines) is fits.engine.commands;
+      commands = subst (HoldsCommandOf state.tags world.lines) is fits.engine.commands;
       answered = fits.matched.retired ∙ ap answered_places is;
       hosts = fits.engine.retirement ∙ ap (option_map host_retirement) is;
     }
@@ -174,10 +178,10 @@ stop-fits state world pipe place at fits matched sound =
     let pipes : SamePipes (stopped_on world.controller pipe) (with_pipe state pipe stopped_pipe) =
     stopped-pipes world.controller state pipe (same-pipes state world fits) in
     kept-fits state (stopped_state state pipe place at.at.part) world after fits
-    (record { hosts = refl; device = refl; frames = refl; status = refl; data_in = refl; data_out = refl })
+    (record { number = refl; hosts = refl; device = refl; frames = refl; status = refl; data_in = refl; data_out = refl }) apart.tags
     (ap (λ parts. slice_set parts place.client at.at.part) apart.parts ∙ slice_get-back state.parts place.client at.at.part at.at.there)
     (record { status = pipes.status; data_in = pipes.data_in; data_out = pipes.data_out })
-    (acted-queues state (stopped_state state pipe place at.at.part) world after place fits apart.messages
+    (acted-queues state (stopped_state state pipe place at.at.part) world after place fits apart.tags apart.messages
     (ap (λ events. events ++ EngineDone place ∷ []) apart.events)
     refl refl refl (record { none = at.answered; command_base = refl; moved = λ other some. refl; sent = λ other some. refl }))
     (record { retirement = at.hosts; commands = (at.commands.0, ap (λ taken. taken + 1) at.commands.1) }) matched sound
@@ -199,9 +203,9 @@ move-stepped state pipe place part entry is there held =
     ∙ ap (λ found. (routed_to (at_stage state (under_way pipe place MoveAsked) MoveAnswered) place.client (pass_act pipe place) found).0) there
     ∙ ap (λ found. (acted_on (at_stage state (under_way pipe place MoveAsked) MoveAnswered) place.client (passed_slot pipe part place found)).0) held
 
-abbrev moved_world : World → Pipe → Place → World
-moved_world world pipe place =
-    acted_world world world.controller (with_ring world.lines pipe (tag_of place) (passed_ring (ring_of world.lines pipe (tag_of place))))
+abbrev moved_world : ℕ → World → Pipe → Place → World
+moved_world tags world pipe place =
+    acted_world world world.controller (with_ring world.lines pipe (tag_of tags place) (passed_ring (ring_of world.lines pipe (tag_of tags place))))
 
 -- only what is consumed of a ring differs
 record AreAlike (before after : LinesState) : Type 0 where
@@ -227,25 +231,25 @@ passed-alike lines DataOut tag streams =
     record { engine = refl; command = refl; events = refl; status = λ other. refl; data_in = λ other. refl; data_out = uncounted-passed lines.data_out tag }
 
 moved-reads : (state : Shared) (world : World) (pipe : Pipe) (place : Place) → HasStreams pipe → retired_places state.events ≡ []
-    → ReadsAlike world (moved_world world pipe place) state.events
+    → ReadsAlike state.tags world (moved_world state.tags world pipe place) state.events
 moved-reads state world pipe place streams none =
-    let alike = passed-alike world.lines pipe (tag_of place) streams in
-    let after : LinesState = (moved_world world pipe place).lines in
+    let alike = passed-alike world.lines pipe (tag_of state.tags place) streams in
+    let after : LinesState = (moved_world state.tags world pipe place).lines in
     record {
       none = none;
       command_base = alike.command;
       moved = λ other some.
-          ap (λ (ring : ItemRing). data_event ring (stream_ring after.data_out (tag_of other))) (alike.data_in (tag_of other))
-          ∙ ap (λ (ring : ItemRing). data_event (stream_ring world.lines.data_in (tag_of other)) ring) (alike.data_out (tag_of other));
-      sent = λ other some. ap (λ (ring : ItemRing). status_event other.slot ring (held_for world.frames (tag_of other)).status) (alike.status (tag_of other));
+          ap (λ (ring : ItemRing). data_event ring (stream_ring after.data_out (tag_of state.tags other))) (alike.data_in (tag_of state.tags other))
+          ∙ ap (λ (ring : ItemRing). data_event (stream_ring world.lines.data_in (tag_of state.tags other)) ring) (alike.data_out (tag_of state.tags other));
+      sent = λ other some. ap (λ (ring : ItemRing). status_event state.tags other.slot ring (held_for world.frames (tag_of state.tags other)).status) (alike.status (tag_of state.tags other));
     }
 
 -- the TD as it stands on that ring, with a TRB that the controller may take
-record IsPassable (world : World) (pipe : Pipe) (place : Place) (entry : Entry) : Type 0 where
-  put : (ring_of world.lines pipe (tag_of place)).put ≡ map known (td_trbs pipe (tag_of place) entry)
-  consumed : (ring_of world.lines pipe (tag_of place)).got ≤ length (ring_of world.lines pipe (tag_of place)).put
-  count : length (ring_of world.lines pipe (tag_of place)).put ≡ trbs_on pipe entry
-  short : length (ring_of world.lines pipe (tag_of place)).put ≤ MOST_DATA_TRBS
+record IsPassable (tags : ℕ) (world : World) (pipe : Pipe) (place : Place) (entry : Entry) : Type 0 where
+  put : (ring_of world.lines pipe (tag_of tags place)).put ≡ map known (td_trbs pipe (tag_of tags place) entry)
+  consumed : (ring_of world.lines pipe (tag_of tags place)).got ≤ length (ring_of world.lines pipe (tag_of tags place)).put
+  count : length (ring_of world.lines pipe (tag_of tags place)).put ≡ trbs_on pipe entry
+  short : length (ring_of world.lines pipe (tag_of tags place)).put ≤ MOST_DATA_TRBS
 
 and-false : (a b : Bool) → (a && (b && false)) ≡ false
 and-false true true = refl
@@ -253,11 +257,11 @@ and-false true false = refl
 and-false false b = refl
 
 passable : (state : Shared) (world : World) (pipe : Pipe) (place : Place) (at : IsUnderWay state world pipe place MoveAsked) → Fits state world
-    → IsPassable world pipe place at.entry
+    → IsPassable state.tags world pipe place at.entry
 passable state world pipe place at fits =
-    let left : IsLeftOn pipe (tag_of place) at.entry (cell_ring pipe (cell_at world place)) =
-    left-on place.client at.at.part.unit.count pipe place at.entry (cell_at world place) at.at.cell at.left in
-    let same = ring-of-cell world pipe place at.retiring.streams in
+    let left : IsLeftOn pipe (tag_of state.tags place) at.entry (cell_ring pipe (cell_at state.tags world place)) =
+    left-on state.tags place.client at.at.part.unit.count pipe place at.entry (cell_at state.tags world place) at.at.cell at.left in
+    let same = ring-of-cell state.tags world pipe place at.retiring.streams in
     let unpassed : is_passed state pipe place ≡ false =
     ap (λ o. option_map_or (λ (r : Retirement). same_pipe r.pipe pipe && (same_place r.place place && was_moved r.stage)) o false) at.is
     ∙ and-false (same_pipe pipe pipe) (same_place place place) in
@@ -267,7 +271,7 @@ passable state world pipe place at fits =
     let put = ap (λ (r : ItemRing). r.put) same ∙ left.holds.0 in
     let got = ap (λ (r : ItemRing). r.got) same ∙ left.holds.1 in
     let count =
-    ap (λ (ts : List Item). length ts) put ∙ length-map (td_trbs pipe (tag_of place) at.entry) known ∙ length-td_trbs pipe (tag_of place) at.entry at.retiring.streams in
+    ap (λ (ts : List Item). length ts) put ∙ length-map (td_trbs pipe (tag_of state.tags place) at.entry) known ∙ length-td_trbs pipe (tag_of state.tags place) at.entry at.retiring.streams in
     record {
       put = put;
       consumed = omega (arith, got, some, count);
@@ -277,9 +281,9 @@ passable state world pipe place at fits =
 
 -- the tag is one of a stream
 pub tag-streams : (state : Shared) (world : World) (pipe : Pipe) (place : Place) (stage : RetirementStage) (at : IsUnderWay state world pipe place stage)
-    → Fits state world → (1 ≤ tag_of place) × (tag_of place ≤ STREAMS)
+    → Fits state world → (1 ≤ tag_of state.tags place) × (tag_of state.tags place ≤ STREAMS)
 tag-streams state world pipe place stage at fits =
-    (omega arith, omega (arith, at.at.is_place.client, at.at.is_place.slot, fits.most_clients))
+    (omega arith, omega (arith, (tags-within state.tags (length state.parts) place at.at.is_place.client at.at.is_place.slot).1, fits.most_tags))
 
 -- the host's side of the entry is the same
 passed-states : (trbs : ℕ) (td : Option Td) → option_map state_of (option_map (passed_td trbs) td) ≡ option_map state_of td
@@ -292,57 +296,59 @@ passed-side Status entry = refl
 passed-side DataIn entry = ap (λ states. record (host_side entry) { data_td = states }) (passed-states (trbs_on DataIn entry) entry.data_td)
 passed-side DataOut entry = ap (λ states. record (host_side entry) { data_td = states }) (passed-states (trbs_on DataOut entry) entry.data_td)
 
-moved-here : (world : World) (pipe : Pipe) (place : Place) → IsLines world.lines → tag_of place ≤ STREAMS → HasStreams pipe
-    → cell_at (moved_world world pipe place) place
-    ≡ record (with_cell_ring pipe (cell_at world place) (passed_ring (ring_of world.lines pipe (tag_of place)))) { held = (cell_at world place).held }
-moved-here world Command place lines most streams = absurd streams
-moved-here world Status place lines most streams =
-    ap (λ ring. record (cell_at world place) { status = ring })
-    (stream_ring-same world.lines.status (tag_of place) (passed_ring (stream_ring world.lines.status (tag_of place))) (omega arith)
+moved-here : (tags : ℕ) (world : World) (pipe : Pipe) (place : Place) → IsLines world.lines → tag_of tags place ≤ STREAMS → HasStreams pipe
+    → cell_at tags (moved_world tags world pipe place) place
+    ≡ record (with_cell_ring pipe (cell_at tags world place) (passed_ring (ring_of world.lines pipe (tag_of tags place)))) { held = (cell_at tags world place).held }
+moved-here tags world Command place lines most streams = absurd streams
+moved-here tags world Status place lines most streams =
+    ap (λ ring. record (cell_at tags world place) { status = ring })
+    (stream_ring-same world.lines.status (tag_of tags place) (passed_ring (stream_ring world.lines.status (tag_of tags place))) (omega arith)
     (omega (arith, most, lines.status)))
-moved-here world DataIn place lines most streams =
-    ap (λ ring. record (cell_at world place) { data_in = ring })
-    (stream_ring-same world.lines.data_in (tag_of place) (passed_ring (stream_ring world.lines.data_in (tag_of place))) (omega arith)
+moved-here tags world DataIn place lines most streams =
+    ap (λ ring. record (cell_at tags world place) { data_in = ring })
+    (stream_ring-same world.lines.data_in (tag_of tags place) (passed_ring (stream_ring world.lines.data_in (tag_of tags place))) (omega arith)
     (omega (arith, most, lines.data_in)))
-moved-here world DataOut place lines most streams =
-    ap (λ ring. record (cell_at world place) { data_out = ring })
-    (stream_ring-same world.lines.data_out (tag_of place) (passed_ring (stream_ring world.lines.data_out (tag_of place))) (omega arith)
+moved-here tags world DataOut place lines most streams =
+    ap (λ ring. record (cell_at tags world place) { data_out = ring })
+    (stream_ring-same world.lines.data_out (tag_of tags place) (passed_ring (stream_ring world.lines.data_out (tag_of tags place))) (omega arith)
     (omega (arith, most, lines.data_out)))
 
 moved-cell : (state : Shared) (world : World) (pipe : Pipe) (place : Place) (at : IsUnderWay state world pipe place MoveAsked) → Fits state world
-    → FitsCell place.client at.at.part.unit.count place (passed_on pipe at.entry) (cell_at (moved_world world pipe place) place)
+    → FitsCell state.tags place.client at.at.part.unit.count place (passed_on pipe at.entry) (cell_at state.tags (moved_world state.tags world pipe place) place)
 moved-cell state world pipe place at fits =
-    let ring : ItemRing = passed_ring (ring_of world.lines pipe (tag_of place)) in
+    let ring : ItemRing = passed_ring (ring_of world.lines pipe (tag_of state.tags place)) in
     let able = passable state world pipe place at fits in
     let tag = tag-streams state world pipe place MoveAsked at fits in
-    subst (λ c. FitsCell place.client at.at.part.unit.count place (passed_on pipe at.entry) c)
-    (sym (moved-here world pipe place fits.sound.lines tag.1 at.retiring.streams))
-    (cell-changed place.client at.at.part.unit.count pipe place at.entry (cell_at world place) (passed_td (trbs_on pipe at.entry)) ring
-    (cell_at world place).held at.at.cell at.left
-    (λ td on left. subst (HoldsIn ring (td_trbs pipe (tag_of place) at.entry) (trbs_on pipe at.entry)) (sym left) (able.put, able.count))
+    subst (λ c. FitsCell state.tags place.client at.at.part.unit.count place (passed_on pipe at.entry) c)
+    (sym (moved-here state.tags world pipe place fits.sound.lines tag.1 at.retiring.streams))
+    (cell-changed state.tags place.client at.at.part.unit.count pipe place at.entry (cell_at state.tags world place) (passed_td (trbs_on pipe at.entry)) ring
+    (cell_at state.tags world place).held at.at.cell at.left
+    (λ td on left. subst (HoldsIn ring (td_trbs pipe (tag_of state.tags place) at.entry) (trbs_on pipe at.entry)) (sym left) (able.put, able.count))
     (at.at.cell.held ∙ ap (λ (h : HostEntry). Some h) (sym (passed-side pipe at.entry))))
 
 moved-writes : (state : Shared) (world : World) (pipe : Pipe) (place : Place) (at : IsUnderWay state world pipe place MoveAsked) → Fits state world
-    → WritesOne state (moved_state state pipe place at.at.part at.entry) world (moved_world world pipe place) place at.at.part.unit at.at.client.held
+    → WritesOne state (moved_state state pipe place at.at.part at.entry) world (moved_world state.tags world pipe place) place at.at.part.unit at.at.client.held
     (with_entry at.at.part place.slot (passed_on pipe at.entry))
 moved-writes state world pipe place at fits =
-    let keeps : KeepsRings world.lines (with_ring world.lines pipe (tag_of place) (passed_ring (ring_of world.lines pipe (tag_of place)))) place =
-    with_ring-keeps world.lines pipe place (passed_ring (ring_of world.lines pipe (tag_of place))) in
-    let changes : ChangesCell world (moved_world world pipe place) place.client place.slot at.at.client.held at.at.part.unit = record {
+    let keeps : KeepsRings state.tags world.lines (with_ring world.lines pipe (tag_of state.tags place) (passed_ring (ring_of world.lines pipe (tag_of state.tags place)))) place =
+    with_ring-keeps state.tags world.lines pipe place (passed_ring (ring_of world.lines pipe (tag_of state.tags place))) in
+    let changes : ChangesCell state.tags world (moved_world state.tags world pipe place) place.client place.slot at.at.client.held at.at.part.unit = record {
       hosts = sym (slice_get-back world.host.clients place.client at.at.client.held at.at.client.held_is);
       units = sym (slice_get-back world.device.units place.client at.at.part.unit at.at.client.unit_is);
       others = λ other slot inside apart.
-          let status = keeps.status (tag_of (place_in other slot)) (omega arith) apart in
-          let data_in = keeps.data_in (tag_of (place_in other slot)) (omega arith) apart in
-          let data_out = keeps.data_out (tag_of (place_in other slot)) (omega arith) apart in
-          λ i. record (cell_at world (place_in other slot)) { status = status i; data_in = data_in i; data_out = data_out i };
+          let status = keeps.status (tag_of state.tags (place_in other slot)) (omega arith) apart in
+          let data_in = keeps.data_in (tag_of state.tags (place_in other slot)) (omega arith) apart in
+          let data_out = keeps.data_out (tag_of state.tags (place_in other slot)) (omega arith) apart in
+          λ i. record (cell_at state.tags world (place_in other slot)) { status = status i; data_in = data_in i; data_out = data_out i };
     } in
     record {
+      tags = refl;
+      number = refl;
       parts = refl;
       changes = changes;
       device = refl;
       rings = record { status = keeps.status; data_in = keeps.data_in; data_out = keeps.data_out };
-      client = FitsPart-set world (moved_world world pipe place) place.client place.slot at.at.part.unit at.at.part.unit at.at.client.held at.at.client.held
+      client = FitsPart-set state.tags fits.matched.tags world (moved_world state.tags world pipe place) place.client place.slot at.at.part.unit at.at.part.unit at.at.client.held at.at.client.held
           at.at.part (Some (passed_on pipe at.entry)) at.at.part.least_ticket at.at.part.ready at.at.client.fits at.at.is_place.slot changes refl
           at.at.client.fits.least_ticket at.at.client.fits.ready (moved-cell state world pipe place at fits);
     }
@@ -366,37 +372,37 @@ abbrev move_by : Pipe → ℕ → ItemRing → Trb
 move_by pipe tag ring =
     SetDequeue (pointer_of (places_of pipe) ring (length ring.put)) (cycle_of (places_of pipe) ring (length ring.put)) tag (target_of pipe) 1
 
-moved-names : (world : World) (pipe : Pipe) (place : Place) → IsLines world.lines → HasStreams pipe → tag_of place ≤ STREAMS
-    → move_trb (moved_world world pipe place).lines pipe (tag_of place) ≡ move_trb world.lines pipe (tag_of place)
-moved-names world pipe place lines streams most =
-    let ring : ItemRing = passed_ring (ring_of world.lines pipe (tag_of place)) in
-    let is : ring_of (moved_world world pipe place).lines pipe (tag_of place) ≡ passed_ring (ring_of world.lines pipe (tag_of place)) =
-    ring_of-acted (with_ring world.lines pipe (tag_of place) (passed_ring (ring_of world.lines pipe (tag_of place)))) (engine_event world.lines.engine) pipe
-    (tag_of place)
-    ∙ ring_of_with_ring world.lines pipe (tag_of place) (passed_ring (ring_of world.lines pipe (tag_of place))) lines
-    (streams-ring pipe (tag_of place) streams (omega arith) most) in
-    ap (move_by pipe (tag_of place)) is
+moved-names : (tags : ℕ) (world : World) (pipe : Pipe) (place : Place) → IsLines world.lines → HasStreams pipe → tag_of tags place ≤ STREAMS
+    → move_trb (moved_world tags world pipe place).lines pipe (tag_of tags place) ≡ move_trb world.lines pipe (tag_of tags place)
+moved-names tags world pipe place lines streams most =
+    let ring : ItemRing = passed_ring (ring_of world.lines pipe (tag_of tags place)) in
+    let is : ring_of (moved_world tags world pipe place).lines pipe (tag_of tags place) ≡ passed_ring (ring_of world.lines pipe (tag_of tags place)) =
+    ring_of-acted (with_ring world.lines pipe (tag_of tags place) (passed_ring (ring_of world.lines pipe (tag_of tags place)))) (engine_event world.lines.engine) pipe
+    (tag_of tags place)
+    ∙ ring_of_with_ring world.lines pipe (tag_of tags place) (passed_ring (ring_of world.lines pipe (tag_of tags place))) lines
+    (streams-ring pipe (tag_of tags place) streams (omega arith) most) in
+    ap (move_by pipe (tag_of tags place)) is
 
 move-fits : (state : Shared) (world : World) (pipe : Pipe) (place : Place) → (at : IsUnderWay state world pipe place MoveAsked) → Fits state world
-    → IsMatched (moved_state state pipe place at.at.part at.entry) → IsSoundWorld (moved_world world pipe place)
-    → Fits (moved_state state pipe place at.at.part at.entry) (moved_world world pipe place)
+    → IsMatched (moved_state state pipe place at.at.part at.entry) → IsSoundWorld (moved_world state.tags world pipe place)
+    → Fits (moved_state state pipe place at.at.part at.entry) (moved_world state.tags world pipe place)
 move-fits state world pipe place at fits matched sound =
-    let after : World = moved_world world pipe place in
+    let after : World = moved_world state.tags world pipe place in
     let now : Shared = moved_state state pipe place at.at.part at.entry in
     let tag = tag-streams state world pipe place MoveAsked at fits in
-    let alike = passed-alike world.lines pipe (tag_of place) at.retiring.streams in
+    let alike = passed-alike world.lines pipe (tag_of state.tags place) at.retiring.streams in
     let event = engine_event world.lines.engine in
     written-fits state now world after place at.at.part at.at.part.unit at.at.client.held (with_entry at.at.part place.slot (passed_on pipe at.entry)) fits
     at.at.there at.at.is_place (moved-writes state world pipe place at fits)
     (record { status = fits.status; data_in = fits.data_in; data_out = fits.data_out })
-    (acted-queues state now world after place fits refl refl alike.command
+    (acted-queues state now world after place fits refl refl refl alike.command
     (ap (λ (es : Events). es.pending ++ engine_event world.lines.engine ∷ []) alike.events)
     (ap engine_event alike.engine) (moved-reads state world pipe place at.retiring.streams at.answered))
     (record {
       retirement = at.hosts;
       commands = (
         ap (λ (r : ItemRing). r.put) alike.engine ∙ at.commands.0
-            ∙ ap (λ trb. known trb ∷ []) (sym (moved-names world pipe place fits.sound.lines at.retiring.streams tag.1)),
+            ∙ ap (λ trb. known trb ∷ []) (sym (moved-names state.tags world pipe place fits.sound.lines at.retiring.streams tag.1)),
         ap (λ (r : ItemRing). r.got + 1) alike.engine ∙ ap (λ taken. taken + 1) at.commands.1,
       );
     }) matched sound
@@ -427,19 +433,19 @@ by-stage state world pipe place StopAsked fits is asked =
     (stop-stepped state pipe place at.at.part is at.at.there)
     (acted-is world.controller (stopped_on world.controller pipe) world.lines world.lines (stop_trb pipe) (event-room state world fits) at.commands
     (stop-executed world.controller world.lines pipe at.retiring.streams
-    (running-same world.controller state pipe (same-pipes state world fits) ∙ at.retiring.stage fits.most_clients)))
+    (running-same world.controller state pipe (same-pipes state world fits) ∙ at.retiring.stage (omega (arith, fits.most_tags)))))
     (λ matched sound. stop-fits state world pipe place at fits matched sound)
 by-stage state world pipe place StopAnswered fits is asked = absurd (false≢true asked)
 by-stage state world pipe place MoveAsked fits is asked =
     let at : IsUnderWay state world pipe place MoveAsked = under-way state world pipe place MoveAsked fits is in
     let tag = tag-streams state world pipe place MoveAsked at fits in
-    let able : IsPassable world pipe place at.entry = passable state world pipe place at fits in
+    let able : IsPassable state.tags world pipe place at.entry = passable state world pipe place at fits in
     engine-done state (moved_state state pipe place at.at.part at.entry) world world.controller
-    (with_ring world.lines pipe (tag_of place) (passed_ring (ring_of world.lines pipe (tag_of place)))) fits
+    (with_ring world.lines pipe (tag_of state.tags place) (passed_ring (ring_of world.lines pipe (tag_of state.tags place)))) fits
     (move-stepped state pipe place at.at.part at.entry is at.at.there at.at.held)
-    (acted-is world.controller world.controller world.lines (with_ring world.lines pipe (tag_of place) (passed_ring (ring_of world.lines pipe (tag_of place))))
-    (move_trb world.lines pipe (tag_of place)) (event-room state world fits) at.commands
-    (move-executed world.controller world.lines pipe (tag_of place) at.retiring.streams tag.0 tag.1
+    (acted-is world.controller world.controller world.lines (with_ring world.lines pipe (tag_of state.tags place) (passed_ring (ring_of world.lines pipe (tag_of state.tags place))))
+    (move_trb world.lines pipe (tag_of state.tags place)) (event-room state world fits) at.commands
+    (move-executed world.controller world.lines pipe (tag_of state.tags place) at.retiring.streams tag.0 tag.1
     (running-same world.controller state pipe (same-pipes state world fits) ∙ at.retiring.stage) able.consumed able.short))
     (λ matched sound. move-fits state world pipe place at fits matched sound)
 by-stage state world pipe place MoveAnswered fits is asked = absurd (false≢true asked)

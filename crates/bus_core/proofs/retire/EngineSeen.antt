@@ -17,9 +17,9 @@ use Rattle.uas_host.specs.declared.Handled.TheVariants.{Engine}
 use Rattle.uas_profile.specs.declared.Place.{Place}
 use Rattle.uas_host.specs.declared.RetirementStage.TheVariants.{Moving}
 use Rattle.uas_host.specs.Events.{Sides, engine_doors, event_doors, handled, handled_engine, is_engine_done}
-use Rattle.uas_host.specs.Retirement.{engine_freed, move_trb, stop_trb, with_engine_command, with_retirement}
+use Rattle.uas_host.specs.Retirement.{engine_freed, move_trb, stop_trb, stopped_lines, with_engine_command, with_retirement}
 use Rattle.uas_host.specs.State.{HostState}
-use Rattle.uas_profile.specs.Places.{tag_of}
+use Rattle.uas_profile.specs.Tags.{tag_of}
 use Rattle.uas_profile.specs.declared.TheConstants.{ENGINE_RING_PLACES, SUCCESS}
 use Rattle.shared_machine.specs.declared.Completion.{Completion}
 use Rattle.shared_machine.specs.declared.Completion.TheVariants.{EngineDone}
@@ -80,12 +80,14 @@ handled-is state world pipe place stage rest trb first =
 
 -- and the doorbells that it rings
 pub doors-are : (state : Shared) (world : World) (pipe : Pipe) (place : Place) (stage : RetirementStage) (rest : List Completion) (trb : Trb)
-    → IsEngineFirst state world pipe place stage rest trb
+    → world.host.tags ≡ state.tags → IsEngineFirst state world pipe place stage rest trb
     → event_doors (event_sides world) (engine_event world.lines.engine)
-    ≡ engine_doors (without_event world.lines) (engine_pointer world) true (Some (host_retirement (under_way pipe place stage)))
-doors-are state world pipe place stage rest trb first =
-    ap (λ b. engine_doors (without_event world.lines) (engine_pointer world) b world.host.retirement) (engine-done world trb first.holds)
-    ∙ ap (engine_doors (without_event world.lines) (engine_pointer world) true) first.at.hosts
+    ≡ engine_doors state.tags (without_event world.lines) (engine_pointer world) true (Some (host_retirement (under_way pipe place stage)))
+doors-are state world pipe place stage rest trb number first =
+    ap (λ t. engine_doors t (without_event world.lines) (engine_pointer world) (is_engine_done (without_event world.lines) (engine_pointer world) SUCCESS)
+    world.host.retirement) number
+    ∙ ap (λ b. engine_doors state.tags (without_event world.lines) (engine_pointer world) b world.host.retirement) (engine-done world trb first.holds)
+    ∙ ap (engine_doors state.tags (without_event world.lines) (engine_pointer world) true) first.at.hosts
 
 -- the shared machine's step
 pub event-stepped : (state : Shared) (world : World) (pipe : Pipe) (place : Place) (stage : RetirementStage) (rest : List Completion) (trb : Trb)
@@ -97,16 +99,18 @@ event-stepped state world pipe place stage rest trb first =
 
 -- the queues without it
 pub engine-queues : (state now : Shared) (world after : World) (place : Place) (rest : List Completion) → Fits state world
-    → state.events ≡ EngineDone place ∷ rest → now.messages ≡ state.messages → now.events ≡ rest → after.lines.command ≡ world.lines.command
-    → after.lines.events.pending ≡ drop 1 world.lines.events.pending → ReadsAlike world after rest → FitsQueues now after
-engine-queues state now world after place rest fits is messages events command pending alike =
+    → now.tags ≡ state.tags → state.events ≡ EngineDone place ∷ rest → now.messages ≡ state.messages → now.events ≡ rest → after.lines.command ≡ world.lines.command
+    → after.lines.events.pending ≡ drop 1 world.lines.events.pending → ReadsAlike state.tags world after rest → FitsQueues now after
+engine-queues state now world after place rest fits number is messages events command pending alike =
     let carried : carried_places state.events ≡ carried_places now.events = ap carried_places is ∙ ap carried_places (sym events) in
     record {
-      put = ap (λ (r : ItemRing). r.put) command ∙ fits.queues.put ∙ ap (λ places. map command_item (places ++ state.messages)) carried
-          ∙ ap (λ messages. map command_item (carried_places now.events ++ messages)) (sym messages);
+      put = ap (λ (r : ItemRing). r.put) command ∙ fits.queues.put ∙ ap (λ places. map (command_item state.tags) (places ++ state.messages)) carried
+          ∙ ap (λ messages. map (command_item state.tags) (carried_places now.events ++ messages)) (sym messages)
+          ∙ ap (λ t. map (command_item t) (carried_places now.events ++ now.messages)) (sym number);
       got = ap (λ (r : ItemRing). r.got) command ∙ fits.queues.got ∙ ap (λ (places : List Place). length places) carried;
-      texts = pending ∙ ap (λ (es : List Event). drop 1 es) (fits.queues.texts ∙ ap (event_texts world 0) is)
-          ∙ sym (texts-alike world after 0 rest alike) ∙ ap (event_texts after 0) (sym events);
+      texts = pending ∙ ap (λ (es : List Event). drop 1 es) (fits.queues.texts ∙ ap (event_texts state.tags world 0) is)
+          ∙ sym (texts-alike state.tags world after 0 rest alike) ∙ ap (event_texts state.tags after 0) (sym events)
+          ∙ ap (λ t. event_texts t after 0 now.events) (sym number);
     }
 
 -- the world after an event, by what the host made of it and the doorbells that it rang
@@ -145,35 +149,35 @@ move-same lines engine events DataIn tag = refl
 move-same lines engine events DataOut tag = refl
 
 -- Set TR Dequeue Pointer follows it
-abbrev stopped_to : World → Pipe → Place → LinesState
-stopped_to world pipe place = with_engine_command (freed_lines world) (move_trb (without_event world.lines) pipe (tag_of place))
+abbrev stopped_to : ℕ → World → Pipe → Place → LinesState
+stopped_to tags world pipe place = with_engine_command (freed_lines world) (move_trb (without_event world.lines) pipe (tag_of tags place))
 
-abbrev asked_world : World → Pipe → Place → World
-asked_world world pipe place = handled_world world
-    (record { host = with_retirement world.host (record { pipe = pipe; place = place; stage = Moving }); lines = stopped_to world pipe place }) (0 ∷ [])
+abbrev asked_world : ℕ → World → Pipe → Place → World
+asked_world tags world pipe place = handled_world world
+    (record { host = with_retirement world.host (record { pipe = pipe; place = place; stage = Moving }); lines = stopped_to tags world pipe place }) (0 ∷ [])
 
 abbrev asked_state : Shared → Pipe → Place → List Completion → Shared
 asked_state state pipe place rest = record state { events = rest; retirement = Some (under_way pipe place MoveAsked) }
 
 asked-fits : (state : Shared) (world : World) (pipe : Pipe) (place : Place) (rest : List Completion)
     → IsEngineFirst state world pipe place StopAnswered rest (stop_trb pipe) → Fits state world
-    → IsMatched (asked_state state pipe place rest) → IsSoundWorld (asked_world world pipe place)
-    → Fits (asked_state state pipe place rest) (asked_world world pipe place)
+    → IsMatched (asked_state state pipe place rest) → IsSoundWorld (asked_world state.tags world pipe place)
+    → Fits (asked_state state pipe place rest) (asked_world state.tags world pipe place)
 asked-fits state world pipe place rest first fits matched sound =
-    let after : World = asked_world world pipe place in
-    let trb : Trb = move_trb (without_event world.lines) pipe (tag_of place) in
-    let named : move_trb (without_event world.lines) pipe (tag_of place) ≡ move_trb (stopped_to world pipe place) pipe (tag_of place) =
-    move-same world.lines world.lines.engine (without_event world.lines).events pipe (tag_of place)
-    ∙ sym (move-same world.lines (stopped_to world pipe place).engine (without_event world.lines).events pipe (tag_of place)) in
+    let after : World = asked_world state.tags world pipe place in
+    let trb : Trb = move_trb (without_event world.lines) pipe (tag_of state.tags place) in
+    let named : move_trb (without_event world.lines) pipe (tag_of state.tags place) ≡ move_trb (stopped_to state.tags world pipe place) pipe (tag_of state.tags place) =
+    move-same world.lines world.lines.engine (without_event world.lines).events pipe (tag_of state.tags place)
+    ∙ sym (move-same world.lines (stopped_to state.tags world pipe place).engine (without_event world.lines).events pipe (tag_of state.tags place)) in
     kept-fits state (asked_state state pipe place rest) world after fits
-    (record { hosts = refl; device = refl; frames = refl; status = refl; data_in = refl; data_out = refl }) refl
+    (record { number = refl; hosts = refl; device = refl; frames = refl; status = refl; data_in = refl; data_out = refl }) refl refl
     (record { status = fits.status; data_in = fits.data_in; data_out = fits.data_out })
-    (engine-queues state (asked_state state pipe place rest) world after place rest fits first.is refl refl refl refl
+    (engine-queues state (asked_state state pipe place rest) world after place rest fits refl first.is refl refl refl refl
     (record { none = first.alone; command_base = refl; moved = λ other some. refl; sent = λ other some. refl }))
     (record {
       retirement = refl;
       commands = (
-        ap (λ (ts : List Item). drop 1 ts ++ known (move_trb (without_event world.lines) pipe (tag_of place)) ∷ []) first.holds.0
+        ap (λ (ts : List Item). drop 1 ts ++ known (move_trb (without_event world.lines) pipe (tag_of state.tags place)) ∷ []) first.holds.0
             ∙ ap (λ t. known t ∷ []) named,
         ap (λ taken. taken - 1) first.holds.1,
       );
@@ -184,15 +188,22 @@ pub stop-seen : (state : Shared) (world : World) (pipe : Pipe) (place : Place) (
     → EventFits state world (engine_event world.lines.engine) (EngineDone place)
 stop-seen state world pipe place rest fits first =
     event-done state (asked_state state pipe place rest) world place (with_retirement world.host (record { pipe = pipe; place = place; stage = Moving }))
-    (stopped_to world pipe place) (0 ∷ []) (ringing place.client (0 ∷ [])) fits
+    (stopped_to state.tags world pipe place) (0 ∷ []) (ringing place.client (0 ∷ [])) fits
     (event-stepped state world pipe place StopAnswered rest (stop_trb pipe) first)
     (handled-is state world pipe place StopAnswered rest (stop_trb pipe) first
+    ∙ ap (λ t. (
+      record {
+        host = with_retirement world.host (record { pipe = pipe; place = place; stage = Moving });
+        lines = stopped_lines t (without_event world.lines) (engine_pointer world) (host_retirement (under_way pipe place StopAnswered));
+      },
+      Engine,
+    )) fits.tags
     ∙ ap (λ lines. (
       record {
         host = with_retirement world.host (record { pipe = pipe; place = place; stage = Moving });
-        lines = with_engine_command lines (move_trb (without_event world.lines) pipe (tag_of place));
+        lines = with_engine_command lines (move_trb (without_event world.lines) pipe (tag_of state.tags place));
       },
       Engine,
     )) (engine-freed world))
-    (doors-are state world pipe place StopAnswered rest (stop_trb pipe) first) refl
+    (doors-are state world pipe place StopAnswered rest (stop_trb pipe) fits.tags first) refl
     (λ matched sound. asked-fits state world pipe place rest first fits matched sound)

@@ -105,13 +105,13 @@ few-begun world pipe host lines doors began None it = omega (arith, ap length it
 few-begun world pipe host lines doors began (Some r) it = omega (arith, ap length it.3)
 
 -- the outcome of a retirement that began, or of none
-abbrev pub begun_as : ℕ → List ℕ → Bool → Outcome
-begun_as tag doors began = cond began (ringing (owner_of tag) doors) idle
+abbrev pub begun_as : ℕ → ℕ → List ℕ → Bool → Outcome
+begun_as tags tag doors began = cond began (ringing (owner_of tags tag) doors) idle
 
 begins-taken : (state : Shared) (world : World) (pipe : Pipe) (tag : ℕ) (host : HostState) (lines : LinesState) (doors : List ℕ) (began : Bool)
     → Fits state world → Begins world pipe host lines doors began (retirement_for world.host pipe tag) → IsHost host → IsLines lines
     → due state (Retire pipe tag) ≡ true
-    → IsTaken state (Retire pipe tag) (world_of host (rung_all world.controller doors) world.device lines world.frames) (begun_as tag doors began)
+    → IsTaken state (Retire pipe tag) (world_of host (rung_all world.controller doors) world.device lines world.frames) (begun_as state.tags tag doors began)
 begins-taken state world pipe tag host lines doors began fits it hosting standing acts =
     let fit : RetireFits state world pipe tag = retirements-fit state world pipe tag fits acts in
     let does = subst (Begins world pipe host lines doors began) fit.begins it in
@@ -123,17 +123,17 @@ begins-taken state world pipe tag host lines doors began fits it hosting standin
     let sound : IsSoundWorld (retire_world world pipe fit.place) =
     record { host = subst IsHost host_is hosting; lines = subst IsLines lines_is standing; frames = fits.sound.frames; tags = fits.sound.tags } in
     due-taken state (Retire pipe tag) _ _ acts
-    (stepped state (world_of host (rung_all world.controller doors) world.device lines world.frames) (Retire pipe tag) (begun_as tag doors began) acts
+    (stepped state (world_of host (rung_all world.controller doors) world.device lines world.frames) (Retire pipe tag) (begun_as state.tags tag doors began) acts
     (subst (λ w. Fits (shared_step state (Retire pipe tag)).0 w) (sym after) (fit.fits sound))
     (retire-marked state pipe tag fit.place fit.named acts
-    ∙ ap (λ client. ringing client (0 ∷ [])) (place-named (length state.parts) tag fit.place fit.named).0
-    ∙ ap (λ ds. ringing (owner_of tag) ds) (sym doors_is)
-    ∙ ap (begun_as tag doors) (sym does.0)))
+    ∙ ap (λ client. ringing client (0 ∷ [])) (place-named state.tags (length state.parts) tag fit.place fit.named).0
+    ∙ ap (λ ds. ringing (owner_of state.tags tag) ds) (sym doors_is)
+    ∙ ap (begun_as state.tags tag doors) (sym does.0)))
 
 rests-taken : (state : Shared) (world : World) (pipe : Pipe) (tag : ℕ) (host : HostState) (lines : LinesState) (doors : List ℕ) (began : Bool)
     → Fits state world → Begins world pipe host lines doors began (retirement_for world.host pipe tag)
     → due state (Retire pipe tag) ≡ false
-    → IsTaken state (Retire pipe tag) (world_of host (rung_all world.controller doors) world.device lines world.frames) (begun_as tag doors began)
+    → IsTaken state (Retire pipe tag) (world_of host (rung_all world.controller doors) world.device lines world.frames) (begun_as state.tags tag doors began)
 rests-taken state world pipe tag host lines doors began fits it rests =
     let does = subst (Begins world pipe host lines doors began) (retire-is-idle state world pipe tag fits rests) it in
     let began_is = does.0 in
@@ -142,15 +142,15 @@ rests-taken state world pipe tag host lines doors began fits it rests =
     let doors_is = does.3 in
     let after : world_of host (rung_all world.controller doors) world.device lines world.frames ≡ world =
     λ i. world_of (host_is i) (rung_all world.controller (doors_is i)) world.device (lines_is i) world.frames in
-    subst (λ w. IsTaken state (Retire pipe tag) w (begun_as tag doors began)) (sym after)
-    (subst (λ b. IsTaken state (Retire pipe tag) world (begun_as tag doors b)) (sym began_is) (idle-taken state (Retire pipe tag) world rests fits))
+    subst (λ w. IsTaken state (Retire pipe tag) w (begun_as state.tags tag doors began)) (sym after)
+    (subst (λ b. IsTaken state (Retire pipe tag) world (begun_as state.tags tag doors b)) (sym began_is) (idle-taken state (Retire pipe tag) world rests fits))
 
 pub retire-taken : (state : Shared) (world : World) (pipe : Pipe) (tag : ℕ) (host : HostState) (lines : LinesState) (doors : List ℕ) (began : Bool)
     → Fits state world → Begins world pipe host lines doors began (retirement_for world.host pipe tag) → IsHost host → IsLines lines
-    → IsTaken state (Retire pipe tag) (world_of host (rung_all world.controller doors) world.device lines world.frames) (begun_as tag doors began)
+    → IsTaken state (Retire pipe tag) (world_of host (rung_all world.controller doors) world.device lines world.frames) (begun_as state.tags tag doors began)
 retire-taken state world pipe tag host lines doors began fits it hosting standing =
     elim (due state (Retire pipe tag)) as (λ b. due state (Retire pipe tag) ≡ b
-    → IsTaken state (Retire pipe tag) (world_of host (rung_all world.controller doors) world.device lines world.frames) (begun_as tag doors began)) [
+    → IsTaken state (Retire pipe tag) (world_of host (rung_all world.controller doors) world.device lines world.frames) (begun_as state.tags tag doors began)) [
       | true ↦ λ acts. begins-taken state world pipe tag host lines doors began fits it hosting standing acts
       | false ↦ λ rests. rests-taken state world pipe tag host lines doors began fits it rests
     ] refl
@@ -166,12 +166,12 @@ no-doors : (pipe : Pipe) → IsResumed pipe []
 unfolding resumed_by
 no-doors pipe = (λ stream. false, ap (map (door (target_of pipe))) (none-passes 1 STREAMS))
 
-engine-resumed : (lines : LinesState) (pointer : ℕ) (done : Bool) (retirement : HostRetirement) → retirement.stage ≡ Moving
-    → IsResumed retirement.pipe (engine_doors lines pointer done (Some retirement))
-engine-resumed lines pointer false retirement moves = no-doors retirement.pipe
-engine-resumed lines pointer true retirement moves =
-    subst (λ stage. IsResumed retirement.pipe (stage_doors lines pointer retirement stage)) (sym moves)
-    (resumed_doors-rung (moved_lines lines pointer retirement) retirement.pipe)
+engine-resumed : (tags : ℕ) (lines : LinesState) (pointer : ℕ) (done : Bool) (retirement : HostRetirement) → retirement.stage ≡ Moving
+    → IsResumed retirement.pipe (engine_doors tags lines pointer done (Some retirement))
+engine-resumed tags lines pointer false retirement moves = no-doors retirement.pipe
+engine-resumed tags lines pointer true retirement moves =
+    subst (λ stage. IsResumed retirement.pipe (stage_doors tags lines pointer retirement stage)) (sym moves)
+    (resumed_doors-rung (moved_lines tags lines pointer retirement) retirement.pipe)
 
 -- the doorbells of an event, while Set TR Dequeue Pointer is under way, are of streams of its pipe, by rising stream
 pub event-resumed : (sides : EventSides) (event : Event) (retirement : HostRetirement) (doors : List ℕ) → sides.host.retirement ≡ Some retirement
@@ -180,8 +180,8 @@ event-resumed sides (Transfer pointer residual code endpoint slot) retirement do
     subst (IsResumed retirement.pipe) (sym is) (no-doors retirement.pipe)
 event-resumed sides (CommandCompletion pointer code slot) retirement doors under_way moves is =
     subst (IsResumed retirement.pipe)
-    (sym (is ∙ ap (engine_doors sides.lines pointer (is_engine_done sides.lines pointer code)) under_way))
-    (engine-resumed sides.lines pointer (is_engine_done sides.lines pointer code) retirement moves)
+    (sym (is ∙ ap (engine_doors sides.host.tags sides.lines pointer (is_engine_done sides.lines pointer code)) under_way))
+    (engine-resumed sides.host.tags sides.lines pointer (is_engine_done sides.lines pointer code) retirement moves)
 
 -- a completion of the controller's own command ring is of no TD
 not-matched : (sides : EventSides) (pointer : ℕ) (done : Bool) (retirement : Option HostRetirement) (tag : ℕ)
@@ -191,12 +191,12 @@ not-matched sides pointer true None tag is = absurd (cc)
 not-matched sides pointer true (Some retirement) tag is = absurd (cc)
 
 -- so what is told of an event of a TD has no doorbell
-pub td-told : (sides : EventSides) (frames : List TagBuffers) (event : Event) (after : EventSides) (tag : ℕ) (handled_it : Handled)
+pub td-told : (tags : ℕ) (sides : EventSides) (frames : List TagBuffers) (event : Event) (after : EventSides) (tag : ℕ) (handled_it : Handled)
     (retirement : Option HostRetirement) (rung doors : List ℕ) → handled sides frames event ≡ (after, handled_it) → handled_it ≡ Matched tag
-    → event_doors sides event ≡ rung → doors ≡ [] → handled_as retirement rung handled_it ≡ ringing (owner_of tag) doors
-td-told sides frames (Transfer pointer residual code endpoint slot) after tag handled_it retirement rung doors so is rang none =
-    ap (handled_as retirement rung) is ∙ ap (ringing (owner_of tag)) (sym rang ∙ sym none)
-td-told sides frames (CommandCompletion pointer code slot) after tag handled_it retirement rung doors so is rang none =
+    → event_doors sides event ≡ rung → doors ≡ [] → handled_as tags retirement rung handled_it ≡ ringing (owner_of tags tag) doors
+td-told tags sides frames (Transfer pointer residual code endpoint slot) after tag handled_it retirement rung doors so is rang none =
+    ap (handled_as tags retirement rung) is ∙ ap (ringing (owner_of tags tag)) (sym rang ∙ sym none)
+td-told tags sides frames (CommandCompletion pointer code slot) after tag handled_it retirement rung doors so is rang none =
     absurd (not-matched sides pointer (is_engine_done sides.lines pointer code) sides.host.retirement tag (ap (λ did. did.1) so ∙ is))
 
 -- a step whose outcome is told so

@@ -7,7 +7,7 @@ use Rattle.uas_profile.specs.declared.Pipe.{Pipe}
 use Rattle.uas_profile.specs.declared.Place.{Place}
 use Rattle.uas_host.specs.declared.RetirementStage.TheVariants.{Stopping}
 use Rattle.uas_host.specs.Retirement.{retirement_for, stop_trb}
-use Rattle.uas_profile.specs.Places.{place_of}
+use Rattle.uas_profile.specs.Tags.{place_of}
 use Rattle.shared_machine.specs.declared.Retirement.{Retirement}
 use Rattle.shared_machine.specs.declared.RetirementStage.TheVariants.{StopAsked}
 use Rattle.shared_machine.specs.declared.Step.TheVariants.{Retire}
@@ -36,18 +36,19 @@ abbrev begun_state : Shared → Pipe → Place → Shared
 begun_state state pipe place = record state { retirement = Some (begun pipe place) }
 
 begins-is : (state : Shared) (world : World) (pipe : Pipe) (tag : ℕ) (place : Place) → Fits state world → due state (Retire pipe tag) ≡ true
-    → place_of (length state.parts) tag ≡ Some place
+    → place_of state.tags (length state.parts) tag ≡ Some place
     → retirement_for world.host pipe tag ≡ Some (record { pipe = pipe; place = place; stage = Stopping })
 begins-is state world pipe tag place fits is_due named =
-    ap (λ b. cond b (option_map (λ (p : Place). record { pipe = pipe; place = p; stage = Stopping }) (place_of (length world.host.clients) tag)) None)
+    ap (λ b. cond b (option_map (λ (p : Place). record { pipe = pipe; place = p; stage = Stopping }) (place_of world.host.tags (length world.host.clients) tag)) None)
     (sym (retire-due state world pipe tag fits) ∙ is_due)
-    ∙ ap (λ n. option_map (λ (p : Place). record { pipe = pipe; place = p; stage = Stopping }) (place_of n tag)) (clients-length world state.parts fits.clients)
+    ∙ ap (λ t. option_map (λ (p : Place). record { pipe = pipe; place = p; stage = Stopping }) (place_of t (length world.host.clients) tag)) fits.tags
+    ∙ ap (λ n. option_map (λ (p : Place). record { pipe = pipe; place = p; stage = Stopping }) (place_of state.tags n tag)) (clients-length state.tags world state.parts fits.clients)
     ∙ ap (λ o. option_map (λ (p : Place). record { pipe = pipe; place = p; stage = Stopping }) o) named
 
 begun-queues : (state : Shared) (world : World) (pipe : Pipe) (place : Place) → Fits state world → state.retirement ≡ None
     → FitsQueues (begun_state state pipe place) (retire_world world pipe place)
 begun-queues state world pipe place fits none =
-    let alike : ReadsAlike world (retire_world world pipe place) state.events = record {
+    let alike : ReadsAlike state.tags world (retire_world world pipe place) state.events = record {
       none = fits.matched.retired ∙ ap answered_places none;
       command_base = refl;
       moved = λ other some. refl;
@@ -56,22 +57,22 @@ begun-queues state world pipe place fits none =
     record {
       put = fits.queues.put;
       got = fits.queues.got;
-      texts = fits.queues.texts ∙ sym (texts-alike world (retire_world world pipe place) 0 state.events alike);
+      texts = fits.queues.texts ∙ sym (texts-alike state.tags world (retire_world world pipe place) 0 state.events alike);
     }
 
 begun-fits : (state : Shared) (world : World) (pipe : Pipe) (place : Place) → Fits state world → state.retirement ≡ None
     → IsMatched (begun_state state pipe place) → IsSoundWorld (retire_world world pipe place)
     → Fits (begun_state state pipe place) (retire_world world pipe place)
 begun-fits state world pipe place fits none matched sound =
-    let empty : HoldsTrbs world.lines.engine [] 0 = subst (HoldsCommandOf world.lines) none fits.engine.commands in
+    let empty : HoldsTrbs world.lines.engine [] 0 = subst (HoldsCommandOf state.tags world.lines) none fits.engine.commands in
     kept-fits state (begun_state state pipe place) world (retire_world world pipe place) fits
-    (record { hosts = refl; device = refl; frames = refl; status = refl; data_in = refl; data_out = refl }) refl
+    (record { number = refl; hosts = refl; device = refl; frames = refl; status = refl; data_in = refl; data_out = refl }) refl refl
     (record { status = fits.status; data_in = fits.data_in; data_out = fits.data_out })
     (begun-queues state world pipe place fits none)
     (record { retirement = refl; commands = (ap (λ (ts : List Item). ts ++ known (stop_trb pipe) ∷ []) empty.0, empty.1) }) matched sound
 
 begun-stepped : (state : Shared) (pipe : Pipe) (tag : ℕ) (place : Place) → due state (Retire pipe tag) ≡ true
-    → place_of (length state.parts) tag ≡ Some place → (shared_step state (Retire pipe tag)).0 ≡ begun_state state pipe place
+    → place_of state.tags (length state.parts) tag ≡ Some place → (shared_step state (Retire pipe tag)).0 ≡ begun_state state pipe place
 begun-stepped state pipe tag place is_due named =
     ap (λ b. (cond b (due_step state (Retire pipe tag)) (state, idle)).0) is_due ∙ ap (λ p. (retire_step state pipe p).0) named
 
@@ -80,7 +81,7 @@ retirements-fit state world pipe tag fits is_due =
     let both = and_parts (is_none state.retirement) (place_fact state tag (is_left_over_on pipe)) is_due in
     let found : IsDueAt state tag (is_left_over_on pipe) = place_fact-due state tag (is_left_over_on pipe) both.1 in
     let none : state.retirement ≡ None = none-is state.retirement both.0 in
-    let empty : HoldsTrbs world.lines.engine [] 0 = subst (HoldsCommandOf world.lines) none fits.engine.commands in
+    let empty : HoldsTrbs world.lines.engine [] 0 = subst (HoldsCommandOf state.tags world.lines) none fits.engine.commands in
     let stepped = begun-stepped state pipe tag found.place is_due found.named in
     record {
       place = found.place;
@@ -94,5 +95,5 @@ retirements-fit state world pipe tag fits is_due =
 
 pub retire-is-idle : RetireIsIdle
 retire-is-idle state world pipe tag fits undue =
-    ap (λ b. cond b (option_map (λ (p : Place). record { pipe = pipe; place = p; stage = Stopping }) (place_of (length world.host.clients) tag)) None)
+    ap (λ b. cond b (option_map (λ (p : Place). record { pipe = pipe; place = p; stage = Stopping }) (place_of world.host.tags (length world.host.clients) tag)) None)
     (sym (retire-due state world pipe tag fits) ∙ undue)

@@ -10,7 +10,7 @@ use Rattle.cycle_ring.specs.Ring.{pointer_of, opening}
 use Rattle.cycle_ring.specs.Items.{ItemRing, known}
 use Rattle.event_ring.specs.declared.Event.{Event}
 use Rattle.event_ring.specs.declared.Event.TheVariants.{Transfer}
-use Rattle.uas_profile.specs.declared.TheConstants.{TAGS, GREATEST_TAG, STREAM_RING_PLACES, STATUS_BYTES, SLOT, SHORT_PACKET}
+use Rattle.uas_profile.specs.declared.TheConstants.{STREAMS, STREAM_RING_PLACES, STATUS_BYTES, SLOT, SHORT_PACKET}
 use Rattle.uas_profile.specs.declared.Pipe.TheVariants.{Command, Status, DataIn, DataOut}
 use Rattle.stream_array.specs.Rings.{stream_ring}
 use Rattle.frame_store.specs.Buffers.{held_for, no_buffers, with_held}
@@ -36,7 +36,7 @@ use Rattle.uas_target.specs.declared.Phase.TheVariants.{Absent, Gives, Takes, En
 use Rattle.uas_target.specs.Device.{answered, task_of, wanted, without_task}
 use Rattle.uas_target.specs.Tasks.{wanted_way, task_answer, task_wants}
 use Rattle.uas_profile.specs.declared.Place.{Place}
-use Rattle.uas_profile.specs.Places.{place_of, tag_of}
+use Rattle.uas_profile.specs.Tags.{place_of, tag_of}
 use Rattle.uas_host.specs.Tds.{status_td}
 use Rattle.xhci_ctl.specs.declared.Acted.{Acted}
 use Rattle.xhci_ctl.specs.declared.Acted.TheVariants.{Acted as ActedOn, Idle}
@@ -84,48 +84,48 @@ ended-answer unit tag request (WithResponse code) = refl
 
 ended-task : (state : Shared) (world : World) (place : Place) (entry : Entry) (answer : TaskAnswer) → IsPlaced state world place entry
     → entry.task.phase ≡ Begun (Ended answer)
-    → task_of world.device (tag_of place) ≡ begun_task (Some place.client) entry.task.request (Ended answer)
+    → task_of world.device (tag_of state.tags place) ≡ begun_task (Some place.client) entry.task.request (Ended answer)
 ended-task state world place entry answer at ended =
     at.cell.task ∙ ap (λ p. phase_task (Some place.client) entry.task.request p) ended
 
 -- the world after the answer of a place was handed over
-abbrev pub sent_world : World → Place → List ℕ → World
-sent_world world place text = record world {
-  lines = completed world.lines Status (tag_of place) (pointer_of STREAM_RING_PLACES (stream_ring world.lines.status (tag_of place)) 0)
+abbrev pub sent_world : ℕ → World → Place → List ℕ → World
+sent_world tags world place text = record world {
+  lines = completed world.lines Status (tag_of tags place) (pointer_of STREAM_RING_PLACES (stream_ring world.lines.status (tag_of tags place)) 0)
       (STATUS_BYTES - length text) SHORT_PACKET;
-  frames = with_held world.frames (tag_of place) (with_status (held_for world.frames (tag_of place)) text);
-  device = without_task world.device (tag_of place);
+  frames = with_held world.frames (tag_of tags place) (with_status (held_for world.frames (tag_of tags place)) text);
+  device = without_task world.device (tag_of tags place);
 }
 
 pub sent-is : (state : Shared) (world : World) (place : Place) (entry : Entry) (answer : TaskAnswer) → IsPlaced state world place entry → Fits state world
-    → entry.task.phase ≡ Begun (Ended answer) → is_open state.status (tag_of place) ≡ true
-    → sent_by world.controller (sides_in world) (tag_of place)
-    ≡ (sides_in (sent_world world place (answer_text (tag_of place) answer)), ActedOn (tag_of place))
+    → entry.task.phase ≡ Begun (Ended answer) → is_open state.status (tag_of state.tags place) ≡ true
+    → sent_by world.controller (sides_in world) (tag_of state.tags place)
+    ≡ (sides_in (sent_world state.tags world place (answer_text (tag_of state.tags place) answer)), ActedOn (tag_of state.tags place))
 sent-is state world place entry answer at fits ended opened =
     let tag = tag-bounds state world place entry at fits in
     let ready : IsStatusReady state world place entry = status-ready state world place entry answer at ended in
-    let armed : is_armed world.controller world.lines Status (tag_of place) ≡ true =
+    let armed : is_armed world.controller world.lines Status (tag_of state.tags place) ≡ true =
     status-armed state world place entry at fits ready ∙ ap (λ b. b && true) opened in
-    ap (λ t. sent_as world.controller (sides_in world) (tag_of place) (option_map_or task_wants t Absent) (option_and_then (task_answer (tag_of place)) t))
+    ap (λ t. sent_as world.controller (sides_in world) (tag_of state.tags place) (option_map_or task_wants t Absent) (option_and_then (task_answer (tag_of state.tags place)) t))
     (ended-task state world place entry answer at ended)
-    ∙ ap (λ w. sent_as world.controller (sides_in world) (tag_of place) w
-    (option_and_then (task_answer (tag_of place)) (begun_task (Some place.client) entry.task.request (Ended answer))))
+    ∙ ap (λ w. sent_as world.controller (sides_in world) (tag_of state.tags place) w
+    (option_and_then (task_answer (tag_of state.tags place)) (begun_task (Some place.client) entry.task.request (Ended answer))))
     (ended-wants (Some place.client) entry.task.request answer)
-    ∙ ap (sent_as world.controller (sides_in world) (tag_of place) Ends) (ended-answer (Some place.client) (tag_of place) entry.task.request answer)
-    ∙ ap (λ text. on_front (sides_in world) (sent_at (sides_in world) (tag_of place) text)
-    (cond (is_armed world.controller world.lines Status (tag_of place)) (room_front world.lines Status (tag_of place)) None))
-    (sym (answer-unit (tag_of place) answer))
-    ∙ ap (λ b. on_front (sides_in world) (sent_at (sides_in world) (tag_of place) (answer_text (tag_of place) answer))
-    (cond b (room_front world.lines Status (tag_of place)) None)) armed
-    ∙ ap (λ b. on_front (sides_in world) (sent_at (sides_in world) (tag_of place) (answer_text (tag_of place) answer))
-    (cond b (front_at STREAM_RING_PLACES (stream_ring world.lines.status (tag_of place))) None)) (event-room state world fits)
-    ∙ ap (on_front (sides_in world) (sent_at (sides_in world) (tag_of place) (answer_text (tag_of place) answer))) ready.front
+    ∙ ap (sent_as world.controller (sides_in world) (tag_of state.tags place) Ends) (ended-answer (Some place.client) (tag_of state.tags place) entry.task.request answer)
+    ∙ ap (λ text. on_front (sides_in world) (sent_at (sides_in world) (tag_of state.tags place) text)
+    (cond (is_armed world.controller world.lines Status (tag_of state.tags place)) (room_front world.lines Status (tag_of state.tags place)) None))
+    (sym (answer-unit (tag_of state.tags place) answer))
+    ∙ ap (λ b. on_front (sides_in world) (sent_at (sides_in world) (tag_of state.tags place) (answer_text (tag_of state.tags place) answer))
+    (cond b (room_front world.lines Status (tag_of state.tags place)) None)) armed
+    ∙ ap (λ b. on_front (sides_in world) (sent_at (sides_in world) (tag_of state.tags place) (answer_text (tag_of state.tags place) answer))
+    (cond b (front_at STREAM_RING_PLACES (stream_ring world.lines.status (tag_of state.tags place))) None)) (event-room state world fits)
+    ∙ ap (on_front (sides_in world) (sent_at (sides_in world) (tag_of state.tags place) (answer_text (tag_of state.tags place) answer))) ready.front
     ∙ ap (λ frames. (
-      record (sides_in (sent_world world place (answer_text (tag_of place) answer))) { frames = frames },
-      ActedOn (tag_of place),
+      record (sides_in (sent_world state.tags world place (answer_text (tag_of state.tags place) answer))) { frames = frames },
+      ActedOn (tag_of state.tags place),
     ))
-    (status-written world.frames (tag_of place) (answer_text (tag_of place) answer) fits.sound.frames tag.0 (omega (arith, tag.1))
-    (answer-most (tag_of place) answer))
+    (status-written world.frames (tag_of state.tags place) (answer_text (tag_of state.tags place) answer) fits.sound.frames tag.0 (omega (arith, tag.1))
+    (answer-most (tag_of state.tags place) answer))
 
 -- THE CELL
 
@@ -135,24 +135,24 @@ taken_ring ring = record ring { got = ring.got + 1 }
 abbrev pub sent_cell : Cell → List ℕ → Cell
 sent_cell cell text = record cell { task = None; status = taken_ring cell.status; buffers = with_status cell.buffers text }
 
-pub cell-sent : (client count : ℕ) (place : Place) (entry : Entry) (answer : TaskAnswer) (cell : Cell) → entry.task.phase ≡ Begun (Ended answer)
+pub cell-sent : (tags : ℕ) (client count : ℕ) (place : Place) (entry : Entry) (answer : TaskAnswer) (cell : Cell) → entry.task.phase ≡ Begun (Ended answer)
     → entry.status_td ≡ pushed
-    → FitsCell client count place entry cell
-    → FitsCell client count place (sent_to entry answer) (sent_cell cell (answer_text (tag_of place) answer))
-cell-sent client count place entry answer cell ended td fits = record {
+    → FitsCell tags client count place entry cell
+    → FitsCell tags client count place (sent_to entry answer) (sent_cell cell (answer_text (tag_of tags place) answer))
+cell-sent tags client count place entry answer cell ended td fits = record {
   held = fits.held
       ∙ ap (λ p. Some (record (host_side entry) { told = told_by p entry.status_td.state })) ended
       ∙ ap (λ t. Some (record (host_side entry) { told = t })) (sym (ap (λ t. told_sent answer t.state) td));
   task = refl;
   status =
-      let holds : HoldsTrbs cell.status (status_td (tag_of place)) 0 = subst (λ t. HoldsTd cell.status (status_td (tag_of place)) t) td fits.status in
-      subst (λ t. HoldsTd (taken_ring cell.status) (status_td (tag_of place)) (with_trb_taken t)) (sym td) (holds.0, ap (λ n. n + 1) holds.1);
+      let holds : HoldsTrbs cell.status (status_td (tag_of tags place)) 0 = subst (λ t. HoldsTd cell.status (status_td (tag_of tags place)) t) td fits.status in
+      subst (λ t. HoldsTd (taken_ring cell.status) (status_td (tag_of tags place)) (with_trb_taken t)) (sym td) (holds.0, ap (λ n. n + 1) holds.1);
   data_in = fits.data_in;
   data_out = fits.data_out;
   lent = fits.lent;
   bytes = fits.bytes;
   unit = fits.unit;
-  answer = text-begins cell.buffers.status (answer_text (tag_of place) answer);
+  answer = text-begins cell.buffers.status (answer_text (tag_of tags place) answer);
   sound = sound_sent entry.task.request fits.sound;
 }
   where
@@ -161,91 +161,91 @@ cell-sent client count place entry answer cell ended td fits = record {
     sound_sent (Manage what noted) sound = tt
 
 -- the cells of the world after it
-sent-here : (world : World) (place : Place) (text : List ℕ) → IsSoundWorld world → 1 ≤ tag_of place → tag_of place ≤ GREATEST_TAG
-    → cell_at (sent_world world place text) place ≡ sent_cell (cell_at world place) text
-sent-here world place text sound some most =
-    let task : task_of (without_task world.device (tag_of place)) (tag_of place) ≡ None =
-    held_under-with_same world.device.tasks (tag_of place) None (omega (arith, some)) (omega (arith, most, sound.tags)) in
-    let ring : stream_ring (sent_world world place text).lines.status (tag_of place) ≡ taken_ring (stream_ring world.lines.status (tag_of place)) =
-    get_or-set_same world.lines.status (tag_of place - 1) (taken_ring (stream_ring world.lines.status (tag_of place))) (opening 0)
+sent-here : (tags : ℕ) (world : World) (place : Place) (text : List ℕ) → IsSoundWorld world → 1 ≤ tag_of tags place → tag_of tags place ≤ STREAMS
+    → cell_at tags (sent_world tags world place text) place ≡ sent_cell (cell_at tags world place) text
+sent-here tags world place text sound some most =
+    let task : task_of (without_task world.device (tag_of tags place)) (tag_of tags place) ≡ None =
+    held_under-with_same world.device.tasks (tag_of tags place) None (omega (arith, some)) (omega (arith, most, sound.tags)) in
+    let ring : stream_ring (sent_world tags world place text).lines.status (tag_of tags place) ≡ taken_ring (stream_ring world.lines.status (tag_of tags place)) =
+    get_or-set_same world.lines.status (tag_of tags place - 1) (taken_ring (stream_ring world.lines.status (tag_of tags place))) (opening 0)
     (omega (arith, some, most, sound.lines.status)) in
-    let buffers : held_for (sent_world world place text).frames (tag_of place) ≡ with_status (held_for world.frames (tag_of place)) text =
-    get_or-set_same world.frames (tag_of place - 1) (with_status (held_for world.frames (tag_of place)) text) no_buffers
+    let buffers : held_for (sent_world tags world place text).frames (tag_of tags place) ≡ with_status (held_for world.frames (tag_of tags place)) text =
+    get_or-set_same world.frames (tag_of tags place - 1) (with_status (held_for world.frames (tag_of tags place)) text) no_buffers
     (omega (arith, some, most, sound.frames.tags)) in
-    λ i. record (cell_at world place) { task = task i; status = ring i; buffers = buffers i }
+    λ i. record (cell_at tags world place) { task = task i; status = ring i; buffers = buffers i }
 
-sent-others : (world : World) (place : Place) (text : List ℕ) → KeepsOthers world (sent_world world place text) place
-sent-others world place text other at inside apart =
-    let behind : tag_of (place_in other at) - 1 ≡ tag_of place - 1 → ⊥ = λ same. apart (omega (arith, same)) in
-    let task : task_of (without_task world.device (tag_of place)) (tag_of (place_in other at)) ≡ task_of world.device (tag_of (place_in other at)) =
-    held_under-with_other world.device.tasks (tag_of place) (tag_of (place_in other at)) None apart in
-    let ring : stream_ring (sent_world world place text).lines.status (tag_of (place_in other at)) ≡ stream_ring world.lines.status
-    (tag_of (place_in other at)) =
-    get_or-set_other world.lines.status (tag_of place - 1) (tag_of (place_in other at) - 1) (taken_ring (stream_ring world.lines.status (tag_of place)))
+sent-others : (tags : ℕ) (world : World) (place : Place) (text : List ℕ) → KeepsOthers tags world (sent_world tags world place text) place
+sent-others tags world place text other at inside apart =
+    let behind : tag_of tags (place_in other at) - 1 ≡ tag_of tags place - 1 → ⊥ = λ same. apart (omega (arith, same)) in
+    let task : task_of (without_task world.device (tag_of tags place)) (tag_of tags (place_in other at)) ≡ task_of world.device (tag_of tags (place_in other at)) =
+    held_under-with_other world.device.tasks (tag_of tags place) (tag_of tags (place_in other at)) None apart in
+    let ring : stream_ring (sent_world tags world place text).lines.status (tag_of tags (place_in other at)) ≡ stream_ring world.lines.status
+    (tag_of tags (place_in other at)) =
+    get_or-set_other world.lines.status (tag_of tags place - 1) (tag_of tags (place_in other at) - 1) (taken_ring (stream_ring world.lines.status (tag_of tags place)))
     (opening 0) behind in
-    let buffers : held_for (sent_world world place text).frames (tag_of (place_in other at)) ≡ held_for world.frames (tag_of (place_in other at)) =
-    get_or-set_other world.frames (tag_of place - 1) (tag_of (place_in other at) - 1)
-    (with_status (held_for world.frames (tag_of place)) text) no_buffers behind in
-    λ i. record (cell_at world (place_in other at)) { task = task i; status = ring i; buffers = buffers i }
+    let buffers : held_for (sent_world tags world place text).frames (tag_of tags (place_in other at)) ≡ held_for world.frames (tag_of tags (place_in other at)) =
+    get_or-set_other world.frames (tag_of tags place - 1) (tag_of tags (place_in other at) - 1)
+    (with_status (held_for world.frames (tag_of tags place)) text) no_buffers behind in
+    λ i. record (cell_at tags world (place_in other at)) { task = task i; status = ring i; buffers = buffers i }
 
 -- THE QUEUES
 
 -- the event of the status TD, as the cell tells it afterwards
-sent-text : (world : World) (place : Place) (request : Request) (answer : TaskAnswer) (k : ℕ) → IsSoundWorld world → IsRequestIn place.slot request
+sent-text : (tags : ℕ) (world : World) (place : Place) (request : Request) (answer : TaskAnswer) (k : ℕ) → IsSoundWorld world → IsRequestIn tags place.slot request
     → IsPhaseOf request (Sent answer)
-    → 1 ≤ tag_of place → tag_of place ≤ GREATEST_TAG
-    → (stream_ring world.lines.status (tag_of place)).put ≡ map known (status_td (tag_of place))
-    → event_texts (sent_world world place (answer_text (tag_of place) answer)) k (StatusDone place ∷ [])
-    ≡ Transfer (pointer_of STREAM_RING_PLACES (stream_ring world.lines.status (tag_of place)) 0)
-    (STATUS_BYTES - length (answer_text (tag_of place) answer)) SHORT_PACKET (endpoint_of Status) SLOT ∷ []
-sent-text world place request answer k sound asks answers some most put =
-    ap (λ (c : Cell). status_event place.slot c.status c.buffers.status ∷ [])
-    (sent-here world place (answer_text (tag_of place) answer) sound some most)
-    ∙ ap (λ trbs. Transfer (pointer_of STREAM_RING_PLACES (stream_ring world.lines.status (tag_of place)) (length trbs - 1))
-    (STATUS_BYTES - unit_len place.slot (with_bytes_at (held_for world.frames (tag_of place)).status 0 (answer_text (tag_of place) answer)))
+    → 1 ≤ tag_of tags place → tag_of tags place ≤ STREAMS
+    → (stream_ring world.lines.status (tag_of tags place)).put ≡ map known (status_td (tag_of tags place))
+    → event_texts tags (sent_world tags world place (answer_text (tag_of tags place) answer)) k (StatusDone place ∷ [])
+    ≡ Transfer (pointer_of STREAM_RING_PLACES (stream_ring world.lines.status (tag_of tags place)) 0)
+    (STATUS_BYTES - length (answer_text (tag_of tags place) answer)) SHORT_PACKET (endpoint_of Status) SLOT ∷ []
+sent-text tags world place request answer k sound asks answers some most put =
+    ap (λ (c : Cell). status_event tags place.slot c.status c.buffers.status ∷ [])
+    (sent-here tags world place (answer_text (tag_of tags place) answer) sound some most)
+    ∙ ap (λ trbs. Transfer (pointer_of STREAM_RING_PLACES (stream_ring world.lines.status (tag_of tags place)) (length trbs - 1))
+    (STATUS_BYTES - unit_len tags place.slot (with_bytes_at (held_for world.frames (tag_of tags place)).status 0 (answer_text (tag_of tags place) answer)))
     SHORT_PACKET (endpoint_of Status) SLOT ∷ []) put
-    ∙ ap (λ n. Transfer (pointer_of STREAM_RING_PLACES (stream_ring world.lines.status (tag_of place)) 0) (STATUS_BYTES - n) SHORT_PACKET
+    ∙ ap (λ n. Transfer (pointer_of STREAM_RING_PLACES (stream_ring world.lines.status (tag_of tags place)) 0) (STATUS_BYTES - n) SHORT_PACKET
     (endpoint_of Status) SLOT ∷ [])
-    (answer-len (tag_of place) place.slot request answer (held_for world.frames (tag_of place)).status asks answers)
+    (answer-len tags (tag_of tags place) place.slot request answer (held_for world.frames (tag_of tags place)).status asks answers)
 
 pub sent-queues : (state : Shared) (world : World) (place : Place) (request : Request) (answer : TaskAnswer) (part : Part) (new : Entry) → Fits state world
-    → place.slot < TAGS → IsRequestIn place.slot request → IsPhaseOf request (Sent answer)
-    → 1 ≤ tag_of place → tag_of place ≤ GREATEST_TAG → (stream_ring world.lines.status (tag_of place)).put ≡ map known (status_td (tag_of place))
+    → place.slot < state.tags → IsRequestIn state.tags place.slot request → IsPhaseOf request (Sent answer)
+    → 1 ≤ tag_of state.tags place → tag_of state.tags place ≤ STREAMS → (stream_ring world.lines.status (tag_of state.tags place)).put ≡ map known (status_td (tag_of state.tags place))
     → status_events place state.events ≡ 0
     → FitsQueues (acted_state state place part part.unit new state.messages (StatusDone place ∷ []))
-    (sent_world world place (answer_text (tag_of place) answer))
+    (sent_world state.tags world place (answer_text (tag_of state.tags place) answer))
 sent-queues state world place request answer part new fits within asks answers some most put none =
-    let event : Event = Transfer (pointer_of STREAM_RING_PLACES (stream_ring world.lines.status (tag_of place)) 0)
-    (STATUS_BYTES - length (answer_text (tag_of place) answer)) SHORT_PACKET (endpoint_of Status) SLOT in
+    let event : Event = Transfer (pointer_of STREAM_RING_PLACES (stream_ring world.lines.status (tag_of state.tags place)) 0)
+    (STATUS_BYTES - length (answer_text (tag_of state.tags place) answer)) SHORT_PACKET (endpoint_of Status) SLOT in
     let more : carried_places (state.events ++ StatusDone place ∷ []) ≡ carried_places state.events =
     carried_places-append state.events (StatusDone place ∷ []) ∙ append-nil (carried_places state.events) in
-    let kept : event_texts (sent_world world place (answer_text (tag_of place) answer)) 0 state.events ≡ event_texts world 0 state.events =
-    event_texts-one state world (sent_world world place (answer_text (tag_of place) answer)) place 0 fits.matched within (refl, refl) refl
-    (sent-others world place (answer_text (tag_of place) answer)) (λ waits. (refl, refl)) (λ waits. absurd (omega (arith, waits, none))) in
+    let kept : event_texts state.tags (sent_world state.tags world place (answer_text (tag_of state.tags place) answer)) 0 state.events ≡ event_texts state.tags world 0 state.events =
+    event_texts-one state world (sent_world state.tags world place (answer_text (tag_of state.tags place) answer)) place 0 fits.matched within (refl, refl) refl
+    (sent-others state.tags world place (answer_text (tag_of state.tags place) answer)) (λ waits. (refl, refl)) (λ waits. absurd (omega (arith, waits, none))) in
     record {
-      put = fits.queues.put ∙ ap (λ ps. map command_item (ps ++ state.messages)) (sym more);
+      put = fits.queues.put ∙ ap (λ ps. map (command_item state.tags) (ps ++ state.messages)) (sym more);
       got = fits.queues.got ∙ ap length (sym more);
       texts = ap (λ es. es ++ event ∷ []) (fits.queues.texts ∙ sym kept)
-          ∙ ap (λ es. event_texts (sent_world world place (answer_text (tag_of place) answer)) 0 state.events ++ es)
-          (sym (sent-text world place request answer (0 + length (carried_places state.events)) fits.sound asks answers some most put))
-          ∙ sym (event_texts-append (sent_world world place (answer_text (tag_of place) answer)) 0 state.events (StatusDone place ∷ []));
+          ∙ ap (λ es. event_texts state.tags (sent_world state.tags world place (answer_text (tag_of state.tags place) answer)) 0 state.events ++ es)
+          (sym (sent-text state.tags world place request answer (0 + length (carried_places state.events)) fits.sound asks answers some most put))
+          ∙ sym (event_texts-append state.tags (sent_world state.tags world place (answer_text (tag_of state.tags place) answer)) 0 state.events (StatusDone place ∷ []));
     }
 
 -- THE STEP
 
 -- the controller took a TRB of the status stream, whose enqueue place is where it was
-sent-ends : (state : Shared) (world : World) (place : Place) (text : List ℕ) → IsSoundWorld world → 1 ≤ tag_of place → tag_of place ≤ GREATEST_TAG
-    → EndsStay state world (sent_world world place text) place
+sent-ends : (state : Shared) (world : World) (place : Place) (text : List ℕ) → IsSoundWorld world → 1 ≤ tag_of state.tags place → tag_of state.tags place ≤ STREAMS
+    → EndsStay state world (sent_world state.tags world place text) place
 sent-ends state world place text sound some most Command streams left = absurd streams
 sent-ends state world place text sound some most Status streams left =
-    let ring = ap (λ (c : Cell). c.status) (sent-here world place text sound some most) in
+    let ring = ap (λ (c : Cell). c.status) (sent-here state.tags world place text sound some most) in
     record { base = ap (λ (r : ItemRing). r.base) ring; at = ap (λ (r : ItemRing). r.at) ring; put = ap (λ (r : ItemRing). r.put) ring }
 sent-ends state world place text sound some most DataIn streams left = record { base = refl; at = refl; put = refl }
 sent-ends state world place text sound some most DataOut streams left = record { base = refl; at = refl; put = refl }
 
 sent-acted : (state : Shared) (world : World) (place : Place) (entry : Entry) (answer : TaskAnswer) (at : IsPlaced state world place entry) → Fits state world
     → entry.task.phase ≡ Begun (Ended answer) → status_events place state.events ≡ 0
-    → IsActed state world (sent_world world place (answer_text (tag_of place) answer)) place at.part at.part.unit
+    → IsActed state world (sent_world state.tags world place (answer_text (tag_of state.tags place) answer)) place at.part at.part.unit
     (sent_to entry answer) state.messages (StatusDone place ∷ [])
 sent-acted state world place entry answer at fits ended none =
     let tag = tag-bounds state world place entry at fits in
@@ -255,57 +255,57 @@ sent-acted state world place entry answer at fits ended none =
       controller = refl;
       engine = refl;
       units = sym (slice_get-back world.device.units place.client at.part.unit at.client.unit_is);
-      tasks = λ other apart. held_under-with_other world.device.tasks (tag_of place) other None apart;
-      others = sent-others world place (answer_text (tag_of place) answer);
-      ends = sent-ends state world place (answer_text (tag_of place) answer) fits.sound tag.0 tag.1;
+      tasks = λ other apart. held_under-with_other world.device.tasks (tag_of state.tags place) other None apart;
+      others = sent-others state.tags world place (answer_text (tag_of state.tags place) answer);
+      ends = sent-ends state world place (answer_text (tag_of state.tags place) answer) fits.sound tag.0 tag.1;
       count = refl;
-      cell = subst (λ c. FitsCell place.client at.part.unit.count place (sent_to entry answer) c)
-          (sym (sent-here world place (answer_text (tag_of place) answer) fits.sound tag.0 tag.1))
-          (cell-sent place.client at.part.unit.count place entry answer (cell_at world place) ended ready.td at.cell);
+      cell = subst (λ c. FitsCell state.tags place.client at.part.unit.count place (sent_to entry answer) c)
+          (sym (sent-here state.tags world place (answer_text (tag_of state.tags place) answer) fits.sound tag.0 tag.1))
+          (cell-sent state.tags place.client at.part.unit.count place entry answer (cell_at state.tags world place) ended ready.td at.cell);
       queues = sent-queues state world place entry.task.request answer at.part (sent_to entry answer) fits at.is_place.slot at.matched.here.sound.asks
           (sent-answers entry.task.request answer (subst (λ p. IsPhaseOf entry.task.request p) ended at.matched.here.sound.answers))
           tag.0 tag.1 ready.ring.0 none;
     }
 
 -- the shared machine's step
-status-stepped : (state : Shared) (place : Place) (part : Part) (entry : Entry) (answer : TaskAnswer) → due state (StatusStep (tag_of place)) ≡ true
-    → place_of (length state.parts) (tag_of place) ≡ Some place → slice_get state.parts place.client ≡ Some part
+status-stepped : (state : Shared) (place : Place) (part : Part) (entry : Entry) (answer : TaskAnswer) → due state (StatusStep (tag_of state.tags place)) ≡ true
+    → place_of state.tags (length state.parts) (tag_of state.tags place) ≡ Some place → slice_get state.parts place.client ≡ Some part
     → held_at part.entries place.slot ≡ Some entry → entry.task.phase ≡ Begun (Ended answer)
-    → (shared_step state (StatusStep (tag_of place))).0
+    → (shared_step state (StatusStep (tag_of state.tags place))).0
     ≡ acted_state state place part part.unit (sent_to entry answer) state.messages (StatusDone place ∷ [])
 status-stepped state place part entry answer is_due named there held ended =
-    ap (λ b. (cond b (due_step state (StatusStep (tag_of place))) (state, idle)).0) is_due
-    ∙ ap (λ s. s.0) (send_step-held state (tag_of place) place part entry answer named there held ended)
+    ap (λ b. (cond b (due_step state (StatusStep (tag_of state.tags place))) (state, idle)).0) is_due
+    ∙ ap (λ s. s.0) (send_step-held state (tag_of state.tags place) place part entry answer named there held ended)
 
 status-at : (state : Shared) (world : World) (place : Place) (entry : Entry) (answer : TaskAnswer) → IsPlaced state world place entry → Fits state world
-    → due state (StatusStep (tag_of place)) ≡ true → place_of (length state.parts) (tag_of place) ≡ Some place → entry.task.phase ≡ Begun (Ended answer)
-    → is_open state.status (tag_of place) ≡ true → StatusFits state world (tag_of place)
+    → due state (StatusStep (tag_of state.tags place)) ≡ true → place_of state.tags (length state.parts) (tag_of state.tags place) ≡ Some place → entry.task.phase ≡ Begun (Ended answer)
+    → is_open state.status (tag_of state.tags place) ≡ true → StatusFits state world (tag_of state.tags place)
 status-at state world place entry answer at fits is_due named ended opened =
     let ready : IsStatusReady state world place entry = status-ready state world place entry answer at ended in
     let called = sent-is state world place entry answer at fits ended opened in
     let stepped = status-stepped state place at.part entry answer is_due named at.there at.held ended in
     record {
-      own = status-front-own state world (tag_of place) fits
-          (subst (λ t. HasOwnUnit world.lines world.frames (tag_of place) (option_and_then (task_answer (tag_of place)) t))
+      own = status-front-own state world (tag_of state.tags place) fits
+          (subst (λ t. HasOwnUnit world.lines world.frames (tag_of state.tags place) (option_and_then (task_answer (tag_of state.tags place)) t))
           (sym (ended-task state world place entry answer at ended))
-          (subst (HasOwnUnit world.lines world.frames (tag_of place))
-          (sym (ended-answer (Some place.client) (tag_of place) entry.task.request answer)) (status-own state world place entry answer at fits ready)));
+          (subst (HasOwnUnit world.lines world.frames (tag_of state.tags place))
+          (sym (ended-answer (Some place.client) (tag_of state.tags place) entry.task.request answer)) (status-own state world place entry answer at fits ready)));
       acted = ap (λ c. c.1) called;
       fits = λ sound.
-          subst (λ s. Fits s (status_world world (tag_of place))) (sym stepped)
+          subst (λ s. Fits s (status_world world (tag_of state.tags place))) (sym stepped)
           (subst (λ (c : Sides × Acted). Fits
           (acted_state state place at.part at.part.unit (sent_to entry answer) state.messages (StatusDone place ∷ [])) (with_sides world c.0)) (sym called)
-          (acted-fits state world (sent_world world place (answer_text (tag_of place) answer)) place entry
+          (acted-fits state world (sent_world state.tags world place (answer_text (tag_of state.tags place) answer)) place entry
           (sent_to entry answer) at.part.unit state.messages (StatusDone place ∷ []) at fits
-          (sent-acted state world place entry answer at fits ended (matched-no_status_event state fits.matched (tag_of place) place named is_due))
-          (subst IsMatched stepped (shared_step-matched state (StatusStep (tag_of place)) fits.matched))
+          (sent-acted state world place entry answer at fits ended (matched-no_status_event state fits.matched (tag_of state.tags place) place named is_due))
+          (subst IsMatched stepped (shared_step-matched state (StatusStep (tag_of state.tags place)) fits.matched))
           (subst (λ (c : Sides × Acted). IsSoundWorld (with_sides world c.0)) called sound)));
     }
 
 pub status_fits : StatusesFit
 status_fits state world tag fits is_due =
     let found : IsDueAt state tag (status_is_due state tag) = place_fact-due state tag (status_is_due state tag) is_due in
-    let same : tag_of found.place ≡ tag = place_of-tag (length state.parts) tag found.place found.named in
+    let same : tag_of state.tags found.place ≡ tag = place_of-tag state.tags (length state.parts) tag found.place (omega (arith, fits.matched.tags.least)) found.named in
     let at : IsPlaced state world found.place found.entry = placed state world found.place found.entry fits found.held in
     let both = and_parts (is_ended found.entry.task.phase) (is_open state.status tag && has_trb found.entry.status_td 1) found.so in
     let ended : IsEndedBy found.entry.task.phase = ended_phase found.entry.task.phase both.0 in
@@ -313,7 +313,7 @@ status_fits state world tag fits is_due =
     subst (λ t. StatusFits state world t) same
     (status-at state world found.place found.entry ended.answer at fits
     (subst (λ t. due state (StatusStep t) ≡ true) (sym same) is_due)
-    (subst (λ t. place_of (length state.parts) t ≡ Some found.place) (sym same) found.named)
+    (subst (λ t. place_of state.tags (length state.parts) t ≡ Some found.place) (sym same) found.named)
     ended.is (subst (λ t. is_open state.status t ≡ true) (sym same) opened))
 
 -- WHERE IT IS DUE
@@ -332,30 +332,30 @@ IsTold world tag task is_due =
 
 told-ended : (state : Shared) (world : World) (place : Place) (entry : Entry) (answer : TaskAnswer) → IsPlaced state world place entry → Fits state world
     → entry.task.phase ≡ Begun (Ended answer)
-    → IsTold world (tag_of place) (begun_task (Some place.client) entry.task.request (Ended answer))
-    (is_open state.status (tag_of place) && has_trb entry.status_td 1)
+    → IsTold world (tag_of state.tags place) (begun_task (Some place.client) entry.task.request (Ended answer))
+    (is_open state.status (tag_of state.tags place) && has_trb entry.status_td 1)
 told-ended state world place entry answer at fits ended =
     let ready : IsStatusReady state world place entry = status-ready state world place entry answer at ended in (
       status-due state world place entry ready ∙ sym (status-armed state world place entry at fits ready)
-          ∙ ap (λ w. status_due_by world (tag_of place) w) (sym (ended-wants (Some place.client) entry.task.request answer)),
-      subst (HasOwnUnit world.lines world.frames (tag_of place))
-          (sym (ended-answer (Some place.client) (tag_of place) entry.task.request answer))
+          ∙ ap (λ w. status_due_by world (tag_of state.tags place) w) (sym (ended-wants (Some place.client) entry.task.request answer)),
+      subst (HasOwnUnit world.lines world.frames (tag_of state.tags place))
+          (sym (ended-answer (Some place.client) (tag_of state.tags place) entry.task.request answer))
           (status-own state world place entry answer at fits ready),
     )
 
 -- a task management moves no data
-told-moving : (world : World) (place : Place) (request : Request) (chunk : ℕ) → IsPhaseOf request (Begun (Moving chunk))
-    → IsTold world (tag_of place) (begun_task (Some place.client) request (Moving chunk)) false
-told-moving world place (Execute op) chunk answers =
-    (sym (moving-undue world (tag_of place) (chunk_bytes (moved_bytes op) chunk) (direction_of op)), tt)
-told-moving world place (Manage what noted) chunk answers = absurd answers
+told-moving : (tags : ℕ) (world : World) (place : Place) (request : Request) (chunk : ℕ) → IsPhaseOf request (Begun (Moving chunk))
+    → IsTold world (tag_of tags place) (begun_task (Some place.client) request (Moving chunk)) false
+told-moving tags world place (Execute op) chunk answers =
+    (sym (moving-undue world (tag_of tags place) (chunk_bytes (moved_bytes op) chunk) (direction_of op)), tt)
+told-moving tags world place (Manage what noted) chunk answers = absurd answers
 
 told-at : (state : Shared) (world : World) (place : Place) (entry : Entry) (phase : Phase) → IsPlaced state world place entry
     → Fits state world → IsPhaseOf entry.task.request phase → entry.task.phase ≡ phase
-    → IsTold world (tag_of place) (phase_task (Some place.client) entry.task.request phase)
-    (is_ended phase && (is_open state.status (tag_of place) && has_trb entry.status_td 1))
+    → IsTold world (tag_of state.tags place) (phase_task (Some place.client) entry.task.request phase)
+    (is_ended phase && (is_open state.status (tag_of state.tags place) && has_trb entry.status_td 1))
 told-at state world place entry Queued at fits answers is = (refl, tt)
-told-at state world place entry (Begun (Moving chunk)) at fits answers is = told-moving world place entry.task.request chunk answers
+told-at state world place entry (Begun (Moving chunk)) at fits answers is = told-moving state.tags world place entry.task.request chunk answers
 told-at state world place entry (Begun (Ended answer)) at fits answers is = told-ended state world place entry answer at fits is
 told-at state world place entry (Sent answer) at fits answers is = (refl, tt)
 told-at state world place entry Gone at fits answers is = (refl, tt)

@@ -9,7 +9,7 @@ use Rattle.xhci_trb.specs.declared.Trb.TheVariants.{Normal}
 use Rattle.cycle_ring.specs.Items.{known_of}
 use Rattle.xhci_ctl.specs.Steps.{front_at}
 use Rattle.cycle_ring.specs.Ring.{pointer_of}
-use Rattle.uas_profile.specs.declared.TheConstants.{TASK_SLOT, GREATEST_TAG, STREAMS, STREAM_RING_PLACES, STATUS_BYTES}
+use Rattle.uas_profile.specs.declared.TheConstants.{STREAMS, STREAM_RING_PLACES, STATUS_BYTES}
 use Rattle.uas_profile.specs.declared.Pipe.TheVariants.{Status}
 use Rattle.stream_array.specs.Contexts.{has_stream}
 use Rattle.stream_array.specs.Rings.{LinesState, ring_of, stream_ring}
@@ -34,7 +34,7 @@ use Rattle.uas_iu.specs.declared.Iu.{Iu}
 use Rattle.uas_iu.specs.declared.Iu.TheVariants.{Response as ResponseIu, Sense as SenseIu}
 use Rattle.uas_iu.specs.Units.{unit_text}
 use Rattle.uas_profile.specs.declared.Place.{Place}
-use Rattle.uas_profile.specs.Places.{tag_of}
+use Rattle.uas_profile.specs.Tags.{tag_of}
 use Rattle.uas_host.specs.Tds.{status_buffer_of, status_td}
 use Rattle.xhci_ctl.specs.Own.{IsOwnStatus}
 use Rattle.uas_profile.specs.PipeStates.{is_open}
@@ -47,6 +47,9 @@ use Rattle.bus_core.specs.World.{World}
 use Rattle.bus_core.specs.Cells.{HoldsTd, HoldsTrbs}
 use Rattle.bus_core.specs.Fits.{Fits, unit_len}
 use Rattle.bus_core.proofs.common.ActFits.{IsPlaced}
+use Rattle.uas_profile.specs.Tags.{task_slot}
+use Rattle.uas_profile.proofs.TagLaws.{tags-within}
+use Rattle.std.proofs.Common.{slice_index}
 
 -- THE UNIT OF AN ANSWER
 
@@ -66,17 +69,17 @@ answer-most tag (WithStatus (Check sense)) = omega arith
 answer-most tag (WithResponse code) = omega arith
 
 -- byte 15 of a status buffer that begins with a Sense unit tells its length, and a Response unit, of the last slot, has 8 bytes
-pub answer-len : (tag slot : ℕ) (request : Request) (answer : TaskAnswer) (bytes : List ℕ) → IsRequestIn slot request → IsPhaseOf request (Sent answer)
-    → unit_len slot (with_bytes_at bytes 0 (answer_text tag answer)) ≡ length (answer_text tag answer)
+pub answer-len : (tags tag slot : ℕ) (request : Request) (answer : TaskAnswer) (bytes : List ℕ) → IsRequestIn tags slot request → IsPhaseOf request (Sent answer)
+    → unit_len tags slot (with_bytes_at bytes 0 (answer_text tag answer)) ≡ length (answer_text tag answer)
 unfolding unit_text with_bytes_at
-answer-len tag slot (Execute op) (WithStatus Good) bytes asks answers =
-    ap (λ b. cond b 8 16) (ne_eqb slot TASK_SLOT (λ same. omega (arith, asks, same)))
-answer-len tag slot (Execute op) (WithStatus (Check sense)) bytes asks answers =
-    ap (λ b. cond b 8 34) (ne_eqb slot TASK_SLOT (λ same. omega (arith, asks, same)))
-answer-len tag slot (Execute op) (WithResponse code) bytes asks answers = absurd answers
-answer-len tag slot (Manage what noted) (WithStatus answer) bytes asks answers = absurd answers
-answer-len tag slot (Manage what noted) (WithResponse code) bytes asks answers =
-    ap (λ b. cond b 8 (unit_len 0 (with_bytes_at bytes 0 (answer_text tag (WithResponse code))))) (eq-eqb slot TASK_SLOT asks)
+answer-len tags tag slot (Execute op) (WithStatus Good) bytes asks answers =
+    ap (λ b. cond b 8 16) (ne_eqb slot (task_slot tags) (λ same. omega (arith, asks, same)))
+answer-len tags tag slot (Execute op) (WithStatus (Check sense)) bytes asks answers =
+    ap (λ b. cond b 8 34) (ne_eqb slot (task_slot tags) (λ same. omega (arith, asks, same)))
+answer-len tags tag slot (Execute op) (WithResponse code) bytes asks answers = absurd answers
+answer-len tags tag slot (Manage what noted) (WithStatus answer) bytes asks answers = absurd answers
+answer-len tags tag slot (Manage what noted) (WithResponse code) bytes asks answers =
+    ap (λ b. cond b 8 (16 + slice_index (with_bytes_at bytes 0 (answer_text tag (WithResponse code))) 15)) (eq-eqb slot (task_slot tags) asks)
 
 pub text-begins : (bytes text : List ℕ) → take (length text) (with_bytes_at bytes 0 text) ≡ text
 unfolding with_bytes_at
@@ -107,49 +110,50 @@ status-written frames tag text whole some most short =
 -- THE STREAM OF AN ENDED REQUEST
 
 pub tag-bounds : (state : Shared) (world : World) (place : Place) (entry : Entry) → IsPlaced state world place entry → Fits state world
-    → (1 ≤ tag_of place) × (tag_of place ≤ GREATEST_TAG)
-tag-bounds state world place entry at fits = (omega arith, omega (arith, at.is_place.client, at.is_place.slot, fits.most_clients))
+    → (1 ≤ tag_of state.tags place) × (tag_of state.tags place ≤ STREAMS)
+tag-bounds state world place entry at fits =
+    (omega arith, omega (arith, (tags-within state.tags (length state.parts) place at.is_place.client at.is_place.slot).1, fits.most_tags))
 
 -- its status TD is as it was pushed, and so is its ring
 pub record IsStatusReady (state : Shared) (world : World) (place : Place) (entry : Entry) : Type 0 where
   pub td : entry.status_td ≡ pushed
-  pub ring : HoldsTrbs (stream_ring world.lines.status (tag_of place)) (status_td (tag_of place)) 0
-  pub front : front_at STREAM_RING_PLACES (stream_ring world.lines.status (tag_of place))
+  pub ring : HoldsTrbs (stream_ring world.lines.status (tag_of state.tags place)) (status_td (tag_of state.tags place)) 0
+  pub front : front_at STREAM_RING_PLACES (stream_ring world.lines.status (tag_of state.tags place))
       ≡ Some (
-        pointer_of STREAM_RING_PLACES (stream_ring world.lines.status (tag_of place)) 0,
-        Some (Normal (status_buffer_of (tag_of place)) STATUS_BYTES 0 (record { 0 = 18 })),
+        pointer_of STREAM_RING_PLACES (stream_ring world.lines.status (tag_of state.tags place)) 0,
+        Some (Normal (status_buffer_of (tag_of state.tags place)) STATUS_BYTES 0 (record { 0 = 18 })),
       )
 
 pub status-ready : (state : Shared) (world : World) (place : Place) (entry : Entry) (answer : TaskAnswer) → IsPlaced state world place entry
     → entry.task.phase ≡ Begun (Ended answer) → IsStatusReady state world place entry
 status-ready state world place entry answer at ended =
     let td : entry.status_td ≡ pushed = subst (λ p. IsStatusTd p entry.status_td) ended at.matched.here.sound.status in
-    let ring : HoldsTrbs (stream_ring world.lines.status (tag_of place)) (status_td (tag_of place)) 0 =
-    subst (λ t. HoldsTd (stream_ring world.lines.status (tag_of place)) (status_td (tag_of place)) t) td at.cell.status in
+    let ring : HoldsTrbs (stream_ring world.lines.status (tag_of state.tags place)) (status_td (tag_of state.tags place)) 0 =
+    subst (λ t. HoldsTd (stream_ring world.lines.status (tag_of state.tags place)) (status_td (tag_of state.tags place)) t) td at.cell.status in
     record {
       td = td;
       ring = ring;
-      front = ap (λ k. option_map (λ item. (pointer_of STREAM_RING_PLACES (stream_ring world.lines.status (tag_of place)) k, known_of item))
-          (slice_get (stream_ring world.lines.status (tag_of place)).put k)) ring.1
-          ∙ ap (λ items. option_map (λ item. (pointer_of STREAM_RING_PLACES (stream_ring world.lines.status (tag_of place)) 0, known_of item)) (slice_get items 0)) ring.0;
+      front = ap (λ k. option_map (λ item. (pointer_of STREAM_RING_PLACES (stream_ring world.lines.status (tag_of state.tags place)) k, known_of item))
+          (slice_get (stream_ring world.lines.status (tag_of state.tags place)).put k)) ring.1
+          ∙ ap (λ items. option_map (λ item. (pointer_of STREAM_RING_PLACES (stream_ring world.lines.status (tag_of state.tags place)) 0, known_of item)) (slice_get items 0)) ring.0;
     }
 
 -- the stream is armed where it is open
 pub status-armed : (state : Shared) (world : World) (place : Place) (entry : Entry) → IsPlaced state world place entry → Fits state world
-    → IsStatusReady state world place entry → is_armed world.controller world.lines Status (tag_of place) ≡ (is_open state.status (tag_of place) && true)
+    → IsStatusReady state world place entry → is_armed world.controller world.lines Status (tag_of state.tags place) ≡ (is_open state.status (tag_of state.tags place) && true)
 status-armed state world place entry at fits ready =
     let tag = tag-bounds state world place entry at fits in
-    let there : has_stream (tag_of place) ≡ true = rw (lt-ltb 0 (tag_of place) tag.0, le-leb (tag_of place) STREAMS (omega (arith, tag.1))) refl in
-    let pending : has_pending (stream_ring world.lines.status (tag_of place)) ≡ true =
-    ap (λ k. nat_lt k (length (stream_ring world.lines.status (tag_of place)).put)) ready.ring.1 ∙ ap (λ trbs. nat_lt 0 (length trbs)) ready.ring.0 in
-    ap (λ b. (b && is_open world.controller.status (tag_of place)) && has_pending (stream_ring world.lines.status (tag_of place))) there
-    ∙ ap (λ b. is_open world.controller.status (tag_of place) && b) pending
-    ∙ ap (λ pipe. is_open pipe (tag_of place) && true) fits.status
+    let there : has_stream (tag_of state.tags place) ≡ true = rw (lt-ltb 0 (tag_of state.tags place) tag.0, le-leb (tag_of state.tags place) STREAMS (omega (arith, tag.1))) refl in
+    let pending : has_pending (stream_ring world.lines.status (tag_of state.tags place)) ≡ true =
+    ap (λ k. nat_lt k (length (stream_ring world.lines.status (tag_of state.tags place)).put)) ready.ring.1 ∙ ap (λ trbs. nat_lt 0 (length trbs)) ready.ring.0 in
+    ap (λ b. (b && is_open world.controller.status (tag_of state.tags place)) && has_pending (stream_ring world.lines.status (tag_of state.tags place))) there
+    ∙ ap (λ b. is_open world.controller.status (tag_of state.tags place) && b) pending
+    ∙ ap (λ pipe. is_open pipe (tag_of state.tags place) && true) fits.status
 
 -- it is due where it is open
 pub status-due : (state : Shared) (world : World) (place : Place) (entry : Entry) → IsStatusReady state world place entry
-    → (is_open state.status (tag_of place) && has_trb entry.status_td 1) ≡ (is_open state.status (tag_of place) && true)
-status-due state world place entry ready = ap (λ td. is_open state.status (tag_of place) && has_trb td 1) ready.td
+    → (is_open state.status (tag_of state.tags place) && has_trb entry.status_td 1) ≡ (is_open state.status (tag_of state.tags place) && true)
+status-due state world place entry ready = ap (λ td. is_open state.status (tag_of state.tags place) && has_trb td 1) ready.td
 
 -- where the device has a unit to send on a tag, the TRB in front of the status ring has as many bytes
 abbrev pub HasOwnUnit : LinesState → List TagBuffers → ℕ → Option Iu → Type 0
@@ -159,10 +163,10 @@ HasOwnUnit lines frames tag answer =
 -- the TRB in front is the host's own
 pub status-own : (state : Shared) (world : World) (place : Place) (entry : Entry) (answer : TaskAnswer) → IsPlaced state world place entry → Fits state world
     → IsStatusReady state world place entry
-    → HasOwnUnit world.lines world.frames (tag_of place) (Some (answer_unit (tag_of place) answer))
+    → HasOwnUnit world.lines world.frames (tag_of state.tags place) (Some (answer_unit (tag_of state.tags place) answer))
 status-own state world place entry answer at fits ready =
     let tag = tag-bounds state world place entry at fits in
-    subst (λ front. IfSome front (λ f. IsOwnStatus world.frames (answer_unit (tag_of place) answer) f.1)) (sym ready.front) (
-      (refl, refl, inr (front_byte StatusBuffer (tag_of place), status-names world.frames (tag_of place) STATUS_BYTES fits.sound.frames tag.0 (omega (arith, tag.1)) (omega arith))),
-      subst (λ text. length text ≤ STATUS_BYTES) (answer-unit (tag_of place) answer) (answer-most (tag_of place) answer),
+    subst (λ front. IfSome front (λ f. IsOwnStatus world.frames (answer_unit (tag_of state.tags place) answer) f.1)) (sym ready.front) (
+      (refl, refl, inr (front_byte StatusBuffer (tag_of state.tags place), status-names world.frames (tag_of state.tags place) STATUS_BYTES fits.sound.frames tag.0 (omega (arith, tag.1)) (omega arith))),
+      subst (λ text. length text ≤ STATUS_BYTES) (answer-unit (tag_of state.tags place) answer) (answer-most (tag_of state.tags place) answer),
     )

@@ -3,14 +3,13 @@ use Rattle.std.proofs.Common.{◌≡◌, ℕ, ◌<◌, true, length, Option, Som
 use Rattle.std.specs.Prelude.{slice_get}
 use Rattle.scsi_cmd.specs.declared.Command.{Command}
 use Rattle.scsi_cmd.specs.declared.SubmitFault.{SubmitFault}
-use Rattle.uas_profile.specs.declared.TheConstants.{TAGS}
 use Rattle.scsi_cmd.specs.Submission.{first_submit_fault}
 use Rattle.scsi_cmd.specs.Held.{held_at}
 use Rattle.uas_profile.specs.declared.Place.{Place}
 use Rattle.uas_host.specs.declared.HostClient.{HostClient}
 use Rattle.uas_host.specs.State.{client_of}
 use Rattle.uas_host.specs.Submit.{fault_at as host_fault_at}
-use Rattle.uas_profile.specs.Places.{command_slot}
+use Rattle.uas_profile.specs.Tags.{command_slot}
 use Rattle.shared_machine.specs.Part.{Part, fault_at}
 use Rattle.shared_machine.specs.Shared.{Shared, submitted_under, submitted_to, answered}
 use Rattle.bus_core.specs.World.{World, cell_at}
@@ -22,12 +21,12 @@ use Rattle.bus_core.proofs.common.CellWrites.{client_of-found, clients-length, F
 use Rattle.shared_machine.proofs.Standing.{get-none}
 
 -- the host's client of a part that is there finds the part's fault
-pub fault_at-found : (world : World) (client slot ticket : ℕ) (command : Command) (part : Part) (it : IsFound world client part) → slot < TAGS
+pub fault_at-found : (tags : ℕ) (world : World) (client slot ticket : ℕ) (command : Command) (part : Part) (it : IsFound tags world client part) → slot < tags
     → host_fault_at (client_of world.host client) ticket command (Some slot) ≡ fault_at part slot ticket command
-fault_at-found world client slot ticket command part it within =
+fault_at-found tags world client slot ticket command part it within =
     let is : client_of world.host client ≡ it.held = client_of-found world.host client it.held it.held_is in
     let same : is_some (held_at (client_of world.host client).entries slot) ≡ is_some (held_at part.entries slot) =
-    FitsHeld-some client part.unit.count (place_in client slot) (held_at part.entries slot) (cell_at world (place_in client slot))
+    FitsHeld-some tags client part.unit.count (place_in client slot) (held_at part.entries slot) (cell_at tags world (place_in client slot))
     (it.fits.cells slot within) in
     ap (λ used. first_submit_fault true used (client_of world.host client).least_ticket ticket command) same
     ∙ ap (λ (c : HostClient). first_submit_fault true (is_some (held_at part.entries slot)) c.least_ticket ticket command) is
@@ -40,23 +39,24 @@ answered-fault state part place tag ticket command (Some fault) = refl
 
 to-fault : (state : Shared) (world : World) (client slot tag ticket : ℕ) (command : Command) (at : Option Part) → Fits state world
     → slice_get state.parts client ≡ at
-    → client < length state.parts → slot < TAGS
+    → client < length state.parts → slot < state.tags
     → host_fault_at (client_of world.host client) ticket command (Some slot)
     ≡ option_map fault_in (submitted_to state (record { client = client; slot = slot }) tag ticket command at).1.refused
 to-fault state world client slot tag ticket command None fits is there within = absurd (omega (arith, there, get-none state.parts client is))
 to-fault state world client slot tag ticket command (Some part) fits is there within =
-    fault_at-found world client slot ticket command part (found world state.parts client part fits.clients is) within
+    fault_at-found state.tags world client slot ticket command part (found state.tags world state.parts client part fits.clients is) within
     ∙ sym (answered-fault state part (record { client = client; slot = slot }) tag ticket command (fault_at part slot ticket command))
 
 under-fault : (state : Shared) (world : World) (client tag ticket : ℕ) (command : Command) (slot : Option ℕ) → Fits state world
-    → command_slot (length state.parts) client tag ≡ slot
+    → command_slot state.tags (length state.parts) client tag ≡ slot
     → host_fault_at (client_of world.host client) ticket command slot ≡ option_map fault_in (submitted_under state client tag ticket command slot).1.refused
 under-fault state world client tag ticket command None fits is = refl
 under-fault state world client tag ticket command (Some slot) fits is =
-    let own : IsOwnSlot (length state.parts) client tag slot = command_slot-own (length state.parts) client tag slot is in
+    let own : IsOwnSlot state.tags (length state.parts) client tag slot = command_slot-own state.tags (length state.parts) client tag slot is in
     to-fault state world client slot tag ticket command (slice_get state.parts client) fits refl own.there (omega (arith, own.within))
 
 pub faults-agree : FaultsAgree
 faults-agree state world client tag ticket command fits =
-    ap (λ n. host_fault_at (client_of world.host client) ticket command (command_slot n client tag)) (clients-length world state.parts fits.clients)
-    ∙ under-fault state world client tag ticket command (command_slot (length state.parts) client tag) fits refl
+    ap (λ t. host_fault_at (client_of world.host client) ticket command (command_slot t (length world.host.clients) client tag)) fits.tags
+    ∙ ap (λ n. host_fault_at (client_of world.host client) ticket command (command_slot state.tags n client tag)) (clients-length state.tags world state.parts fits.clients)
+    ∙ under-fault state world client tag ticket command (command_slot state.tags (length state.parts) client tag) fits refl

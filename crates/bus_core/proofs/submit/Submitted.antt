@@ -13,14 +13,13 @@ use Rattle.scsi_cmd.specs.declared.Command.{Command}
 use Rattle.uas_profile.specs.declared.Direction.{Direction}
 use Rattle.uas_profile.specs.declared.Direction.TheVariants.{Nothing, ToHost, ToDevice}
 use Rattle.scsi_cmd.specs.declared.SubmitFault.{SubmitFault}
-use Rattle.uas_profile.specs.declared.TheConstants.{TASK_SLOT}
 use Rattle.scsi_cmd.specs.Op.{direction_of}
 use Rattle.uas_profile.specs.Doors.{answer_doors, data_doors, door, door_unless, submission_doors}
 use Rattle.uas_profile.specs.Pipes.{target_of}
 use Rattle.uas_host.specs.Retirement.{is_held as is_host_held}
 use Rattle.uas_host.specs.State.{HostState, IsHost}
 use Rattle.uas_host.specs.Submit.{host_fault, lent, submitted}
-use Rattle.uas_profile.specs.Places.{command_slot, own_slot, place_of}
+use Rattle.uas_profile.specs.Tags.{command_slot, own_slot, place_of}
 use Rattle.uas_host.specs.Tds.{pushed}
 use Rattle.shared_machine.specs.declared.Mark.TheVariants.{Submit as SubmitMark}
 use Rattle.shared_machine.specs.declared.Outcome.{Outcome}
@@ -36,43 +35,44 @@ use Rattle.bus_core.proofs.common.Framing.{held-host}
 use Rattle.bus_core.proofs.common.ReadBack.{decoded-back}
 use Rattle.bus_core.proofs.submit.SubmissionFaults.{faults-agree}
 use Rattle.bus_core.proofs.submit.Submitting.{submissions-fit}
+use Rattle.uas_profile.specs.Tags.{task_slot}
 
 -- the slot of a command tag is that of the tag's index
-slot-named : (clients client tag slot : ℕ) → command_slot clients client tag ≡ Some slot → suc slot ≡ index_of tag
-slot-named clients client tag slot is =
-    option_and_then_some (own_slot client) (place_of clients tag) slot is
+slot-named : (tags : ℕ) (clients client tag slot : ℕ) → command_slot tags clients client tag ≡ Some slot → suc slot ≡ index_of tags tag
+slot-named tags clients client tag slot is =
+    option_and_then_some (own_slot tags client) (place_of tags clients tag) slot is
     (λ place found own.
-    let same : place.slot ≡ slot = (cond_some ((place.client == client) && nat_lt place.slot TASK_SLOT) place.slot slot own).1 in
-    ap suc (sym same) ∙ (place-named clients tag place found).1)
+    let same : place.slot ≡ slot = (cond_some ((place.client == client) && nat_lt place.slot (task_slot tags)) place.slot slot own).1 in
+    ap suc (sym same) ∙ (place-named tags clients tag place found).1)
 
 -- WHAT THE SHARED MACHINE ANSWERS
 
 abbrev Answers : Shared → ℕ → ℕ → Command → Shared × Outcome → Type 0
 Answers state client tag command after =
     MatchOption (option_map fault_in after.1.refused)
-    (after.1 ≡ acceptance client (SubmitMark (index_of tag)) (submission_doors (is_held state) (direction_of command.op) tag))
+    (after.1 ≡ acceptance client (SubmitMark (index_of state.tags tag)) (submission_doors (is_held state) (direction_of command.op) tag))
     (λ fault. after ≡ (state, refusal client fault command))
 
-answers-fault : (state : Shared) (client slot tag ticket : ℕ) (command : Command) (part : Part) (fault : Option SubmitFault) → suc slot ≡ index_of tag
+answers-fault : (state : Shared) (client slot tag ticket : ℕ) (command : Command) (part : Part) (fault : Option SubmitFault) → suc slot ≡ index_of state.tags tag
     → Answers state client tag command (answered state part (record { client = client; slot = slot }) tag ticket command fault)
 answers-fault state client slot tag ticket command part None index =
     ap (λ k. acceptance client (SubmitMark k) (submission_doors (is_held state) (direction_of command.op) tag)) index
 answers-fault state client slot tag ticket command part (Some fault) index = refl
 
-answers-part : (state : Shared) (client slot tag ticket : ℕ) (command : Command) (part : Option Part) → suc slot ≡ index_of tag
+answers-part : (state : Shared) (client slot tag ticket : ℕ) (command : Command) (part : Option Part) → suc slot ≡ index_of state.tags tag
     → Answers state client tag command (submitted_to state (record { client = client; slot = slot }) tag ticket command part)
 answers-part state client slot tag ticket command None index = refl
 answers-part state client slot tag ticket command (Some part) index = answers-fault state client slot tag ticket command part
     (fault_at part slot ticket command) index
 
-answers-slot : (state : Shared) (client tag ticket : ℕ) (command : Command) (slot : Option ℕ) → command_slot (length state.parts) client tag ≡ slot
+answers-slot : (state : Shared) (client tag ticket : ℕ) (command : Command) (slot : Option ℕ) → command_slot state.tags (length state.parts) client tag ≡ slot
     → Answers state client tag command (submitted_under state client tag ticket command slot)
 answers-slot state client tag ticket command None is = refl
 answers-slot state client tag ticket command (Some slot) is =
-    answers-part state client slot tag ticket command (slice_get state.parts client) (slot-named (length state.parts) client tag slot is)
+    answers-part state client slot tag ticket command (slice_get state.parts client) (slot-named state.tags (length state.parts) client tag slot is)
 
 answers : (state : Shared) (client tag ticket : ℕ) (command : Command) → Answers state client tag command (submit_step state client tag ticket command)
-answers state client tag ticket command = answers-slot state client tag ticket command (command_slot (length state.parts) client tag) refl
+answers state client tag ticket command = answers-slot state client tag ticket command (command_slot state.tags (length state.parts) client tag) refl
 
 -- WHAT THE HOST ANSWERS
 
@@ -94,12 +94,12 @@ submitted-by : (state : Shared) (world : World) (client tag ticket : ℕ) (comma
     (answer : Result (Unit {0}) (SubmitFault × Command)) (fault : Option SubmitFault) → Fits state world → ticket < 2 ^ 60
     → host_fault world.host client tag ticket command ≡ fault
     → MatchOption fault (Accepts world client tag ticket command host lines frames doors answer) (Refuses world command host lines frames doors answer)
-    → MatchOption fault ((submit_step state client tag ticket command).1 ≡ acceptance client (SubmitMark (index_of tag))
+    → MatchOption fault ((submit_step state client tag ticket command).1 ≡ acceptance client (SubmitMark (index_of state.tags tag))
     (submission_doors (is_held state) (direction_of command.op) tag))
     (λ f. submit_step state client tag ticket command ≡ (state, refusal client f command))
     → IsHost host → IsLines lines → IsWhole frames
     → IsSubmitted state client tag ticket command (world_of host (rung_all world.controller doors) world.device lines frames)
-    (submitted_as client tag doors answer)
+    (submitted_as state.tags client tag doors answer)
 submitted-by state world client tag ticket command host lines frames doors answer None fits small is accepts told hosting standing whole =
     let new : World = world_of host (rung_all world.controller doors) world.device lines frames in
     let fit : SubmitFits state world client tag ticket command = submissions-fit state world client tag ticket command fits small is in
@@ -114,9 +114,9 @@ submitted-by state world client tag ticket command host lines frames doors answe
       shared =
           ap (λ s. (s, (submit_step state client tag ticket command).1)) (sym back)
           ∙ ap (λ o. (decoded new, o)) (told
-          ∙ ap (λ d. acceptance client (SubmitMark (index_of tag)) d)
+          ∙ ap (λ d. acceptance client (SubmitMark (index_of state.tags tag)) d)
           (sym (accepts.4 ∙ ap (λ held. submission_doors held (direction_of command.op) tag) (held-host state world fits.engine)))
-          ∙ ap (submitted_as client tag doors) (sym accepts.0));
+          ∙ ap (submitted_as state.tags client tag doors) (sym accepts.0));
     }
 submitted-by state world client tag ticket command host lines frames doors answer (Some fault) fits small is refuses told hosting standing whole =
     let new : World = world_of host (rung_all world.controller doors) world.device lines frames in
@@ -124,7 +124,7 @@ submitted-by state world client tag ticket command host lines frames doors answe
     let back : decoded new ≡ state = ap decoded (sym same) ∙ decoded-back state world fits in
     record {
       fits = subst (λ s. Fits s new) (sym back) (subst (λ w. Fits state w) same fits);
-      shared = told ∙ ap (λ s. (s, refusal client fault command)) (sym back) ∙ ap (λ a. (decoded new, submitted_as client tag doors a)) (sym refuses.0);
+      shared = told ∙ ap (λ s. (s, refusal client fault command)) (sym back) ∙ ap (λ a. (decoded new, submitted_as state.tags client tag doors a)) (sym refuses.0);
     }
 
 pub submitted-on : (state : Shared) (world : World) (client tag ticket : ℕ) (command : Command) (host : HostState) (lines : LinesState)
@@ -134,13 +134,13 @@ pub submitted-on : (state : Shared) (world : World) (client tag ticket : ℕ) (c
     (Refuses world command host lines frames doors answer)
     → IsHost host → IsLines lines → IsWhole frames
     → IsSubmitted state client tag ticket command (world_of host (rung_all world.controller doors) world.device lines frames)
-    (submitted_as client tag doors answer)
+    (submitted_as state.tags client tag doors answer)
 submitted-on state world client tag ticket command host lines frames doors answer fits small host_answers hosting standing whole =
     submitted-by state world client tag ticket command host lines frames doors answer
     (host_fault world.host client tag ticket command) fits small refl host_answers
     (subst (λ fault. MatchOption fault
     ((submit_step state client tag ticket command).1
-    ≡ acceptance client (SubmitMark (index_of tag)) (submission_doors (is_held state) (direction_of command.op) tag))
+    ≡ acceptance client (SubmitMark (index_of state.tags tag)) (submission_doors (is_held state) (direction_of command.op) tag))
     (λ f. submit_step state client tag ticket command ≡ (state, refusal client f command)))
     (sym (faults-agree state world client tag ticket command fits)) (answers state client tag ticket command))
     hosting standing whole

@@ -16,12 +16,12 @@ use Rattle.scsi_cmd.specs.declared.Command.{Command}
 use Rattle.uas_profile.specs.declared.Direction.{Direction}
 use Rattle.uas_profile.specs.declared.Direction.TheVariants.{Nothing, ToHost, ToDevice}
 use Rattle.scsi_cmd.specs.declared.SubmitFault.TheVariants.{NotYours}
-use Rattle.uas_profile.specs.declared.TheConstants.{TASK_SLOT, CHUNK_BYTES, COMMAND_BYTES, MOST_DATA_TRBS, WINDOWS, WINDOW_SPAN}
+use Rattle.uas_profile.specs.declared.TheConstants.{CHUNK_BYTES, COMMAND_BYTES, MOST_DATA_TRBS, WINDOWS, WINDOW_SPAN}
 use Rattle.uas_profile.specs.Doors.{answer_doors, door, door_unless, submission_doors}
 use Rattle.uas_profile.specs.Pipes.{target_of}
 use Rattle.uas_host.specs.State.{client_of}
 use Rattle.uas_host.specs.Submit.{host_fault, fault_at as host_fault_at}
-use Rattle.uas_profile.specs.Places.{command_slot, tag_of}
+use Rattle.uas_profile.specs.Tags.{command_slot, tag_of}
 use Rattle.uas_host.specs.Tds.{HasDataRoom, command_buffer_of, command_td, data_td, data_trbs as trbs_from, status_td, put_on, with_data_td}
 use Rattle.xhci_ctl.specs.Doorbells.{rung_by, rung_in, rung_on, pipe_at}
 use Rattle.uas_profile.specs.declared.PipeState.{PipeState}
@@ -40,6 +40,7 @@ use Rattle.bus_core.proofs.common.Framing.{found}
 use Rattle.shared_machine.proofs.OwnSlots.{IsOwnSlot, command_slot-own}
 use Rattle.shared_machine.proofs.Standing.{get-none}
 use Rattle.bus_core.proofs.submit.SubmissionFaults.{fault_at-found}
+use Rattle.uas_profile.specs.Tags.{task_slot}
 
 -- WHAT IS ACCEPTED
 
@@ -47,31 +48,31 @@ use Rattle.bus_core.proofs.submit.SubmissionFaults.{fault_at-found}
 pub record IsAccepted (state : Shared) (client tag ticket : ℕ) (command : Command) : Type 0 where
   pub slot : ℕ
   pub part : Part
-  pub own : IsOwnSlot (length state.parts) client tag slot
-  pub named : command_slot (length state.parts) client tag ≡ Some slot
+  pub own : IsOwnSlot state.tags (length state.parts) client tag slot
+  pub named : command_slot state.tags (length state.parts) client tag ≡ Some slot
   pub there : slice_get state.parts client ≡ Some part
   pub unfaulted : fault_at part slot ticket command ≡ None
 
 pub accepted-part : (state : Shared) (world : World) (client tag slot ticket : ℕ) (command : Command) (at : Option Part) → Fits state world
-    → command_slot (length state.parts) client tag ≡ Some slot → slice_get state.parts client ≡ at
+    → command_slot state.tags (length state.parts) client tag ≡ Some slot → slice_get state.parts client ≡ at
     → host_fault_at (client_of world.host client) ticket command (Some slot) ≡ None → IsAccepted state client tag ticket command
 accepted-part state world client tag slot ticket command None fits named is none =
-    let own : IsOwnSlot (length state.parts) client tag slot = command_slot-own (length state.parts) client tag slot named in
+    let own : IsOwnSlot state.tags (length state.parts) client tag slot = command_slot-own state.tags (length state.parts) client tag slot named in
     absurd (omega (arith, own.there, get-none state.parts client is))
 accepted-part state world client tag slot ticket command (Some part) fits named is none =
-    let own : IsOwnSlot (length state.parts) client tag slot = command_slot-own (length state.parts) client tag slot named in
+    let own : IsOwnSlot state.tags (length state.parts) client tag slot = command_slot-own state.tags (length state.parts) client tag slot named in
     record {
       slot = slot;
       part = part;
       own = own;
       named = named;
       there = is;
-      unfaulted = sym (fault_at-found world client slot ticket command part (found world state.parts client part fits.clients is)
+      unfaulted = sym (fault_at-found state.tags world client slot ticket command part (found state.tags world state.parts client part fits.clients is)
           (omega (arith, own.within))) ∙ none;
     }
 
 pub accepted-slot : (state : Shared) (world : World) (client tag ticket : ℕ) (command : Command) (slot : Option ℕ) → Fits state world
-    → command_slot (length state.parts) client tag ≡ slot → host_fault_at (client_of world.host client) ticket command slot ≡ None
+    → command_slot state.tags (length state.parts) client tag ≡ slot → host_fault_at (client_of world.host client) ticket command slot ≡ None
     → IsAccepted state client tag ticket command
 accepted-slot state world client tag ticket command None fits is none = absurd (none-some NotYours (sym none))
 accepted-slot state world client tag ticket command (Some slot) fits is none =
@@ -80,9 +81,10 @@ accepted-slot state world client tag ticket command (Some slot) fits is none =
 pub accepted-is : (state : Shared) (world : World) (client tag ticket : ℕ) (command : Command) → Fits state world
     → host_fault world.host client tag ticket command ≡ None → IsAccepted state client tag ticket command
 accepted-is state world client tag ticket command fits none =
-    accepted-slot state world client tag ticket command (command_slot (length state.parts) client tag) fits refl
-    (ap (λ n. host_fault_at (client_of world.host client) ticket command (command_slot n client tag))
-    (sym (clients-length world state.parts fits.clients)) ∙ none)
+    accepted-slot state world client tag ticket command (command_slot state.tags (length state.parts) client tag) fits refl
+    (ap (λ n. host_fault_at (client_of world.host client) ticket command (command_slot state.tags n client tag))
+    (sym (clients-length state.tags world state.parts fits.clients))
+    ∙ ap (λ t. host_fault_at (client_of world.host client) ticket command (command_slot t (length world.host.clients) client tag)) (sym fits.tags) ∙ none)
 
 pub submit_step-is : (state : Shared) (client tag ticket : ℕ) (command : Command) (it : IsAccepted state client tag ticket command)
     → (submit_step state client tag ticket command).0 ≡ (accepted state it.part (place_in client it.slot) tag ticket command).0
@@ -250,10 +252,10 @@ data_out-holds lines ToDevice tag bytes some within holds =
     (put_empty lines.data_out tag (data_td tag bytes) some within holds)
 
 -- the command TRB of a command slot has the bytes of a Command unit
-pub command_trb-command : (client slot : ℕ) → slot < TASK_SLOT → command_trb (place_in client slot) ∷ [] ≡ command_td (tag_of (place_in client slot))
-command_trb-command client slot below =
-    let other : (slot == TASK_SLOT) ≡ false = ne_eqb slot TASK_SLOT (λ same. omega (arith, same, below)) in
-    ap (λ b. Normal (command_buffer_of (tag_of (place_in client slot))) (cond b 16 COMMAND_BYTES) 0 (record { 0 = 16 }) ∷ []) other
+pub command_trb-command : (tags : ℕ) (client slot : ℕ) → slot < (task_slot tags) → command_trb tags (place_in client slot) ∷ [] ≡ command_td (tag_of tags (place_in client slot))
+command_trb-command tags client slot below =
+    let other : (slot == (task_slot tags)) ≡ false = ne_eqb slot (task_slot tags) (λ same. omega (arith, same, below)) in
+    ap (λ b. Normal (command_buffer_of (tag_of tags (place_in client slot))) (cond b 16 COMMAND_BYTES) 0 (record { 0 = 16 }) ∷ []) other
 
 -- ROOM
 

@@ -10,15 +10,13 @@ use Rattle.scsi_cmd.specs.declared.SubmitFault.{SubmitFault}
 use Rattle.scsi_cmd.specs.declared.SubmitFault.TheVariants.{InUse, NotYours, NoSuchTask, OutOfTurn}
 use Rattle.scsi_cmd.specs.declared.Task.{Task}
 use Rattle.scsi_cmd.specs.declared.Task.TheVariants.{Abort, Reset, Query}
-use Rattle.uas_profile.specs.declared.TheConstants.{TAGS, TASK_SLOT, MAX_CLIENTS}
 use Rattle.scsi_cmd.specs.Submission.{first_task_fault}
 use Rattle.scsi_cmd.specs.Held.{held_at}
 use Rattle.uas_profile.specs.declared.Place.{Place}
 use Rattle.uas_host.specs.declared.HostClient.{HostClient}
 use Rattle.uas_host.specs.declared.HostEntry.{HostEntry}
 use Rattle.uas_host.specs.State.{client_of}
-use Rattle.uas_host.specs.Submit.{slot_of}
-use Rattle.uas_profile.specs.Places.{command_slot}
+use Rattle.uas_profile.specs.Tags.{command_slot}
 use Rattle.uas_host.specs.Tasks.{named_tag, client_task_fault, has_task, is_held_at, noted_by, tickets_of as host_tickets_of}
 use Rattle.shared_machine.specs.Td.{Entry}
 use Rattle.shared_machine.specs.Part.{Part, is_there, named_entry, named_slot, noted_tickets, task_fault_at, tickets_of}
@@ -31,49 +29,54 @@ use Rattle.bus_core.proofs.common.Framing.{IsFound, found}
 use Rattle.bus_core.proofs.common.CellWrites.{client_of-found, clients-length, FitsHeld-some}
 use Rattle.shared_machine.proofs.OwnSlots.{IsOwnSlot, command_slot-own}
 use Rattle.shared_machine.proofs.Standing.{get-within, get-none}
+use Rattle.uas_profile.specs.Tags.{task_slot}
+use Rattle.std.proofs.Common.{◌*◌, ◌+◌}
+use Rattle.uas_profile.proofs.TagLaws.{tags-within, slot-of_tag}
+use Rattle.uas_profile.specs.Tags.{AreTags, slot_of}
+use Rattle.uas_profile.specs.declared.TheConstants.{STREAMS}
 
 -- WHAT IS HELD
 
 -- a cell that fits holds the host's side of the entry
-held-side : (client count : ℕ) (place : Place) (held : Option Entry) (cell : Cell) → FitsHeld client count place held cell
+held-side : (tags : ℕ) (client count : ℕ) (place : Place) (held : Option Entry) (cell : Cell) → FitsHeld tags client count place held cell
     → cell.held ≡ option_map host_side held
-held-side client count place None cell fits = fits.held
-held-side client count place (Some entry) cell fits = fits.held
+held-side tags client count place None cell fits = fits.held
+held-side tags client count place (Some entry) cell fits = fits.held
 
 -- the host's client holds something exactly where the part does
-held-alike : (world : World) (client slot : ℕ) (part : Part) (it : IsFound world client part) → slot < TAGS
+held-alike : (tags : ℕ) (world : World) (client slot : ℕ) (part : Part) (it : IsFound tags world client part) → slot < tags
     → is_held_at (client_of world.host client) slot ≡ is_some (held_at part.entries slot)
-held-alike world client slot part it within =
-    FitsHeld-some client part.unit.count (place_in client slot) (held_at part.entries slot) (cell_at world (place_in client slot)) (it.fits.cells slot within)
+held-alike tags world client slot part it within =
+    FitsHeld-some tags client part.unit.count (place_in client slot) (held_at part.entries slot) (cell_at tags world (place_in client slot)) (it.fits.cells slot within)
 
 -- THE FAULT
 
-there-slot : (world : World) (clients client tag : ℕ) (part : Part) (it : IsFound world client part) (slot : Option ℕ) → command_slot clients client tag ≡ slot
+there-slot : (tags : ℕ) (world : World) (clients client tag : ℕ) (part : Part) (it : IsFound tags world client part) (slot : Option ℕ) → command_slot tags clients client tag ≡ slot
     → option_map_or (is_held_at (client_of world.host client)) slot false ≡ is_some (named_entry part slot)
-there-slot world clients client tag part it None is = refl
-there-slot world clients client tag part it (Some slot) is =
-    let own : IsOwnSlot clients client tag slot = command_slot-own clients client tag slot is in
-    held-alike world client slot part it (omega (arith, own.within))
+there-slot tags world clients client tag part it None is = refl
+there-slot tags world clients client tag part it (Some slot) is =
+    let own : IsOwnSlot tags clients client tag slot = command_slot-own tags clients client tag slot is in
+    held-alike tags world client slot part it (omega (arith, own.within))
 
-there-alike : (world : World) (clients client : ℕ) (task : Task) (part : Part) (it : IsFound world client part)
-    → has_task clients client (client_of world.host client) task ≡ is_there part (named_slot clients client task) task
-there-alike world clients client (Abort tag) part it = there-slot world clients client tag part it (command_slot clients client tag) refl
-there-alike world clients client Reset part it = refl
-there-alike world clients client (Query tag) part it = there-slot world clients client tag part it (command_slot clients client tag) refl
+there-alike : (tags : ℕ) (world : World) (clients client : ℕ) (task : Task) (part : Part) (it : IsFound tags world client part)
+    → has_task tags clients client (client_of world.host client) task ≡ is_there part (named_slot tags clients client task) task
+there-alike tags world clients client (Abort tag) part it = there-slot tags world clients client tag part it (command_slot tags clients client tag) refl
+there-alike tags world clients client Reset part it = refl
+there-alike tags world clients client (Query tag) part it = there-slot tags world clients client tag part it (command_slot tags clients client tag) refl
 
 -- the host's client of a part that is there finds the part's fault
-pub task_fault-found : (world : World) (clients client ticket : ℕ) (task : Task) (part : Part) (it : IsFound world client part)
-    → client_task_fault clients client (client_of world.host client) ticket task ≡ task_fault_at part (named_slot clients client task) ticket task
-task_fault-found world clients client ticket task part it =
+pub task_fault-found : (tags : ℕ) → AreTags tags → (world : World) (clients client ticket : ℕ) (task : Task) (part : Part) (it : IsFound tags world client part)
+    → client_task_fault tags clients client (client_of world.host client) ticket task ≡ task_fault_at tags part (named_slot tags clients client task) ticket task
+task_fault-found tags are world clients client ticket task part it =
     let is : client_of world.host client ≡ it.held = client_of-found world.host client it.held it.held_is in
-    let there : Bool = is_there part (named_slot clients client task) task in
-    ap (λ has. first_task_fault true (is_held_at (client_of world.host client) TASK_SLOT) (client_of world.host client).least_ticket ticket has)
-    (there-alike world clients client task part it)
-    ∙ ap (λ used. first_task_fault true used (client_of world.host client).least_ticket ticket (is_there part (named_slot clients client task) task))
-    (held-alike world client TASK_SLOT part it (omega arith))
-    ∙ ap (λ (c : HostClient). first_task_fault true (is_some (held_at part.entries TASK_SLOT)) c.least_ticket ticket
-    (is_there part (named_slot clients client task) task)) is
-    ∙ ap (λ least. first_task_fault true (is_some (held_at part.entries TASK_SLOT)) least ticket (is_there part (named_slot clients client task) task))
+    let there : Bool = is_there part (named_slot tags clients client task) task in
+    ap (λ has. first_task_fault true (is_held_at (client_of world.host client) (task_slot tags)) (client_of world.host client).least_ticket ticket has)
+    (there-alike tags world clients client task part it)
+    ∙ ap (λ used. first_task_fault true used (client_of world.host client).least_ticket ticket (is_there part (named_slot tags clients client task) task))
+    (held-alike tags world client (task_slot tags) part it (omega (arith, are.least)))
+    ∙ ap (λ (c : HostClient). first_task_fault true (is_some (held_at part.entries (task_slot tags))) c.least_ticket ticket
+    (is_there part (named_slot tags clients client task) task)) is
+    ∙ ap (λ least. first_task_fault true (is_some (held_at part.entries (task_slot tags))) least ticket (is_there part (named_slot tags clients client task) task))
     (sym it.fits.least_ticket)
 
 managed_or-fault : (state : Shared) (part : Part) (place : Place) (slot : Option ℕ) (ticket : ℕ) (task : Task) (fault : Option SubmitFault)
@@ -82,26 +85,27 @@ managed_or-fault state part place slot ticket task None = refl
 managed_or-fault state part place slot ticket task (Some fault) = refl
 
 -- the fault that the host finds among so many clients
-abbrev fault_among : World → ℕ → ℕ → ℕ → Task → Option SubmitFault
-fault_among world clients client ticket task =
-    cond (nat_lt client clients) (client_task_fault clients client (client_of world.host client) ticket task) (Some NotYours)
+abbrev fault_among : ℕ → World → ℕ → ℕ → ℕ → Task → Option SubmitFault
+fault_among tags world clients client ticket task =
+    cond (nat_lt client clients) (client_task_fault tags clients client (client_of world.host client) ticket task) (Some NotYours)
 
 to-fault : (state : Shared) (world : World) (client ticket : ℕ) (task : Task) (at : Option Part) → Fits state world → slice_get state.parts client ≡ at
-    → fault_among world (length state.parts) client ticket task
-    ≡ option_map fault_in (managed_to state (place_in client TASK_SLOT) (named_slot (length state.parts) client task) ticket task at).1.refused
+    → fault_among state.tags world (length state.parts) client ticket task
+    ≡ option_map fault_in (managed_to state (place_in client (task_slot state.tags)) (named_slot state.tags (length state.parts) client task) ticket task at).1.refused
 to-fault state world client ticket task None fits is =
-    ap (λ b. cond b (client_task_fault (length state.parts) client (client_of world.host client) ticket task) (Some NotYours))
+    ap (λ b. cond b (client_task_fault state.tags (length state.parts) client (client_of world.host client) ticket task) (Some NotYours))
     (le-ltb client (length state.parts) (get-none state.parts client is))
 to-fault state world client ticket task (Some part) fits is =
-    ap (λ b. cond b (client_task_fault (length state.parts) client (client_of world.host client) ticket task) (Some NotYours))
+    ap (λ b. cond b (client_task_fault state.tags (length state.parts) client (client_of world.host client) ticket task) (Some NotYours))
     (lt-ltb client (length state.parts) (get-within state.parts client part is))
-    ∙ task_fault-found world (length state.parts) client ticket task part (found world state.parts client part fits.clients is)
-    ∙ sym (managed_or-fault state part (place_in client TASK_SLOT) (named_slot (length state.parts) client task) ticket task
-    (task_fault_at part (named_slot (length state.parts) client task) ticket task))
+    ∙ task_fault-found state.tags fits.matched.tags world (length state.parts) client ticket task part (found state.tags world state.parts client part fits.clients is)
+    ∙ sym (managed_or-fault state part (place_in client (task_slot state.tags)) (named_slot state.tags (length state.parts) client task) ticket task
+    (task_fault_at state.tags part (named_slot state.tags (length state.parts) client task) ticket task))
 
 pub task_faults-agree : TaskFaultsAgree
 task_faults-agree state world client ticket task fits =
-    ap (λ n. fault_among world n client ticket task) (clients-length world state.parts fits.clients)
+    ap (λ t. fault_among t world (length world.host.clients) client ticket task) fits.tags
+    ∙ ap (λ n. fault_among state.tags world n client ticket task) (clients-length state.tags world state.parts fits.clients)
     ∙ to-fault state world client ticket task (slice_get state.parts client) fits refl
 
 -- a task management without a fault finds the task slot free, and there what it names
@@ -123,70 +127,73 @@ unfaulted_task in_use false least ticket none = unfaulted_if in_use (nat_lt tick
 -- WHAT IS NOTED
 
 -- the host's entries are the host's sides of the part's
-sides : (ones : List (Option HostEntry)) (others : List (Option Entry)) → length ones ≡ length others
-    → ((slot : ℕ) → slot < length others → held_at ones slot ≡ option_map host_side (held_at others slot)) → ones ≡ map (option_map host_side) others
-sides [] [] long each = refl
-sides [] (other ∷ others) long each = absurd (omega (arith, long))
-sides (one ∷ ones) [] long each = absurd (omega (arith, long))
-sides (one ∷ ones) (other ∷ others) long each =
-    let first : one ≡ option_map host_side other = each 0 (omega arith) in
-    let rest : ones ≡ map (option_map host_side) others = sides ones others (omega (arith, long)) (λ slot within. each (suc slot) (omega (arith, within))) in
+sides : (many : ℕ) (ones : List (Option HostEntry)) (others : List (Option Entry)) → length ones ≡ length others
+    → ((slot : ℕ) → slot < many → slot < length others → held_at ones slot ≡ option_map host_side (held_at others slot))
+    → take many ones ≡ map (option_map host_side) (take many others)
+sides zero ones others long each = refl
+sides (suc many) [] [] long each = refl
+sides (suc many) [] (other ∷ others) long each = absurd (omega (arith, long))
+sides (suc many) (one ∷ ones) [] long each = absurd (omega (arith, long))
+sides (suc many) (one ∷ ones) (other ∷ others) long each =
+    let first : one ≡ option_map host_side other = each 0 (omega arith) (omega arith) in
+    let rest : take many ones ≡ map (option_map host_side) (take many others) =
+    sides many ones others (omega (arith, long)) (λ slot within there. each (suc slot) (omega (arith, within)) (omega (arith, there))) in
     λ i. first i ∷ rest i
 
-tickets-sides : (many : ℕ) (entries : List (Option Entry)) → host_tickets_of (take many (map (option_map host_side) entries)) ≡ tickets_of (take many entries)
-tickets-sides zero entries = refl
-tickets-sides (suc many) [] = refl
-tickets-sides (suc many) (None ∷ entries) = tickets-sides many entries
-tickets-sides (suc many) (Some entry ∷ entries) = ap (λ tickets. entry.task.ticket ∷ tickets) (tickets-sides many entries)
+tickets-sides : (entries : List (Option Entry)) → host_tickets_of (map (option_map host_side) entries) ≡ tickets_of entries
+tickets-sides [] = refl
+tickets-sides (None ∷ entries) = tickets-sides entries
+tickets-sides (Some entry ∷ entries) = ap (λ tickets. entry.task.ticket ∷ tickets) (tickets-sides entries)
 
 ticket-side : (held : Option Entry) → host_tickets_of (option_map host_side held ∷ []) ≡ tickets_of (held ∷ [])
 ticket-side None = refl
 ticket-side (Some entry) = refl
 
 -- a reset
-noted-all : (world : World) (client : ℕ) (part : Part) (it : IsFound world client part) → IsSoundWorld world
-    → host_tickets_of (take TASK_SLOT (client_of world.host client).entries) ≡ tickets_of (take TASK_SLOT part.entries)
-noted-all world client part it sound =
+noted-all : (tags : ℕ) (world : World) (client : ℕ) (part : Part) (it : IsFound tags world client part) → IsSoundWorld world
+    → host_tickets_of (take (task_slot tags) (client_of world.host client).entries) ≡ tickets_of (take (task_slot tags) part.entries)
+noted-all tags world client part it sound =
     let there : client < length world.host.clients = get-within world.host.clients client it.held it.held_is in
     let long : length (client_of world.host client).entries ≡ length part.entries = (sound.host.clients client there).slots ∙ sym it.fits.slots in
-    ap (λ entries. host_tickets_of (take TASK_SLOT entries))
-    (sides (client_of world.host client).entries part.entries long
-    (λ slot within. held-side client part.unit.count (place_in client slot) (held_at part.entries slot) (cell_at world (place_in client slot))
-    (it.fits.cells slot (omega (arith, within, it.fits.slots)))))
-    ∙ tickets-sides TASK_SLOT part.entries
+    ap host_tickets_of
+    (sides (task_slot tags) (client_of world.host client).entries part.entries long
+    (λ slot within there. held-side tags client part.unit.count (place_in client slot) (held_at part.entries slot) (cell_at tags world (place_in client slot))
+    (it.fits.cells slot (omega (arith, within)))))
+    ∙ tickets-sides (take (task_slot tags) part.entries)
 
 -- an abort of what is there
-noted-named : (world : World) (clients client tag : ℕ) (part : Part) (it : IsFound world client part) (slot : Option ℕ) → command_slot clients client tag ≡ slot
+noted-named : (tags : ℕ) (world : World) (clients client tag : ℕ) (part : Part) (it : IsFound tags world client part) (slot : Option ℕ) → command_slot tags clients client tag ≡ slot
     → is_some (named_entry part slot) ≡ true
-    → host_tickets_of (held_at (client_of world.host client).entries (slot_of tag) ∷ []) ≡ tickets_of (named_entry part slot ∷ [])
-noted-named world clients client tag part it None is there = absurd (false≢true there)
-noted-named world clients client tag part it (Some slot) is there =
-    let own : IsOwnSlot clients client tag slot = command_slot-own clients client tag slot is in
-    let same : slot_of tag ≡ slot = omega (arith, own.index, own.within) in
+    → host_tickets_of (held_at (client_of world.host client).entries (slot_of tags tag) ∷ []) ≡ tickets_of (named_entry part slot ∷ [])
+noted-named tags world clients client tag part it None is there = absurd (false≢true there)
+noted-named tags world clients client tag part it (Some slot) is there =
+    let own : IsOwnSlot tags clients client tag slot = command_slot-own tags clients client tag slot is in
+    let tagged : tag ≡ client * tags + slot + 1 = omega (arith, own.index) in
+    let same : slot_of tags tag ≡ slot = ap (slot_of tags) tagged ∙ slot-of_tag tags client slot (omega (arith, own.within)) in
     ap (λ at. host_tickets_of (held_at (client_of world.host client).entries at ∷ [])) same
     ∙ ap (λ held. host_tickets_of (held ∷ []))
-    (held-side client part.unit.count (place_in client slot) (held_at part.entries slot) (cell_at world (place_in client slot))
+    (held-side tags client part.unit.count (place_in client slot) (held_at part.entries slot) (cell_at tags world (place_in client slot))
     (it.fits.cells slot (omega (arith, own.within))))
     ∙ ticket-side (held_at part.entries slot)
 
 -- the host notes what the shared machine notes
-pub noted-alike : (world : World) (clients client : ℕ) (task : Task) (part : Part) (it : IsFound world client part) → IsSoundWorld world
-    → is_there part (named_slot clients client task) task ≡ true
-    → noted_by (client_of world.host client) task ≡ noted_tickets part (named_slot clients client task) task
-noted-alike world clients client (Abort tag) part it sound there = noted-named world clients client tag part it (command_slot clients client tag) refl there
-noted-alike world clients client Reset part it sound there = noted-all world client part it sound
-noted-alike world clients client (Query tag) part it sound there = noted-named world clients client tag part it (command_slot clients client tag) refl there
+pub noted-alike : (tags : ℕ) (world : World) (clients client : ℕ) (task : Task) (part : Part) (it : IsFound tags world client part) → IsSoundWorld world
+    → is_there part (named_slot tags clients client task) task ≡ true
+    → noted_by tags (client_of world.host client) task ≡ noted_tickets tags part (named_slot tags clients client task) task
+noted-alike tags world clients client (Abort tag) part it sound there = noted-named tags world clients client tag part it (command_slot tags clients client tag) refl there
+noted-alike tags world clients client Reset part it sound there = noted-all tags world client part it sound
+noted-alike tags world clients client (Query tag) part it sound there = noted-named tags world clients client tag part it (command_slot tags clients client tag) refl there
 
 -- the tag that it names has two bytes
-named-tag : (part : Part) (clients client tag : ℕ) (slot : Option ℕ) → clients ≤ MAX_CLIENTS → command_slot clients client tag ≡ slot
+named-tag : (tags : ℕ) (part : Part) (clients client tag : ℕ) (slot : Option ℕ) → clients * tags ≤ STREAMS → command_slot tags clients client tag ≡ slot
     → is_some (named_entry part slot) ≡ true → tag < 2 ^ 16
-named-tag part clients client tag None few is there = absurd (false≢true there)
-named-tag part clients client tag (Some slot) few is there =
-    let own : IsOwnSlot clients client tag slot = command_slot-own clients client tag slot is in
-    omega (arith, own.index, own.within, own.there, few)
+named-tag tags part clients client tag None few is there = absurd (false≢true there)
+named-tag tags part clients client tag (Some slot) few is there =
+    let own : IsOwnSlot tags clients client tag slot = command_slot-own tags clients client tag slot is in
+    omega (arith, own.index, (tags-within tags clients (place_in client slot) own.there (omega (arith, own.within))).1, few)
 
-pub named-short : (part : Part) (clients client : ℕ) (task : Task) → clients ≤ MAX_CLIENTS → is_there part (named_slot clients client task) task ≡ true
+pub named-short : (tags : ℕ) (part : Part) (clients client : ℕ) (task : Task) → clients * tags ≤ STREAMS → is_there part (named_slot tags clients client task) task ≡ true
     → named_tag task < 2 ^ 16
-named-short part clients client (Abort tag) few there = named-tag part clients client tag (command_slot clients client tag) few refl there
-named-short part clients client Reset few there = omega arith
-named-short part clients client (Query tag) few there = named-tag part clients client tag (command_slot clients client tag) few refl there
+named-short tags part clients client (Abort tag) few there = named-tag tags part clients client tag (command_slot tags clients client tag) few refl there
+named-short tags part clients client Reset few there = omega arith
+named-short tags part clients client (Query tag) few there = named-tag tags part clients client tag (command_slot tags clients client tag) few refl there

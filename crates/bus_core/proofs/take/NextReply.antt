@@ -59,11 +59,11 @@ part-len state world client part (slot ∷ rest) fits there queue =
 client-len : (state : Shared) (world : World) (client : ℕ) (at : Option Part) → Fits state world → slice_get state.parts client ≡ at
     → option_map_or part_len at 0 ≡ host_next_len world.host client
 client-len state world client None fits there =
-    let past : length world.host.clients ≤ client = omega (arith, clients-length world state.parts fits.clients, get-none state.parts client there) in
+    let past : length world.host.clients ≤ client = omega (arith, clients-length state.tags world state.parts fits.clients, get-none state.parts client there) in
     sym (ap (λ (c : HostClient). host_first_len c c.ready.items) (index-past world.host.clients client new_client past))
 client-len state world client (Some part) fits there =
     part-len state world client part part.ready fits there refl
-    ∙ sym (ap (host_first_len (client_of world.host client)) (ready-found world client part (found world state.parts client part fits.clients there)))
+    ∙ sym (ap (host_first_len (client_of world.host client)) (ready-found state.tags world client part (found state.tags world state.parts client part fits.clients there)))
 
 -- the shared machine's is the host's
 pub next_len-host : (state : Shared) (world : World) (client : ℕ) → Fits state world → next_len state client ≡ host_next_len world.host client

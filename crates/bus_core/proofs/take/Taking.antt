@@ -19,7 +19,6 @@ use Rattle.scsi_cmd.specs.declared.Reply.TheVariants.{Aborted, Status as StatusR
 use Rattle.scsi_cmd.specs.declared.Op.{Op}
 use Rattle.scsi_cmd.specs.declared.Task.{Task}
 use Rattle.arrayvec.specs.ArrayVec.{ArrayVec}
-use Rattle.uas_profile.specs.declared.TheConstants.{TAGS, MAX_CLIENTS}
 use Rattle.scsi_cmd.specs.Held.{held_at}
 use Rattle.device_server.specs.declared.Answer.{Answer}
 use Rattle.solo_model.specs.declared.ResponseCode.{ResponseCode}
@@ -37,7 +36,7 @@ use Rattle.uas_profile.specs.TdStates.{is_over, is_seen}
 use Rattle.uas_host.specs.State.{client_of, new_client, with_client}
 use Rattle.uas_host.specs.Replies.{Given, command_reply, given, no_reply, replied, replied_first, reply_of, reply_to, slot_reply, status_reply, task_reply}
 use Rattle.uas_host.specs.Replies.{without, without_lent}
-use Rattle.uas_profile.specs.Places.{tag_of}
+use Rattle.uas_profile.specs.Tags.{tag_of}
 use Rattle.uas_host.specs.Tds.{data_td, status_td}
 use Rattle.uas_target.specs.Device.{task_of}
 use Rattle.xhci_ctl.specs.Pipes.{ControllerState}
@@ -57,9 +56,11 @@ use Rattle.bus_core.proofs.common.CellWrites.{client_of-found, entry_at-same, en
 use Rattle.bus_core.proofs.common.EventTexts.{KeepsOthers, event_texts-one}
 use Rattle.bus_core.proofs.common.Framing.{AllFit, AllFit-set, FitsPart-set, ChangesCell, IsFound, engine-kept, fits-anew, found}
 use Rattle.machine_invariant.proofs.MatchedEnds.{pushed-over}
-use Rattle.machine_invariant.proofs.MatchedPlaces.{held-within}
 use Rattle.machine_invariant.proofs.MatchedSteps.{IsFirstReady, first-ready, IsHeld, matched-held, settled_part, settled_state, times_ready-there, shared_step-matched}
 use Rattle.shared_machine.proofs.Standing.{slice_get-back, get-within, get-none}
+use Rattle.machine_invariant.proofs.MatchedBounds.{held-place}
+use Rattle.uas_profile.proofs.TagLaws.{tags-within}
+use Rattle.uas_profile.specs.declared.TheConstants.{STREAMS}
 
 -- WHERE NOTHING IS READY
 
@@ -67,8 +68,8 @@ replied-by : (world : World) (client : ℕ) (ready : List ℕ) → (client_of wo
     → replied world.host world.frames client ≡ replied_first world.host world.frames client ready
 replied-by world client ready is = ap (replied_first world.host world.frames client) is
 
-pub ready-found : (world : World) (client : ℕ) (part : Part) (it : IsFound world client part) → (client_of world.host client).ready.items ≡ part.ready
-ready-found world client part it = ap (λ (c : HostClient). c.ready.items) (client_of-found world.host client it.held it.held_is) ∙ sym it.fits.ready
+pub ready-found : (tags : ℕ) (world : World) (client : ℕ) (part : Part) (it : IsFound tags world client part) → (client_of world.host client).ready.items ≡ part.ready
+ready-found tags world client part it = ap (λ (c : HostClient). c.ready.items) (client_of-found world.host client it.held it.held_is) ∙ sym it.fits.ready
 
 idle-queue : (world : World) (client : ℕ) (ready : List ℕ) → (client_of world.host client).ready.items ≡ ready → is_some_of ready ≡ false
     → replied world.host world.frames client ≡ no_reply world.host world.frames
@@ -79,10 +80,10 @@ idle-part : (state : Shared) (world : World) (client : ℕ) (at : Option Part) �
     → option_map_or has_ready at false ≡ false
     → replied world.host world.frames client ≡ no_reply world.host world.frames
 idle-part state world client None fits is none =
-    let past : length world.host.clients ≤ client = omega (arith, clients-length world state.parts fits.clients, get-none state.parts client is) in
+    let past : length world.host.clients ≤ client = omega (arith, clients-length state.tags world state.parts fits.clients, get-none state.parts client is) in
     replied-by world client [] (ap (λ (c : HostClient). c.ready.items) (index-past world.host.clients client new_client past))
 idle-part state world client (Some part) fits is none =
-    idle-queue world client part.ready (ready-found world client part (found world state.parts client part fits.clients is)) none
+    idle-queue world client part.ready (ready-found state.tags world client part (found state.tags world state.parts client part fits.clients is)) none
 
 pub take-is-idle : TakeIsIdle
 take-is-idle state world client fits not_due = idle-part state world client (slice_get state.parts client) fits refl not_due
@@ -93,12 +94,12 @@ take-is-idle state world client fits not_due = idle-part state world client (sli
 pub record IsReadyAt (state : Shared) (world : World) (client slot : ℕ) (rest : List ℕ) (part : Part) : Type 0 where
   pub there : slice_get state.parts client ≡ Some part
   pub queue : part.ready ≡ slot ∷ rest
-  pub it : IsFound world client part
-  pub within : slot < TAGS
+  pub it : IsFound state.tags world client part
+  pub within : slot < state.tags
   pub entry : Entry
   pub held : held_at part.entries slot ≡ Some entry
-  pub matched : IsMatchedEntry slot entry
-  pub cell : FitsCell client part.unit.count (place_in client slot) entry (cell_at world (place_in client slot))
+  pub matched : IsMatchedEntry state.tags slot entry
+  pub cell : FitsCell state.tags client part.unit.count (place_in client slot) entry (cell_at state.tags world (place_in client slot))
   pub status_over : is_over entry.status_td.state ≡ true
   pub data_over : is_data_over entry.data_td ≡ true
 
@@ -111,8 +112,8 @@ ready-at state world client slot rest part fits there queue =
     let first : IsFirstReady (under state.parts place) slot rest = first-ready (under state.parts place) slot rest counted in
     let at : IsHeld state place first.entry = matched-held state place first.entry fits.matched first.is in
     let held : held_at part.entries slot ≡ Some first.entry = sym (ap (λ found. option_map_or (held_in place) found None) there) ∙ first.is in
-    let it : IsFound world client part = found world state.parts client part fits.clients there in
-    let within : slot < TAGS = omega (arith, held-within part.entries slot first.entry held, it.fits.slots) in
+    let it : IsFound state.tags world client part = found state.tags world state.parts client part fits.clients there in
+    let within : slot < state.tags = (held-place state place first.entry fits.matched first.is).slot in
     let over = and_parts (is_over first.entry.status_td.state) (is_data_over first.entry.data_td)
     (and_parts (is_seen first.entry.command_td.state) (is_over first.entry.status_td.state && is_data_over first.entry.data_td) first.ready).1 in
     record {
@@ -123,7 +124,7 @@ ready-at state world client slot rest part fits there queue =
       entry = first.entry;
       held = held;
       matched = at.here.sound;
-      cell = subst (λ o. FitsHeld client part.unit.count place o (cell_at world place)) held (it.fits.cells slot within);
+      cell = subst (λ o. FitsHeld state.tags client part.unit.count place o (cell_at state.tags world place)) held (it.fits.cells slot within);
       status_over = over.0;
       data_over = over.1;
     }
@@ -213,8 +214,8 @@ replied-by_phase tag entry (Manage what noted) (Sent (WithResponse code)) asks a
     task-replied tag entry what noted code asks at (over-seen entry.status_td.state td.1 over)
 replied-by_phase tag entry (Manage what noted) Gone asks at answers td over = absurd answers
 
-entry-replied : (tag slot : ℕ) (entry : Entry) → IsMatchedEntry slot entry → is_over entry.status_td.state ≡ true → IsReplied tag entry
-entry-replied tag slot entry matched over =
+entry-replied : (tags tag slot : ℕ) (entry : Entry) → IsMatchedEntry tags slot entry → is_over entry.status_td.state ≡ true → IsReplied tag entry
+entry-replied tags tag slot entry matched over =
     replied-by_phase tag entry entry.task.request entry.task.phase refl refl matched.answers matched.status over
 
 -- what the device has of it: nothing
@@ -226,41 +227,49 @@ over-apart unit request (Sent answer) td is over = refl
 over-apart unit request Gone td is over = refl
 
 slot_reply-is : (state : Shared) (world : World) (client slot : ℕ) (rest : List ℕ) (part : Part) (at : IsReadyAt state world client slot rest part)
-    (replied : IsReplied (tag_of (place_in client slot)) at.entry) → slot_reply world.host world.frames client slot ≡ Some replied.reply
-slot_reply-is state world client slot rest part at replied =
-    let tag : ℕ = tag_of (place_in client slot) in
-    ap (λ held. option_and_then (reply_of tag (held_for world.frames tag).lent) held) at.cell.held
+    (replied : IsReplied (tag_of state.tags (place_in client slot)) at.entry) → world.host.tags ≡ state.tags → slot_reply world.host world.frames client slot ≡ Some replied.reply
+slot_reply-is state world client slot rest part at replied number =
+    let tag : ℕ = tag_of state.tags (place_in client slot) in
+    ap (λ t. option_and_then (reply_of (tag_of t (place_in client slot)) (held_for world.frames (tag_of t (place_in client slot))).lent)
+    (held_at (client_of world.host client).entries slot)) number
+    ∙ ap (λ held. option_and_then (reply_of tag (held_for world.frames tag).lent) held) at.cell.held
     ∙ ap (λ lent. reply_of tag lent (host_side at.entry)) at.cell.lent ∙ replied.host
 
-abbrev host_after : World → ℕ → ℕ → List ℕ → Request → World
-host_after world client slot rest request = record world {
+abbrev host_after : ℕ → World → ℕ → ℕ → List ℕ → Request → World
+host_after tags world client slot rest request = record world {
   host = with_client world.host client (without (client_of world.host client) slot rest);
-  frames = frames_given request world.frames (tag_of (place_in client slot));
+  frames = frames_given request world.frames (tag_of tags (place_in client slot));
 }
 
 replied-is : (state : Shared) (world : World) (client slot : ℕ) (rest : List ℕ) (part : Part) (at : IsReadyAt state world client slot rest part)
-    (it : IsReplied (tag_of (place_in client slot)) at.entry)
+    (it : IsReplied (tag_of state.tags (place_in client slot)) at.entry) → world.host.tags ≡ state.tags
     → replied world.host world.frames client ≡ given world.host world.frames client slot rest (Some it.reply)
-replied-is state world client slot rest part at it =
-    replied-by world client (slot ∷ rest) (ready-found world client part at.it ∙ at.queue)
-    ∙ ap (given world.host world.frames client slot rest) (slot_reply-is state world client slot rest part at it)
+replied-is state world client slot rest part at it number =
+    replied-by world client (slot ∷ rest) (ready-found state.tags world client part at.it ∙ at.queue)
+    ∙ ap (given world.host world.frames client slot rest) (slot_reply-is state world client slot rest part at it number)
 
 taken-reply : (state : Shared) (world : World) (client slot : ℕ) (rest : List ℕ) (part : Part) (at : IsReadyAt state world client slot rest part)
-    (it : IsReplied (tag_of (place_in client slot)) at.entry) → (routed state client (take_act client)).1.reply ≡ Some it.reply
+    (it : IsReplied (tag_of state.tags (place_in client slot)) at.entry) → (routed state client (take_act state.tags client)).1.reply ≡ Some it.reply
 taken-reply state world client slot rest part at it =
-    ap (λ found. (routed_to state client (take_act client) found).1.reply) at.there
-    ∙ ap (λ ready. (taken client part ready).reply) at.queue
-    ∙ ap (λ found. (settled part slot rest (option_and_then (entry_reply (slot_tag client slot)) found)).reply) at.held
+    ap (λ found. (routed_to state client (take_act state.tags client) found).1.reply) at.there
+    ∙ ap (λ ready. (taken state.tags client part ready).reply) at.queue
+    ∙ ap (λ found. (settled part slot rest (option_and_then (entry_reply (slot_tag state.tags client slot)) found)).reply) at.held
     ∙ ap (λ reply. (settled part slot rest reply).reply) it.shared
 
 taken-state : (state : Shared) (world : World) (client slot : ℕ) (rest : List ℕ) (part : Part) (at : IsReadyAt state world client slot rest part)
-    → IsReplied (tag_of (place_in client slot)) at.entry
-    → (routed state client (take_act client)).0 ≡ settled_state state (place_in client slot) part rest
+    → IsReplied (tag_of state.tags (place_in client slot)) at.entry
+    → (routed state client (take_act state.tags client)).0 ≡ settled_state state (place_in client slot) part rest
 taken-state state world client slot rest part at it =
-    ap (λ found. (routed_to state client (take_act client) found).0) at.there
-    ∙ ap (λ ready. (acted_on state client (taken client part ready)).0) at.queue
-    ∙ ap (λ found. (acted_on state client (settled part slot rest (option_and_then (entry_reply (slot_tag client slot)) found))).0) at.held
+    ap (λ found. (routed_to state client (take_act state.tags client) found).0) at.there
+    ∙ ap (λ ready. (acted_on state client (taken state.tags client part ready)).0) at.queue
+    ∙ ap (λ found. (acted_on state client (settled part slot rest (option_and_then (entry_reply (slot_tag state.tags client slot)) found))).0) at.held
     ∙ ap (λ reply. (acted_on state client (settled part slot rest reply)).0) it.shared
+
+-- the tag of a place is one of a stream
+tag-most : (state : Shared) (world : World) (client slot : ℕ) (part : Part) → Fits state world → slice_get state.parts client ≡ Some part → slot < state.tags
+    → tag_of state.tags (place_in client slot) ≤ STREAMS
+tag-most state world client slot part fits there within =
+    omega (arith, (tags-within state.tags (length state.parts) (place_in client slot) (get-within state.parts client part there) within).1, fits.most_tags)
 
 -- THE CELL IS EMPTY
 
@@ -302,53 +311,55 @@ given-other : (request : Request) (frames : List TagBuffers) (tag other : ℕ) �
 given-other (Execute op) frames tag other some there apart = held_for-other frames tag other _ some there apart
 given-other (Manage what noted) frames tag other some there apart = refl
 
-take-others : (world : World) (client slot : ℕ) (rest : List ℕ) (request : Request) (part : Part) → IsFound world client part
-    → KeepsOthers world (host_after world client slot rest request) (place_in client slot)
-take-others world client slot rest request part it other at inside apart =
-    let held_is = entry_at-other world.host client slot other at (without (client_of world.host client) slot rest) None
+take-others : (tags : ℕ) (world : World) (client slot : ℕ) (rest : List ℕ) (request : Request) (part : Part) → IsFound tags world client part
+    → KeepsOthers tags world (host_after tags world client slot rest request) (place_in client slot)
+take-others tags world client slot rest request part it other at inside apart =
+    let held_is = entry_at-other tags world.host client slot other at (without (client_of world.host client) slot rest) None
     (get-within world.host.clients client it.held it.held_is) refl apart in
-    let buffers_is = given-other request world.frames (tag_of (place_in client slot)) (tag_of (place_in other at)) (omega arith) (omega arith) apart in
-    λ i. record (cell_at world (place_in other at)) { held = held_is i; buffers = buffers_is i }
+    let buffers_is = given-other request world.frames (tag_of tags (place_in client slot)) (tag_of tags (place_in other at)) (omega arith) (omega arith) apart in
+    λ i. record (cell_at tags world (place_in other at)) { held = held_is i; buffers = buffers_is i }
 
 take-cell : (state : Shared) (world : World) (client slot : ℕ) (rest : List ℕ) (part : Part) (at : IsReadyAt state world client slot rest part)
-    → Fits state world → client < MAX_CLIENTS → IsEmptyCell (cell_at (host_after world client slot rest at.entry.task.request) (place_in client slot))
-take-cell state world client slot rest part at fits few =
-    let tag : ℕ = tag_of (place_in client slot) in
+    → Fits state world → IsEmptyCell (cell_at state.tags (host_after state.tags world client slot rest at.entry.task.request) (place_in client slot))
+take-cell state world client slot rest part at fits =
+    let tag : ℕ = tag_of state.tags (place_in client slot) in
+    let most : tag_of state.tags (place_in client slot) ≤ STREAMS = tag-most state world client slot part fits at.there at.within in
     let there = get-within world.host.clients client at.it.held at.it.held_is in
     let way : Direction = request_direction at.entry.task.request in
     let data_trbs : List Trb = data_td tag (request_bytes at.entry.task.request) in
     record {
       held = entry_at-same world.host client slot (without (client_of world.host client) slot rest) (client_of world.host client).entries None
-          there (omega (arith, at.within, (fits.sound.host.clients client there).slots)) refl;
+          there (omega (arith, at.within, (fits.sound.host.clients client there).slots, fits.matched.tags.most)) refl;
       task = at.cell.task
           ∙ over-apart (Some client) at.entry.task.request at.entry.task.phase at.entry.status_td at.matched.status at.status_over;
-      status = holds-over (cell_at world (place_in client slot)).status
+      status = holds-over (cell_at state.tags world (place_in client slot)).status
           (status_td tag) at.entry.status_td.consumed at.entry.status_td.state at.status_over at.cell.status;
-      data_in = data-over (cell_at world (place_in client slot)).data_in data_trbs (data_in_td way at.entry.data_td)
+      data_in = data-over (cell_at state.tags world (place_in client slot)).data_in data_trbs (data_in_td way at.entry.data_td)
           (in-over way at.entry.data_td at.data_over) at.cell.data_in;
-      data_out = data-over (cell_at world (place_in client slot)).data_out data_trbs (data_out_td way at.entry.data_td)
+      data_out = data-over (cell_at state.tags world (place_in client slot)).data_out data_trbs (data_out_td way at.entry.data_td)
           (out-over way at.entry.data_td at.data_over) at.cell.data_out;
-      lent = given-lent at.entry.task.request world.frames tag at.entry.task.buffer (omega arith) (omega (arith, few, at.within, fits.sound.frames.tags))
+      lent = given-lent at.entry.task.request world.frames tag at.entry.task.buffer (omega arith) (omega (arith, most, fits.sound.frames.tags))
           at.cell.lent;
     }
 
 -- ALL TOGETHER
 
 take-queues : (state : Shared) (world : World) (client slot : ℕ) (rest : List ℕ) (part : Part) (at : IsReadyAt state world client slot rest part)
-    → Fits state world → client < MAX_CLIENTS
-    → FitsQueues (settled_state state (place_in client slot) part rest) (host_after world client slot rest at.entry.task.request)
-take-queues state world client slot rest part at fits few =
-    let tag : ℕ = tag_of (place_in client slot) in
-    let after : World = host_after world client slot rest at.entry.task.request in
+    → Fits state world
+    → FitsQueues (settled_state state (place_in client slot) part rest) (host_after state.tags world client slot rest at.entry.task.request)
+take-queues state world client slot rest part at fits =
+    let tag : ℕ = tag_of state.tags (place_in client slot) in
+    let most : tag_of state.tags (place_in client slot) ≤ STREAMS = tag-most state world client slot part fits at.there at.within in
+    let after : World = host_after state.tags world client slot rest at.entry.task.request in
     let same : state.events ≡ state.events ++ [] = sym (append-nil state.events) in
-    let status_is = given-status at.entry.task.request world.frames tag (omega arith) (omega (arith, few, at.within, fits.sound.frames.tags)) in
+    let status_is = given-status at.entry.task.request world.frames tag (omega arith) (omega (arith, most, fits.sound.frames.tags)) in
     record {
-      put = fits.queues.put ∙ ap (λ es. map command_item (carried_places es ++ state.messages)) same;
+      put = fits.queues.put ∙ ap (λ es. map (command_item state.tags) (carried_places es ++ state.messages)) same;
       got = fits.queues.got ∙ ap (λ es. length (carried_places es)) same;
       texts = fits.queues.texts
           ∙ sym (event_texts-one state world after (place_in client slot) 0 fits.matched at.within (refl, refl) refl
-          (take-others world client slot rest at.entry.task.request part at.it) (λ some. (refl, refl)) (λ some. (refl, status_is)))
-          ∙ ap (event_texts after 0) same;
+          (take-others state.tags world client slot rest at.entry.task.request part at.it) (λ some. (refl, refl)) (λ some. (refl, status_is)))
+          ∙ ap (event_texts state.tags after 0) same;
     }
 
 -- what fits besides after a step that leaves the pipes' doorbells and the number of clients
@@ -358,14 +369,15 @@ pub record FitsBesides (state now : Shared) (after : World) : Type 0 where
   pub queues : FitsQueues now after
   pub engine : FitsEngine now after
   pub matched : IsMatched now
-  pub clients : AllFit after now.parts
-  pub others : (tag : ℕ) → TAGS * length state.parts < tag → task_of after.device tag ≡ None
-  pub unused : (tag : ℕ) → TAGS * length state.parts < tag → AreUnused after.lines tag
+  pub clients : AllFit state.tags after now.parts
+  pub others : (tag : ℕ) → length state.parts * state.tags < tag → task_of after.device tag ≡ None
+  pub unused : (tag : ℕ) → length state.parts * state.tags < tag → AreUnused after.lines tag
 
-pub fits-besides : (state now : Shared) (world after : World) → Fits state world → after.controller ≡ world.controller → now.status ≡ state.status
+pub fits-besides : (state now : Shared) (world after : World) → Fits state world → now.tags ≡ state.tags → after.host.tags ≡ world.host.tags
+    → after.controller ≡ world.controller → now.status ≡ state.status
     → now.data_in ≡ state.data_in → now.data_out ≡ state.data_out → FitsBesides state now after → Fits now after
-fits-besides state now world after fits controller status data_in data_out besides =
-    fits-anew state now world after fits besides.long (record {
+fits-besides state now world after fits number host controller status data_in data_out besides =
+    fits-anew state now world after fits number host besides.long (record {
       status = ap (λ (c : ControllerState). c.status) controller ∙ fits.status ∙ sym status;
       data_in = ap (λ (c : ControllerState). c.data_in) controller ∙ fits.data_in ∙ sym data_in;
       data_out = ap (λ (c : ControllerState). c.data_out) controller ∙ fits.data_out ∙ sym data_out;
@@ -373,29 +385,28 @@ fits-besides state now world after fits controller status data_in data_out besid
 
 take-fits : (state : Shared) (world : World) (client slot : ℕ) (rest : List ℕ) (part : Part) (at : IsReadyAt state world client slot rest part)
     → Fits state world → IsMatched (settled_state state (place_in client slot) part rest)
-    → IsSoundWorld (host_after world client slot rest at.entry.task.request)
-    → Fits (settled_state state (place_in client slot) part rest) (host_after world client slot rest at.entry.task.request)
+    → IsSoundWorld (host_after state.tags world client slot rest at.entry.task.request)
+    → Fits (settled_state state (place_in client slot) part rest) (host_after state.tags world client slot rest at.entry.task.request)
 take-fits state world client slot rest part at fits matched sound =
-    let few : client < MAX_CLIENTS = omega (arith, get-within state.parts client part at.there, fits.most_clients) in
-    let after : World = host_after world client slot rest at.entry.task.request in
+    let after : World = host_after state.tags world client slot rest at.entry.task.request in
     let held_now : HostClient = without (client_of world.host client) slot rest in
-    let changes : ChangesCell world (host_after world client slot rest at.entry.task.request) client slot held_now part.unit = record {
+    let changes : ChangesCell state.tags world (host_after state.tags world client slot rest at.entry.task.request) client slot held_now part.unit = record {
       hosts = refl;
       units = sym (slice_get-back world.device.units client part.unit at.it.unit_is);
-      others = take-others world client slot rest at.entry.task.request part at.it;
+      others = take-others state.tags world client slot rest at.entry.task.request part at.it;
     } in
     let least_is : part.least_ticket ≡ held_now.least_ticket =
     at.it.fits.least_ticket ∙ ap (λ (c : HostClient). c.least_ticket) (sym (client_of-found world.host client at.it.held at.it.held_is)) in
-    fits-besides state (settled_state state (place_in client slot) part rest) world after fits refl refl refl refl (record {
+    fits-besides state (settled_state state (place_in client slot) part rest) world after fits refl refl refl refl refl refl (record {
       long = length-set state.parts client (settled_part part slot rest);
       sound = sound;
-      queues = take-queues state world client slot rest part at fits few;
-      engine = engine-kept state (settled_state state (place_in client slot) part rest) world after fits.engine refl refl refl (λ r is. refl);
+      queues = take-queues state world client slot rest part at fits;
+      engine = engine-kept state (settled_state state (place_in client slot) part rest) world after fits.engine refl refl refl refl (λ r is. refl);
       matched = matched;
-      clients = AllFit-set world after state.parts client slot part.unit held_now part (settled_part part slot rest)
+      clients = AllFit-set state.tags world after state.parts client slot part.unit held_now part (settled_part part slot rest)
           fits.clients at.there at.within changes
-          (FitsPart-set world after client slot part.unit part.unit at.it.held held_now part None part.least_ticket rest
-          at.it.fits at.within changes refl least_is refl (take-cell state world client slot rest part at fits few));
+          (FitsPart-set state.tags fits.matched.tags world after client slot part.unit part.unit at.it.held held_now part None part.least_ticket rest
+          at.it.fits at.within changes refl least_is refl (take-cell state world client slot rest part at fits));
       others = fits.others;
       unused = fits.unused;
     })
@@ -403,16 +414,18 @@ take-fits state world client slot rest part at fits matched sound =
 take-at : (state : Shared) (world : World) (client slot : ℕ) (rest : List ℕ) (part : Part) → IsReadyAt state world client slot rest part → Fits state world
     → due state (Take client) ≡ true → TakeFits state world client
 take-at state world client slot rest part at fits is_due =
-    let it : IsReplied (tag_of (place_in client slot)) at.entry =
-    entry-replied (tag_of (place_in client slot)) slot at.entry at.matched at.status_over in
-    let stepped : shared_step state (Take client) ≡ routed state client (take_act client) = ap
+    let it : IsReplied (tag_of state.tags (place_in client slot)) at.entry =
+    entry-replied state.tags (tag_of state.tags (place_in client slot)) slot at.entry at.matched at.status_over in
+    let stepped : shared_step state (Take client) ≡ routed state client (take_act state.tags client) = ap
     (λ b. cond b (due_step state (Take client)) (state, idle)) is_due in
     let now : (shared_step state (Take client)).0 ≡ settled_state state (place_in client slot) part rest =
     ap (λ after. after.0) stepped ∙ taken-state state world client slot rest part at it in
-    let gives = replied-is state world client slot rest part at it in
-    let world_is : take_world world client ≡ host_after world client slot rest at.entry.task.request =
+    let gives = replied-is state world client slot rest part at it fits.tags in
+    let world_is : take_world world client ≡ host_after state.tags world client slot rest at.entry.task.request =
     ap (λ (g : Given). record world { host = g.host; frames = g.frames }) gives
-    ∙ ap (λ frames. record (host_after world client slot rest at.entry.task.request) { frames = frames }) (it.frames world.frames) in
+    ∙ ap (λ t. record (host_after state.tags world client slot rest at.entry.task.request)
+    { frames = without_lent world.frames (tag_of t (place_in client slot)) it.reply }) fits.tags
+    ∙ ap (λ frames. record (host_after state.tags world client slot rest at.entry.task.request) { frames = frames }) (it.frames world.frames) in
     let matched = shared_step-matched state (Take client) fits.matched in
     record {
       brings = ap (λ (g : Given). is_some g.reply) gives;

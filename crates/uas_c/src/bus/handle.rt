@@ -4,6 +4,7 @@ ghost use types.Logic.{sem};
 ghost use base.Fraction.{full_share};
 ghost use denote.RawPtr.{lies_at, room_at};
 ghost use Rattle.shared_machine.specs.Shared.{Shared, opening};
+ghost use Rattle.uas_profile.specs.declared.TheConstants.{TAGS};
 ghost use Rattle.uas_c.specs.BusCall.{bus_answer};
 ghost use Rattle.c_common.specs.Handed.{handed};
 ghost use Rattle.c_common.specs.HandedOut.{handed_out};
@@ -28,7 +29,7 @@ pub struct UasBus {
 pub extern "C" fn uas_bus_new(alloc: Global, blocks: &[u32], bus: &mut *mut UasBus) -> u8
     ensures fault { units_told result blocks.now [] [] ≡ true }
     ensures refused { 0 < result → bus.new ≡ bus.old }
-    ensures* handed_out { sem 𝓛 (handed_out bus_row (λ made. made ≡ opening (opened_units blocks.now [] [])) result bus.new) }
+    ensures* handed_out { sem 𝓛 (handed_out bus_row (λ made. made ≡ opening TAGS (opened_units blocks.now [] [])) result bus.new) }
 {
     new_handle::<KeptBus, UasBus>(alloc, blocks, bus)
 }
@@ -45,7 +46,7 @@ pub extern "C" fn uas_bus_open(
 ) -> u8
     ensures fault { units_told result blocks.now image.now bad.now ≡ true }
     ensures refused { 0 < result → bus.new ≡ bus.old }
-    ensures* handed_out { sem 𝓛 (handed_out bus_row (λ made. made ≡ opening (opened_units blocks.now image.now bad.now)) result bus.new) }
+    ensures* handed_out { sem 𝓛 (handed_out bus_row (λ made. made ≡ opening TAGS (opened_units blocks.now image.now bad.now)) result bus.new) }
 {
     open_handle::<KeptBus, UasBus>(alloc, blocks, image, bad, bus)
 }

@@ -1,6 +1,6 @@
 //! The driver's door, what its numbers name, and what is told by it.
 ghost use Rattle.std.specs.Prelude.{◌≡◌, ◌==◌, false};
-ghost use Rattle.c_faults.specs.declared.TheConstants.{NO_MEMORY};
+ghost use Rattle.c_common.specs.declared.faults.TheConstants.{NO_MEMORY};
 ghost use Rattle.uas_c.specs.DriverCall.{driver_call, driver_refusal, endpoint_numbered, event_named, state_numbered, with_answer, with_doorbells, with_next};
 ghost use Rattle.uas_c.specs.DriverCall.{with_taken, with_wanted};
 
@@ -8,7 +8,7 @@ use crate::client::client_fault;
 use crate::driver::answer::ToldAnswer;
 use arrayvec::ArrayVec;
 use c_common::UasOperation;
-use c_faults::{CLIENT_TICKET, DRIVER_ADDRESS, DRIVER_RING, DRIVER_ROOM};
+use c_common::faults::{CLIENT_TICKET, DRIVER_ADDRESS, DRIVER_RING, DRIVER_ROOM};
 use event_ring::Event;
 use stream_array::Pipe;
 use uas_driver::{EndpointState, Refusal, Taken};

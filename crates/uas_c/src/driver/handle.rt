@@ -3,6 +3,7 @@ ghost use Rattle.std.specs.Prelude.{◌≡◌, ℕ, List, ◌<◌, ◌^◌, true
 ghost use types.Logic.{sem};
 ghost use base.Fraction.{full_share};
 ghost use denote.RawPtr.{lies_at, room_at};
+ghost use Rattle.uas_profile.specs.declared.TheConstants.{TAGS};
 ghost use Rattle.uas_driver.specs.Driver.{DriverState, IsOpening};
 ghost use Rattle.uas_c.specs.DriverCall.{clients_told, driver_answer};
 ghost use Rattle.c_common.specs.Handed.{handed};
@@ -28,7 +29,7 @@ pub struct UasDriver {
 pub extern "C" fn uas_driver_new(alloc: Global, clients: usize, driver: &mut *mut UasDriver) -> u8
     ensures fault { clients_told result clients ≡ true }
     ensures refused { 0 < result → driver.new ≡ driver.old }
-    ensures* handed_out { sem 𝓛 (handed_out driver_row (IsOpening clients) result driver.new) }
+    ensures* handed_out { sem 𝓛 (handed_out driver_row (IsOpening TAGS clients) result driver.new) }
 {
     hand_out_made(made(alloc, clients), driver)
 }

@@ -3,7 +3,7 @@ ghost use Rattle.std.specs.Prelude.{◌≡◌};
 ghost use Rattle.uas_device_c.specs.ControllerCall.{controller_call, controller_refusal, controller_step, ring_numbered};
 
 use c_common::ShownFaults;
-use c_faults::{
+use c_common::faults::{
     CONTROLLER_ADDRESS, CONTROLLER_FULL, CONTROLLER_LENGTH, CONTROLLER_LENT,
     CONTROLLER_NOT_CONSUMED, CONTROLLER_NOT_LENT, CONTROLLER_RANGE, CONTROLLER_RING,
     CONTROLLER_TAG, CONTROLLER_UNIT,

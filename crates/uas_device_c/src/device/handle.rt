@@ -3,6 +3,7 @@ ghost use Rattle.std.specs.Prelude.{◌≡◌, ℕ, List, [], ◌<◌, ◌^◌, 
 ghost use types.Logic.{sem};
 ghost use base.Fraction.{full_share};
 ghost use denote.RawPtr.{lies_at, room_at};
+ghost use Rattle.uas_profile.specs.declared.TheConstants.{GREATEST_TAG};
 ghost use Rattle.uas_target.specs.Device.{Device, opening};
 ghost use Rattle.uas_device_c.specs.contracts.device.KeptDevice.{the_row as device_row};
 ghost use Rattle.uas_device_c.specs.DeviceCall.{after_call};
@@ -28,7 +29,7 @@ pub struct UasDevice {
 pub extern "C" fn uas_device_new(alloc: Global, blocks: &[u32], device: &mut *mut UasDevice) -> u8
     ensures fault { units_told result blocks.now [] [] ≡ true }
     ensures refused { 0 < result → device.new ≡ device.old }
-    ensures* handed_out { sem 𝓛 (handed_out device_row (λ made. made ≡ opening (opened_units blocks.now [] [])) result device.new) }
+    ensures* handed_out { sem 𝓛 (handed_out device_row (λ made. made ≡ opening GREATEST_TAG (opened_units blocks.now [] [])) result device.new) }
 {
     new_handle::<KeptDevice, UasDevice>(alloc, blocks, device)
 }
@@ -45,7 +46,7 @@ pub extern "C" fn uas_device_open(
 ) -> u8
     ensures fault { units_told result blocks.now image.now bad.now ≡ true }
     ensures refused { 0 < result → device.new ≡ device.old }
-    ensures* handed_out { sem 𝓛 (handed_out device_row (λ made. made ≡ opening (opened_units blocks.now image.now bad.now)) result device.new) }
+    ensures* handed_out { sem 𝓛 (handed_out device_row (λ made. made ≡ opening GREATEST_TAG (opened_units blocks.now image.now bad.now)) result device.new) }
 {
     open_handle::<KeptDevice, UasDevice>(alloc, blocks, image, bad, device)
 }

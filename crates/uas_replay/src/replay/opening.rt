@@ -1,14 +1,14 @@
 //! What a script's run begins with: zeroed units, and clients without a tag that is out.
 
 ghost use Rattle.std.specs.Prelude.{◌≡◌, ◌≤◌, [], option_to_list, replicate, IfOk};
+ghost use Rattle.uas_profile.specs.Tags.{AreTags};
 ghost use Rattle.uas_profile.specs.declared.TheConstants.{MAX_BLOCKS, MAX_CLIENTS};
 ghost use Rattle.uas_replay.specs.Told.{opening_ranges, zeroed_units};
 
 use super::notes::TicketNotes;
 use block_unit::Unit;
 use std::alloc::{AllocError, Global};
-use tag_range::TagRange;
-use uas_profile::TAGS;
+use tag_range::ClientRange;
 
 /// So many units of zeroed blocks, in each of which this block is bad where the unit has it.
 pub fn zeroed_units(
@@ -39,14 +39,19 @@ fn bad_blocks(alloc: Global, bad: Option<u32>) -> Result<Vec<u32>, AllocError>
     Ok(blocks)
 }
 
-/// The tags of so many clients, none of them out.
-pub fn opening_ranges(alloc: Global, clients: usize) -> Result<Vec<TagRange<TAGS>>, AllocError>
-    requires { clients ≤ MAX_CLIENTS }
-    ensures { IfOk result (λ ranges. ranges.items ≡ opening_ranges clients) }
+/// The tags of so many clients, 2 to 16 of each, none of them out.
+pub fn opening_ranges(
+    alloc: Global,
+    clients: usize,
+    tags: usize,
+) -> Result<Vec<ClientRange>, AllocError>
+    requires number { AreTags tags }
+    requires most { clients ≤ MAX_CLIENTS }
+    ensures { IfOk result (λ ranges. ranges.items ≡ opening_ranges tags clients) }
 {
     let mut ranges = Vec::new(alloc);
     for client in 0..clients {
-        ranges.push(TagRange::new(client as u8))?;
+        ranges.push(ClientRange::new(tags, client as u8))?;
     }
     Ok(ranges)
 }

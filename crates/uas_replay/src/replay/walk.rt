@@ -20,7 +20,6 @@ use crate::printed;
 use crate::status::RunFault;
 use bus_core::{Outcome, Step};
 use tag_range::{Tag, Ticket};
-use uas_profile::TAGS;
 use uas_script::Line;
 
 /// Takes the steps of a run, and shows of it what it wants on a writer.
@@ -353,7 +352,7 @@ impl ScriptRun {
         ensures same { V.can_fail writer.new ≡ V.can_fail writer.old }
         ensures fault { IfErr result (StopsBy (V.can_fail writer.old)) }
     {
-        for turn in 0..TAGS {
+        for turn in 0..self.tags() {
             self.take(watcher, writer, client)?;
         }
         Ok(())

@@ -16,7 +16,7 @@ returns c =
     let log = c.args.log.now in
     let booked = c.args.booked.now in
     let sent = c.deref.ensures.value ∙ c.in_ok-sent.ensures ∙ ap (λ (steps : List Step). submissions_of c.args.client steps) c.steps.ensures in
-    let holds = file-audited log booked c.args.client c.deref.result.now c.args.replies.now c.requires.replay c.log.ensures.booked.log c.requires.client
+    let holds = file-audited log booked c.args.client c.deref.result.now c.args.replies.now c.requires.replay c.log.ensures.booked c.requires.client
     sent c.requires.replies in
     told-true (IsAudited c.log.result.now c.args.client c.deref.result.now c.args.replies.now) c.audit.result c.audit.ensures
     (subst (λ (of : Log). IsAudited of c.args.client c.deref.result.now c.args.replies.now) (sym c.log.ensures.log) holds)

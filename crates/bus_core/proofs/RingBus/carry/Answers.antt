@@ -15,7 +15,7 @@ use Rattle.bus_core.proofs.RingBus.carry.Goals.{After-stand}
 -- what the device receives is the shared machine's step
 carried : (c : After-stand) → IsTaken (decoded c.args.self.now) CommandPipe
     (world_of c.self.inside.host c.self.inside.controller c.command_step-acted.new.target c.command_step-acted.new.lines c.self.inside.frames)
-    (acted_as Carry c.command_step-acted.result)
+    (acted_as (decoded c.args.self.now).tags Carry c.command_step-acted.result)
 carried c =
     command-taken (decoded c.args.self.now) (world_in c.self.inside)
     c.command_step-acted.new.lines c.command_step-acted.new.target c.command_step-acted.result

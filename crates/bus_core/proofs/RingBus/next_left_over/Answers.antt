@@ -1,7 +1,6 @@
 use Rattle.std.proofs.Common.{◌≡◌, ℕ, suc, ◌*◌, ◌<◌, ◌≤◌, Bool, true, false, ◌&&◌, Option, Some, None, IfSome, IfNone, refl, arith, ap, sym, length, ◌∙◌}
 use Rattle.std.specs.Prelude.{is_none, is_some}
 use Rattle.uas_profile.specs.declared.Pipe.{Pipe}
-use Rattle.uas_profile.specs.declared.TheConstants.{TAGS}
 use Rattle.uas_host.specs.declared.Retirement.{Retirement as HostRetirement}
 use Rattle.uas_host.specs.Retirement.{is_left_over_on}
 use Rattle.shared_machine.specs.declared.Step.TheVariants.{Retire}
@@ -14,6 +13,7 @@ use Rattle.bus_core.proofs.common.BusFields.{fits-in, world_in}
 use Rattle.bus_core.proofs.common.CellWrites.{clients-length}
 use Rattle.bus_core.proofs.retire.EngineDue.{retire-due}
 use Rattle.bus_core.proofs.RingBus.next_left_over.Goals as goal
+use Rattle.shared_machine.specs.Shared.{greatest_tag}
 
 -- while a retirement is under way none is due
 some-not_none : (retirement : Option HostRetirement) → true ≡ is_some retirement → is_none retirement ≡ false
@@ -37,13 +37,17 @@ unfound-not_due state world pipe tag fits none =
 
 -- the next that the host finds
 found-next : (state : Shared) (world : World) (pipe : Pipe) (tag : ℕ) (found : Option ℕ) → Fits state world
-    → IfSome found (λ next. (tag < next) × (next ≤ length world.host.clients * TAGS) × (is_left_over_on world.host pipe next ≡ true)
+    → IfSome found (λ next. (tag < next) × (next ≤ length world.host.clients * world.host.tags) × (is_left_over_on world.host pipe next ≡ true)
     × ((other : ℕ) → tag < other → other < next → is_left_over_on world.host pipe other ≡ false))
-    → IfSome found (λ next. (tag < next) × (next ≤ length state.parts * TAGS) × AreNotLeftOver state pipe tag next)
+    → IfSome found (λ next. (tag < next) × (next ≤ greatest_tag state) × AreNotLeftOver state pipe tag next)
 found-next state world pipe tag None fits none = tt
 found-next state world pipe tag (Some next) fits is = (
   is.0,
-  omega (arith, is.1, clients-length world state.parts fits.clients),
+  omega (
+    arith,
+    is.1,
+    ap (λ n. n * world.host.tags) (clients-length state.tags world state.parts fits.clients) ∙ ap (λ t. length state.parts * t) fits.tags,
+  ),
   λ other above below. unfound-not_due state world pipe other fits (is.3 other above below),
 )
 
@@ -67,5 +71,5 @@ returns-clause-next c =
 pub returns-clause-none : goal.returns-clause-none
 returns-clause-none c =
     found-none (decoded c.args.self.now) (world_in c.self.inside) c.args.pipe c.args.tag
-    (suc (length (decoded c.args.self.now).parts * TAGS)) c.next_left_over.result (fits-in c.self.inside c.self.view_is c.self.invariant)
+    (suc (greatest_tag (decoded c.args.self.now))) c.next_left_over.result (fits-in c.self.inside c.self.view_is c.self.invariant)
     c.next_left_over.ensures.none

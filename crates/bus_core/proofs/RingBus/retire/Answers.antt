@@ -28,7 +28,7 @@ single-requires c =
 retirement : (c : After-stand) → IsTaken (decoded c.args.self.now) (Retire c.args.pipe c.args.tag)
     (world_of c.retire-began.new.self (rung_all c.self.inside.controller c.retire-began.new.doors.items) c.self.inside.target
     c.retire-began.new.lines c.self.inside.frames)
-    (begun_as c.args.tag c.retire-began.new.doors.items c.retire-began.result)
+    (begun_as (decoded c.args.self.now).tags c.args.tag c.retire-began.new.doors.items c.retire-began.result)
 retirement c =
     retire-taken (decoded c.args.self.now) (world_in c.self.inside)
     c.args.pipe c.args.tag c.retire-began.new.self c.retire-began.new.lines c.retire-began.new.doors.items c.retire-began.result
@@ -43,12 +43,14 @@ invariant_of-self c = rw (c.ring.ensures, c.deref.ensures.0) (retirement (goal.a
 
 pub returns-clause-shared : goal.returns-clause-shared
 returns-clause-shared c =
-    let told : c.if-began.result ≡ begun_as c.args.tag c.retire-began.new.doors.items c.retire-began.result =
+    let number : c.tags-tags.result ≡ (decoded c.args.self.now).tags =
+    c.tags-tags.ensures.tags ∙ (fits-in c.self.inside c.self.view_is c.self.invariant).tags in
+    let told : c.if-began.result ≡ begun_as (decoded c.args.self.now).tags c.args.tag c.retire-began.new.doors.items c.retire-began.result =
     elim c.if-began.branch [
-      | then-began w ↦ w.result-is ∙ w.ringing.ensures ∙ ap (λ owner. ringing owner w.single.result) w.owner_of.ensures
-          ∙ ap (ringing (owner_of c.args.tag)) (w.single.ensures ∙ w.deref-then-began.ensures.0)
-          ∙ ap (begun_as c.args.tag c.retire-began.new.doors.items) (sym w.if-began.true)
-      | else-began w ↦ w.result-is ∙ w.idle.ensures ∙ ap (begun_as c.args.tag c.retire-began.new.doors.items) (sym w.if-began.false)
+      | then-began w ↦ w.result-is ∙ w.ringing.ensures ∙ ap (λ owner. ringing owner w.single.result) (w.owner_of.ensures ∙ ap (λ t. owner_of t c.args.tag) number)
+          ∙ ap (ringing (owner_of (decoded c.args.self.now).tags c.args.tag)) (w.single.ensures ∙ w.deref-then-began.ensures.0)
+          ∙ ap (begun_as (decoded c.args.self.now).tags c.args.tag c.retire-began.new.doors.items) (sym w.if-began.true)
+      | else-began w ↦ w.result-is ∙ w.idle.ensures ∙ ap (begun_as (decoded c.args.self.now).tags c.args.tag c.retire-began.new.doors.items) (sym w.if-began.false)
     ] in
     rw (told, c.ring.ensures, c.deref.ensures.0) (retirement (goal.at.returns-clause-shared c).After-stand).shared
 

@@ -27,7 +27,7 @@ transfer-handled c =
 
 transferred : (c : Joined-handled) → IsTaken (decoded c.args.self.now) Event
     (world_of c.on_transfer-handled.new.self c.self.inside.controller c.self.inside.target c.on_transfer-handled.new.lines c.self.inside.frames)
-    (handled_as c.self.inside.host.retirement [] c.on_transfer-handled.result)
+    (handled_as (decoded c.args.self.now).tags c.self.inside.host.retirement [] c.on_transfer-handled.result)
 transferred c =
     event-taken (decoded c.args.self.now) (world_in c.self.inside)
     c.in_ok-event.event c.on_transfer-handled.new.self c.on_transfer-handled.new.lines [] c.on_transfer-handled.result events-fit
@@ -42,11 +42,11 @@ pub returns-after-handled-clause-shared : goal.returns-after-handled-clause-shar
 returns-after-handled-clause-shared c =
     let retirement = c.self.inside.host.retirement in
     let told : option_map_or (λ client. ringing client c.args.doors.now) c.match-handled.result idle
-    ≡ handled_as retirement [] c.on_transfer-handled.result = elim c.match-handled.branch [
+    ≡ handled_as (decoded c.args.self.now).tags retirement [] c.on_transfer-handled.result = elim c.match-handled.branch [
       | in-Matched w ↦
-          rw (w.result-is, w.owner_of.ensures)
-          (ap (ringing _) c.requires ∙ sym (ap (handled_as retirement []) w.in-Matched.is))
-      | in-Stray w ↦ rw w.result-is (sym (ap (handled_as retirement []) w.in-Stray.is))
+          rw (w.result-is, w.owner_of.ensures, (c.tags-tags.ensures.tags ∙ (fits-in c.self.inside c.self.view_is c.self.invariant).tags))
+          (ap (ringing _) c.requires ∙ sym (ap (handled_as (decoded c.args.self.now).tags retirement []) w.in-Matched.is))
+      | in-Stray w ↦ rw w.result-is (sym (ap (handled_as (decoded c.args.self.now).tags retirement []) w.in-Stray.is))
       | in-Engine w ↦ absurd (c.on_transfer-handled.ensures.no_engine w.in-Engine.is)
     ] in
     with-outcome _ _ _ _ (transferred c).shared told
@@ -77,7 +77,7 @@ rung_at-requires-clause-resumed c = λ moves.
 seen : (c : Joined-handled-2) → IsTaken (decoded c.args.self.now) Event
     (world_of c.on_completion-handled.new.self (rung_all c.self.inside.controller c.on_completion-handled.new.doors.items) c.self.inside.target
     c.on_completion-handled.new.lines c.self.inside.frames)
-    (handled_as c.self.inside.host.retirement c.on_completion-handled.new.doors.items c.on_completion-handled.result)
+    (handled_as (decoded c.args.self.now).tags c.self.inside.host.retirement c.on_completion-handled.new.doors.items c.on_completion-handled.result)
 seen c =
     event-taken (decoded c.args.self.now) (world_in c.self.inside)
     c.in_ok-event.event c.on_completion-handled.new.self c.on_completion-handled.new.lines c.on_completion-handled.new.doors.items c.on_completion-handled.result events-fit
@@ -96,19 +96,19 @@ returns-after-handled-2-clause-shared c =
     let retirement = c.self.inside.host.retirement in
     let rung = c.on_completion-handled.new.doors.items in
     let told : option_map_or (λ client. ringing client c.match-handled-2.doors) c.match-handled-2.result idle
-    ≡ handled_as retirement rung c.on_completion-handled.result = elim c.match-handled-2.branch [
+    ≡ handled_as (decoded c.args.self.now).tags retirement rung c.on_completion-handled.result = elim c.match-handled-2.branch [
       | in-Matched-handled w ↦
-          rw (w.result-is, w.doors-is, w.owner_of-in-Matched-handled.ensures)
-          (sym (td-told (event_sides (world_in c.self.inside))
+          rw (w.result-is, w.doors-is, w.owner_of-in-Matched-handled.ensures, (c.tags-tags.ensures.tags ∙ (fits-in c.self.inside c.self.view_is c.self.invariant).tags))
+          (sym (td-told (decoded c.args.self.now).tags (event_sides (world_in c.self.inside))
           c.self.inside.frames c.in_ok-event.event _ w.in-Matched-handled.tag c.on_completion-handled.result retirement rung c.args.doors.now
           (completed c) w.in-Matched-handled.is
           (sym (doors-cleared c.clear.new.self.items rung _ c.clear.ensures
           (event-rung (event_sides (world_in c.self.inside)) c.in_ok-event.event _ c.clear.new.self.items c.on_completion-handled.new.doors.items c.in-Command.is
           (rw c.in_ok-event.ensures.taken at c.on_completion-handled.ensures.doors)))) c.requires))
-      | in-Stray-handled w ↦ rw w.result-is (sym (ap (handled_as retirement rung) w.in-Stray-handled.is))
+      | in-Stray-handled w ↦ rw w.result-is (sym (ap (handled_as (decoded c.args.self.now).tags retirement rung) w.in-Stray-handled.is))
       | in-Engine-handled+in_ok-ended-in-Engine-handled w ↦
           rw (w.result-is, w.doors-is, w.rung_at.ensures, w.deref-in-Engine-handled.ensures.0)
-          (sym (ap (handled_as retirement rung) w.in-Engine-handled.is
+          (sym (ap (handled_as (decoded c.args.self.now).tags retirement rung) w.in-Engine-handled.is
           ∙ ap (λ under_way. retirement_seen under_way rung) (sym c.retirement-retirement.ensures ∙ w.in_ok-ended-in-Engine-handled.was)))
     ] in
     rw (c.ring.ensures, c.deref.ensures.0) (with-outcome _ _ _ _ (seen c).shared told)

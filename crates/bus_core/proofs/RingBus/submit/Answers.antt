@@ -38,7 +38,7 @@ host-answers c =
 submission : (c : After-stand) → IsSubmitted (decoded c.args.self.now) c.args.client c.args.tag c.args.ticket c.args.command
     (world_of c.submit-submitted.new.self (rung_all c.self.inside.controller c.submit-submitted.new.doors.items) c.self.inside.target
     c.submit-submitted.new.lines c.submit-submitted.new.frames)
-    (submitted_as c.args.client c.args.tag c.submit-submitted.new.doors.items c.submit-submitted.result)
+    (submitted_as (decoded c.args.self.now).tags c.args.client c.args.tag c.submit-submitted.new.doors.items c.submit-submitted.result)
 submission c =
     submitted-on (decoded c.args.self.now) (world_in c.self.inside) c.args.client c.args.tag c.args.ticket c.args.command
     c.submit-submitted.new.self c.submit-submitted.new.lines c.submit-submitted.new.frames c.submit-submitted.new.doors.items c.submit-submitted.result

@@ -13,7 +13,7 @@ use Rattle.bus_core.proofs.RingBus.take.Goals.{After-stand}
 -- what the client takes is the shared machine's reply
 taken : (c : After-stand) → IsTaken (decoded c.args.self.now) (Take c.args.client)
     (world_of c.take_reply-reply.new.self c.self.inside.controller c.self.inside.target c.self.inside.lines c.take_reply-reply.new.frames)
-    (taken_as c.args.client c.take_reply-reply.result)
+    (taken_as (decoded c.args.self.now).tags c.args.client c.take_reply-reply.result)
 taken c =
     take-taken (decoded c.args.self.now) (world_in c.self.inside)
     c.args.client c.take_reply-reply.new.self c.take_reply-reply.new.frames c.take_reply-reply.result

@@ -9,5 +9,5 @@ use Rattle.bus_core.proofs.RingBus.try_retirements.Goals as goal
 pub returns-in_default : goal.returns-in_default
 returns-in_default c =
     let start : Shared × ℕ = (decoded c.args.self.now, c.args.left) in
-    let none : HasTried (Retire c.args.pipe) start start 0 = record { so_far = refl; parts = refl; within = omega arith } in
+    let none : HasTried (Retire c.args.pipe) start start 0 = record { so_far = refl; greatest = refl; within = omega arith } in
     tried-whole none c.in_default.ensures.none (λ other rests. rests)

@@ -10,4 +10,4 @@ returns-in_err-script-clause-fault g c =
     first_of (search (rules, h), grind (arith, common_steps, h))
 
 pub returns-clause-status : goal.returns-clause-status
-returns-clause-status g c = subst (λ status. status ≤ 1) (sym c.in_ok-kept.ensures.status) (told-most _ _)
+returns-clause-status g c = subst (λ status. status ≤ 1) (sym c.in_ok-kept.ensures.status) (told-most _ _ _)

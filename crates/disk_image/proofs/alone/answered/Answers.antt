@@ -7,17 +7,18 @@ use Rattle.shared_machine.specs.Drain.{drained}
 use Rattle.shared_machine.specs.Shared.{Shared, opening, shared_step}
 use Rattle.uas_replay.specs.Told.{step_of, drained_machine, drain_limit, command_of}
 use Rattle.uas_script.specs.declared.Request.{Request}
+use Rattle.uas_profile.specs.declared.TheConstants.{TAGS}
 use Rattle.disk_image.specs.Alone.{answered}
 use Rattle.disk_image.proofs.alone.answered.Goals as goal
 
 -- the four states of a bus, each by the one before it
 answered-by : (unit : BlockMaps) (request : Request) (units : List BlockMaps) (command : Command) (first second third : Shared) (sent : Outcome)
-    (last : Shared × Outcome) → units ≡ unit ∷ [] → command ≡ command_of request → first ≡ opening units
+    (last : Shared × Outcome) → units ≡ unit ∷ [] → command ≡ command_of request → first ≡ opening TAGS units
     → (second, sent) ≡ shared_step first (step.Submit 0 1 0 command) → third ≡ (drained second drain_limit).state
     → last ≡ shared_step third (step.Take 0) → last ≡ answered unit request
 unfolding answered step_of drained_machine
 answered-by unit request units command first second third sent last one asks opens submits drains takes =
-    let after : List BlockMaps → Command → Shared = λ all asked. (shared_step (opening all) (step.Submit 0 1 0 asked)).0 in
+    let after : List BlockMaps → Command → Shared = λ all asked. (shared_step (opening TAGS all) (step.Submit 0 1 0 asked)).0 in
     let now : second ≡ after (unit ∷ []) (command_of request) =
     ap (λ step. step.0) submits ∙ (ap (λ state. (shared_step state (step.Submit 0 1 0 command)).0) opens
     ∙ (ap (λ all. after all command) one ∙ ap (after (unit ∷ [])) asks)) in

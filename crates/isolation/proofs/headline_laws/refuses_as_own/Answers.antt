@@ -1,4 +1,4 @@
-use Rattle.isolation.proofs.Refusals.{submit-refused, submit-unchanged, replay-refused, task-owned, task-refused, task-unchanged}
+use Rattle.isolation.proofs.Refusals.{submit-refused, submit-unchanged, replay-refused, submissions-alone, task-owned, task-refused, task-unchanged}
 use Rattle.isolation.proofs.headline_laws.refuses_as_own.Goals as goal
 
 pub returns-clause-refused : goal.returns-clause-refused
@@ -18,3 +18,6 @@ returns-clause-tasks_owned c = task-owned
 
 pub returns-clause-tasks_unchanged : goal.returns-clause-tasks_unchanged
 returns-clause-tasks_unchanged c = task-unchanged
+
+pub returns-clause-submissions : goal.returns-clause-submissions
+returns-clause-submissions c = submissions-alone

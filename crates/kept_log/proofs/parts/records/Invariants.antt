@@ -7,8 +7,8 @@ use Rattle.kept_log.proofs.parts.records.Given as goal
 
 abbrev pub invariant-loop-entry : goal.invariant-loop-entry
 invariant-loop-entry g l = record {
-  taken : HasTaken (head_text l.units.items ++ l.fn.window.bytes) (g.S.Source.left l.fn.source) (g.S.Source.left l.source) l.units.items l.entries.items l.at l.sum l.window;
-  step : l.step ≡ step_so_far l.wanted l.units.items l.entries.items;
+  taken : HasTaken (head_text l.tags l.units.items ++ l.fn.window.bytes) (g.S.Source.left l.fn.source) (g.S.Source.left l.source) l.tags l.units.items l.entries.items l.at l.sum l.window;
+  step : l.step ≡ step_so_far l.wanted l.tags l.units.items l.entries.items;
   near : l.at ≤ 2 ^ 63 + 131308 * length l.entries.items;
   same : g.S.Source.can_fail l.source ≡ g.S.Source.can_fail l.fn.source;
   stays : g.S.Source.is_there l.source ≡ g.S.Source.is_there l.fn.source;

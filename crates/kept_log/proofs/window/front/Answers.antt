@@ -1,5 +1,5 @@
 use Rattle.std.proofs.Common.{arith}
-use Rattle.log_checksum.proofs.Bytes.{bytes_taken}
+use Rattle.log_records.proofs.Bytes.{bytes_taken}
 use Rattle.kept_log.proofs.window.front.Goals as goal
 
 pub returns-clause-are : goal.returns-clause-are

@@ -9,10 +9,10 @@ use Rattle.log_audit.proofs.audits.are_all.Goals.{then-next-replies-via-then-nex
 
 pub returns-then-next-replies : goal.returns-then-next-replies
 returns-then-next-replies c =
-    let goes = λ (same : filter (is_taken_by c.args.client) c.args.taken.now ≡ c.args.replies.now).
-    next-matched (is_taken_by c.args.client) c.args.taken.now c.args.replies.now [] c.loop-reply.reply-index c.loop-reply.next c.reply-item.result
+    let goes = λ (same : filter (is_taken_by c.args.tags c.args.client) c.args.taken.now ≡ c.args.replies.now).
+    next-matched (is_taken_by c.args.tags c.args.client) c.args.taken.now c.args.replies.now [] c.loop-reply.reply-index c.loop-reply.next c.reply-item.result
     c.loop-reply-test.true c.reply-item.is (sym c.is_taken_by.ensures ∙ c.if-is_taken_by.true) c.loop-reply.invariant.within c.loop-reply.invariant.is
-    (sym same ∙ sym (append-nil (filter (is_taken_by c.args.client) c.args.taken.now))) in (
+    (sym same ∙ sym (append-nil (filter (is_taken_by c.args.tags c.args.client) c.args.taken.now))) in (
       λ is. absurd (false≢true is),
       λ same. elim c.then-next-replies.branch [
         | then-next-replies-via-then-next-replies w ↦ absurd (omega (arith, (goes same).within, w.if-next-replies.true))

@@ -12,7 +12,7 @@ returns-then-began c =
     let begins : IsBeginning (submissions_of c.args.client log.steps) c.args.sent.now =
     subst (λ (steps : List Step). IsBeginning (submissions_of c.args.client steps) c.args.sent.now) c.as_slice.ensures
     (c.are_first-began.ensures.0 c.if-began.true) in
-    let same = ap (λ (replies : List Reply). filter (is_taken_by c.args.client) replies) c.as_slice-2.ensures in (
+    let same = ap (λ (replies : List Reply). filter (is_taken_by log.tags c.args.client) replies) c.as_slice-2.ensures in (
       λ is. audited log c.args.client c.args.sent.now c.args.replies.now c.requires.replay c.requires.client begins
           (sym same ∙ c.are_all-took.ensures.0 is),
       λ it. c.are_all-took.ensures.1 (same ∙ solos-taken log c.args.client c.args.replies.now c.requires.replay it.told),

@@ -15,4 +15,6 @@ returns-in-Ok-clause-kept c =
     let left : c.into_left.result ≡ left_of desk clients pumps = c.into_left.ensures ∙ c.settle_all.ensures in
     let one : c.self.inside.pumps ≡ desk.pumps = ap (λ (d : MadeDesk). d.pumps) c.self.view_is in
     let some : 0 < desk.pumps = let made = c.self.invariant in omega arith in
-    subst (λ (l : Left). KeepsTickets desk.table (seat_of clients n) l) (sym left) (keeps desk clients pumps some c.requires.clients c.requires.pumps n below)
+    let number : c.self.inside.tags ≡ desk.tags = ap (λ (d : MadeDesk). d.tags) c.self.view_is in
+    let many : 0 < desk.tags = let least = c.self.invariant.7.least in omega arith in
+    subst (λ (l : Left). KeepsTickets desk.table (seat_of clients n) l) (sym left) (keeps desk clients pumps some many c.requires.clients c.requires.pumps n below)

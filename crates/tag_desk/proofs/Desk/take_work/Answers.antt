@@ -1,4 +1,4 @@
-use Rattle.std.proofs.Common.{◌≡◌, ◌≢◌, ℕ, ◌/◌, ◌%◌, ◌<◌, List, None, length, set, get_or, refl, sym, ap, subst, ◌∙◌, arith}
+use Rattle.std.proofs.Common.{◌≡◌, ◌≢◌, ℕ, suc, ◌%◌, ◌<◌, List, None, length, set, get_or, refl, sym, ap, subst, ◌∙◌, arith}
 use mathlib.Core.Logic.{dite}
 use native.Mathlib.Decide.{ℕ_discrete}
 use Rattle.std.proofs.Math.ListN.{length-set}
@@ -9,7 +9,7 @@ use Rattle.tag_desk.specs.Left.{IsFirst, pump_number, no_server, server_of, work
 use Rattle.tag_desk.proofs.Finding.{first_found, found_set, found_beside, has_set}
 use Rattle.tag_desk.proofs.Seating.{own_setting}
 use Rattle.tag_desk.proofs.Desk.take_work.Goals as goal
-use Rattle.uas_profile.specs.declared.TheConstants.{TAGS}
+use Rattle.uas_profile.specs.Tags.{client_of}
 
 -- a line that is taken out of the first seat of a pump leaves the lines of other tags as they are
 lines_beside : (desk : MadeDesk) (seats : List Server) (p k n : ℕ) (new : Server) → IsFirst pump_number seats p k
@@ -17,7 +17,7 @@ lines_beside : (desk : MadeDesk) (seats : List Server) (p k n : ℕ) (new : Serv
     → work_line desk (set seats k new) t ≡ work_line desk seats t
 lines_beside desk seats p k n new first is t other =
     let old = get_or seats k no_server in
-    let q = t / TAGS % desk.pumps in
+    let q = client_of desk.tags (suc t) % desk.pumps in
     let same : new.pump ≡ p = ap pump_number is ∙ first.is no_server in
     dite (ℕ_discrete q p)
     (λ (e : q ≡ p).
@@ -28,10 +28,10 @@ lines_beside desk seats p k n new first is t other =
     (λ (e : q ≢ p). ap (λ (s : Server). get_or s.lines t None) (found_beside pump_number seats p q k no_server new first same e))
 
 -- the place is that of the seat of the pump that serves the tag's client
-first_there : (seats read : List Server) (index pumps for_pumps k : ℕ) → read ≡ seats → pumps ≡ for_pumps
-    → IsFirst pump_number read (index / TAGS % pumps) k → IsFirst pump_number seats (index / TAGS % for_pumps) k
-first_there seats read index pumps for_pumps k same one first =
-    subst (λ (a : List Server × ℕ). IsFirst pump_number a.0 (index / TAGS % a.1) k) (λ i. (same i, one i)) first
+first_there : (seats read : List Server) (client whose pumps for_pumps k : ℕ) → read ≡ seats → pumps ≡ for_pumps → whose ≡ client
+    → IsFirst pump_number read (client % pumps) k → IsFirst pump_number seats (whose % for_pumps) k
+first_there seats read client whose pumps for_pumps k same one is first =
+    subst (λ (a : List Server × (ℕ × ℕ)). IsFirst pump_number a.0 (a.1.0 % a.1.1) k) (λ i. (same i, (sym is i, one i))) first
 
 -- a seat that was read and whose line was taken out, at any default
 taken_out : (seats : List Server) (k n : ℕ) (was new : Server) → k < length seats → was ≡ get_or seats k was
@@ -45,9 +45,9 @@ returns-clause-line c =
     let seats = c.args.pumps.now.items in
     let desk = c.args.self.now in
     let k = c.pump_place-place.result in
-    let p : ℕ = c.args.index / TAGS % desk.pumps in
-    let first = first_there seats c.as_slice.result.now c.args.index c.self.inside.pumps desk.pumps k c.as_slice.ensures.value (ap (λ (d : MadeDesk). d.pumps)
-    c.self.view_is) c.pump_place-place.ensures in
+    let p : ℕ = client_of desk.tags (suc c.args.index) % desk.pumps in
+    let first = first_there seats c.as_slice.result.now c.args.client (client_of desk.tags (suc c.args.index)) c.self.inside.pumps desk.pumps k c.as_slice.ensures.value
+    (ap (λ (d : MadeDesk). d.pumps) c.self.view_is) c.requires.client c.pump_place-place.ensures in
     let read = c.index_mut.ensures.value ∙ get_or_default seats k c.index_mut.result.now no_server first.within in
     c.take_line.ensures.line
     ∙ ap (λ (s : Server). get_or s.lines c.args.index None) (read ∙ sym (first_found pump_number seats p k no_server no_server first))
@@ -57,9 +57,9 @@ returns-clause-pumps c =
     let seats = c.args.pumps.now.items in
     let desk = c.args.self.now in
     let k : ℕ = c.pump_place-place.result in
-    let p : ℕ = c.args.index / TAGS % desk.pumps in
-    let first = first_there seats c.as_slice.result.now c.args.index c.self.inside.pumps desk.pumps k c.as_slice.ensures.value (ap (λ (d : MadeDesk). d.pumps)
-    c.self.view_is) c.pump_place-place.ensures in
+    let p : ℕ = client_of desk.tags (suc c.args.index) % desk.pumps in
+    let first = first_there seats c.as_slice.result.now c.args.client (client_of desk.tags (suc c.args.index)) c.self.inside.pumps desk.pumps k c.as_slice.ensures.value
+    (ap (λ (d : MadeDesk). d.pumps) c.self.view_is) c.requires.client c.pump_place-place.ensures in
     let now = c.take_line.new.self in
     let new = taken_out seats k c.args.index c.index_mut.result.now now first.within c.index_mut.ensures.value c.take_line.ensures.rest in
     let own : IsPumpOf desk now = subst (IsPumpOf desk) (sym new) (own_setting desk (get_or seats k no_server) c.args.index None (c.requires.pumps.own k no_server
@@ -80,8 +80,8 @@ returns-clause-others c =
     let seats = c.args.pumps.now.items in
     let desk = c.args.self.now in
     let k : ℕ = c.pump_place-place.result in
-    let p : ℕ = c.args.index / TAGS % desk.pumps in
-    let first = first_there seats c.as_slice.result.now c.args.index c.self.inside.pumps desk.pumps k c.as_slice.ensures.value (ap (λ (d : MadeDesk). d.pumps)
-    c.self.view_is) c.pump_place-place.ensures in
+    let p : ℕ = client_of desk.tags (suc c.args.index) % desk.pumps in
+    let first = first_there seats c.as_slice.result.now c.args.client (client_of desk.tags (suc c.args.index)) c.self.inside.pumps desk.pumps k c.as_slice.ensures.value
+    (ap (λ (d : MadeDesk). d.pumps) c.self.view_is) c.requires.client c.pump_place-place.ensures in
     let new = taken_out seats k c.args.index c.index_mut.result.now c.take_line.new.self first.within c.index_mut.ensures.value c.take_line.ensures.rest in
     lines_beside desk seats p k c.args.index c.take_line.new.self first new t (λ (e : t ≡ c.args.index). absurd (omega arith))

@@ -1,4 +1,4 @@
-use Rattle.std.proofs.Common.{◌≡◌, ◌<◌, [], sym, ap, subst, ◌∙◌, arith}
+use Rattle.std.proofs.Common.{◌≡◌, ◌*◌, ◌<◌, [], sym, ap, subst, ◌∙◌, arith}
 use mathlib.Core.Option as maybe
 use Rattle.atomic_table.specs.Table.{Allows, Splits, step}
 use Rattle.tag_desk.specs.declared.rule.ClientView.TheVariants.{Waiting, Free}
@@ -16,7 +16,7 @@ split_seat-seat-requires c =
     let shared = c.desk.inside.table.shared in
     let dealer = c.args.dealer.now in
     let table = ap (λ (d : MadeDesk). d.table) c.desk.view_is in
-    let clients = ap (λ (d : MadeDesk). d.clients) c.desk.view_is in (
+    let all = ap (λ (d : MadeDesk). d.tags * d.clients) c.desk.view_is in (
       c.requires.table ∙ sym table,
       omega arith,
       subst (λ (v : View). Splits (IsDesk shared.key) dealer.id v (dealt_less v) (dealt v)) (sym c.requires.next)
@@ -28,11 +28,11 @@ load-requires c =
     let shared = c.desk.inside.table.shared in
     let t = c.args.index in
     let table = ap (λ (d : MadeDesk). d.table) c.desk.view_is in
-    let clients = ap (λ (d : MadeDesk). d.clients) c.desk.view_is in
+    let all = ap (λ (d : MadeDesk). d.tags * d.clients) c.desk.view_is in
     let split = c.split_seat-seat in
     let seat = split.result in
     let me : seat.me ≡ (Both t Waiting Idle, []) = split.ensures.4 ∙ ap (λ (v : View). (dealt v, [])) c.requires.next in
-    let within : t < shared.key = omega arith in (
+    let within : t < shared.key.all = omega arith in (
       split.ensures.3 ∙ c.requires.table ∙ sym table,
       omega arith,
       subst (λ (m : Sat). Allows (IsDesk shared.key) shared.table_id.slots seat.id m t (λ k. k) (Lifts (step shared.table_id.slots t 0 0 maybe.none) m))
@@ -44,7 +44,7 @@ split_seat-work-requires c =
     let shared = c.desk.inside.table.shared in
     let t = c.args.index in
     let table = ap (λ (d : MadeDesk). d.table) c.desk.view_is in
-    let clients = ap (λ (d : MadeDesk). d.clients) c.desk.view_is in
+    let all = ap (λ (d : MadeDesk). d.tags * d.clients) c.desk.view_is in
     let seat = c.load.new.seat in
     let view = ap (λ (m : Sat). m.0) c.load.ensures.2 in (
       c.load.ensures.0 ∙ c.split_seat-seat.ensures.3 ∙ c.requires.table ∙ sym table,

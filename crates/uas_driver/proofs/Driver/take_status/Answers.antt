@@ -11,5 +11,5 @@ returns c =
     c.hand_status.ensures
     ∙ ap (λ (driver : DriverState). with_told_end c.args.tag (handed driver (Some (record { pointer = c.args.last; residual = c.put_stand_in-residual.result; code = SHORT_PACKET }))))
     c.put_stand_in-residual.ensures.wrote
-    ∙ ap (λ (left : ℕ). with_told_end c.args.tag (handed (wrote c.args.self.now (STATUS_BUFFERS + BUFFER_SPAN * c.args.tag) (stand_in c.args.tag))
+    ∙ ap (λ (left : ℕ). with_told_end c.args.tag (handed (wrote c.args.self.now (STATUS_BUFFERS + BUFFER_SPAN * c.args.tag) (stand_in c.args.self.now.host.tags c.args.tag))
     (Some (record { pointer = c.args.last; residual = left; code = SHORT_PACKET })))) c.put_stand_in-residual.ensures.left

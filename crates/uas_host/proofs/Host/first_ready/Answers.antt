@@ -8,7 +8,7 @@ use Rattle.uas_host.proofs.Host.first_ready.Goals as goal
 
 pub returns-clause-known : goal.returns-clause-known
 returns-clause-known c =
-    let host : HostState = record { clients = c.self.inside.clients.items; retirement = c.self.inside.retirement } in
+    let host : HostState = record { tags = c.self.inside.tags; clients = c.self.inside.clients.items; retirement = c.self.inside.retirement } in
     let there : c.args.client < length host.clients = omega (arith, c.if-len-client.false, c.len.ensures) in
     let held : c.index.result.now ≡ client_of host c.args.client = c.index.ensures ∙ get_or_default host.clients c.args.client _ new_client there in
     rw (← c.self.view_is)

@@ -1,7 +1,7 @@
 use Rattle.std.proofs.Common.{◌≡◌, ◌<◌, ◌∙◌, length, subst, sym}
 use Rattle.std.proofs.lemmas.List.{get_or_default}
 use Rattle.uas_host.specs.State.{HostState, client_of, new_client}
-use Rattle.uas_profile.specs.declared.TheConstants.{TASK_SLOT}
+use Rattle.uas_profile.specs.Tags.{task_slot}
 use Rattle.uas_host.specs.Submit.{IsFree}
 use Rattle.uas_host.proofs.LeftOver.{AreMarked-managed}
 use Rattle.uas_host.proofs.Sound.{managed-host}
@@ -9,10 +9,10 @@ use Rattle.uas_host.proofs.Host.manage.Goals as goal
 
 pub invariant_of-self : goal.invariant_of-self
 invariant_of-self c =
-    let host : HostState = record { clients = c.self.inside.clients.items; retirement = c.self.inside.retirement } in
+    let host : HostState = record { tags = c.self.inside.tags; clients = c.self.inside.clients.items; retirement = c.self.inside.retirement } in
     let there : c.args.client < length host.clients = subst (λ (h : HostState). c.args.client < length h.clients) (sym c.self.view_is) c.requires.client in
-    let free : IsFree (client_of host c.args.client) TASK_SLOT =
-    subst (λ (h : HostState). IsFree (client_of h c.args.client) TASK_SLOT) (sym c.self.view_is) c.requires.free in
+    let free : IsFree (client_of host c.args.client) (task_slot host.tags) =
+    subst (λ (h : HostState). IsFree (client_of h c.args.client) (task_slot h.tags)) (sym c.self.view_is) c.requires.free in
     let held : c.index_mut.result.now ≡ client_of host c.args.client =
     c.index_mut.ensures.value ∙ get_or_default host.clients c.args.client _ new_client there in
     rw (c.manage.ensures, held) (

@@ -8,7 +8,7 @@ use Rattle.uas_host.proofs.Host.release.Goals as goal
 
 pub invariant_of-self : goal.invariant_of-self
 invariant_of-self c =
-    let host : HostState = record { clients = c.self.inside.clients.items; retirement = c.self.inside.retirement } in
+    let host : HostState = record { tags = c.self.inside.tags; clients = c.self.inside.clients.items; retirement = c.self.inside.retirement } in
     let there : c.args.client < length host.clients = subst (λ (h : HostState). c.args.client < length h.clients) (sym c.self.view_is) c.requires.ready.there in
     let first : slice_get (client_of host c.args.client).ready.items 0 ≡ Some c.args.slot =
     subst (λ (h : HostState). slice_get (client_of h c.args.client).ready.items 0 ≡ Some c.args.slot) (sym c.self.view_is) c.requires.first in

@@ -1,4 +1,4 @@
-use Rattle.std.proofs.Common.{◌≡◌, ℕ, ◌+◌, ◌*◌, ◌++◌, ◌∷◌, [], ◌∙◌, arith, ap, subst, sym, append-nil, refl}
+use Rattle.std.proofs.Common.{ℕ, ◌+◌, ◌*◌, ◌++◌, ◌∷◌, [], ◌∙◌, arith, ap, subst, sym, append-nil, refl}
 use Rattle.uas_profile.specs.declared.TheConstants.{STREAMS}
 use Rattle.stream_array.specs.Rings.{HasPending, LinesState, NonePendingOn, ring_of}
 use Rattle.uas_host.proofs.Resuming.{doors_below-last, doors_below-next, doors_below-none, ring-last}

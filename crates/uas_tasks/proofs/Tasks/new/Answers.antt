@@ -1,6 +1,6 @@
 use Rattle.std.proofs.Common.{◌≡◌, ℕ, ◌*◌, ◌≤◌, length, replicate, refl, ap, arith, ◌∙◌}
 use Rattle.std.proofs.lemmas.List.{length-map}
-use Rattle.uas_profile.specs.declared.TheConstants.{GREATEST_TAG, MAX_CLIENTS}
+use Rattle.uas_profile.specs.declared.TheConstants.{GREATEST_TAG, MAX_UNITS}
 use Rattle.uas_tasks.specs.Machine.{greatest_block, quiet}
 use Rattle.uas_tasks.proofs.Machines.{opening_made}
 use Rattle.uas_tasks.proofs.Places.{opening_sound}
@@ -11,7 +11,7 @@ invariant_of-result c =
     let units = c.in_ok-units.units.items in
     let room = c.from.result * c.greatest_block.result in
     let room_is : room ≡ c.args.chunk * greatest_block units = rw (c.from.ensures, c.greatest_block.ensures.bytes, c.deref.ensures.value) refl in
-    let most : length units ≤ MAX_CLIENTS = omega (arith, ap length c.in_ok-units.ensures, length-map c.args.shapes.now quiet, c.requires.units) in
+    let most : length units ≤ MAX_UNITS = omega (arith, ap length c.in_ok-units.ensures, length-map c.args.shapes.now quiet, c.requires.units) in
     let none = c.in_ok-stale.ensures.items_if_clones_equal (λ y is. is) ∙ ap (λ n. replicate {A = ℕ} n 0) (c.len.ensures ∙ c.in_ok-units.units.ok.0) in
     rw (c.in_ok-slots.ensures, none) (opening_sound units c.args.chunk room most room_is)
 

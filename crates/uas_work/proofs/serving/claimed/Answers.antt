@@ -4,7 +4,7 @@ use Rattle.uas_work.proofs.serving.claimed.Goals as goal
 
 pub claimed_at-requires-clause-served : goal.claimed_at-requires-clause-served
 claimed_at-requires-clause-served c =
-    served_at c.args.desk.now c.loop-index.seat c.args.client c.loop-index.index c.tag_at-tag.result c.loop-index.invariant.serves (omega arith) c.tag_at-tag.ensures
+    served_at c.args.desk.now c.loop-index.seat c.args.client c.loop-index.index c.tag_at-tag.result c.requires.held.tags c.loop-index.invariant.serves (omega arith) c.tag_at-tag.ensures
 
 pub returns-in-Some-clause-given : goal.returns-in-Some-clause-given
 returns-in-Some-clause-given c =

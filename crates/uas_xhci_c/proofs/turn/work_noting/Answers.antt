@@ -1,7 +1,7 @@
 use Rattle.std.proofs.Common.{rules, false, [], length, sym, subst, arith}
 use Rattle.guest_memory.specs.Bytes.{Memory}
-use Rattle.guest_notes.specs.Laws.{none_noted, same_first, same_noted, same_second}
-use Rattle.guest_notes.specs.Notes.{AreNoted}
+use Rattle.guest_memory.specs.notes.Laws.{none_noted, same_first, same_noted, same_second}
+use Rattle.guest_memory.specs.notes.Notes.{AreNoted}
 use Rattle.uas_xhci_c.proofs.turn.work_noting.Goals as goal
 
 pub invariant_of-noting : goal.invariant_of-noting

@@ -1,5 +1,5 @@
 use Rattle.std.proofs.Common.{rules, refl}
-use Rattle.guest_notes.specs.Laws.{same_noted}
+use Rattle.guest_memory.specs.notes.Laws.{same_noted}
 use Rattle.uas_xhci_c.proofs.turn.work_over.Goals as goal
 
 pub returns-clause-noted : goal.returns-clause-noted

@@ -1,4 +1,4 @@
-use Rattle.std.proofs.Common.{rules, ◌≡◌, true, Some, ap}
+use Rattle.std.proofs.Common.{rules, ◌≡◌, true, Ok, Some, ap}
 use Rattle.xhci_machine.specs.declared.interrupts.Interrupts.{Interrupts}
 use Rattle.xhci_machine.specs.Interrupter.{taken}
 use Rattle.xhci_machine.specs.Turns.{World}
@@ -13,7 +13,7 @@ returns-in-Ok-Some-clause-worked g c =
       events = c.rounds-worked.new.events;
       machine = c.rounds-worked.new.self;
     } in
-    let is : (Some (Some c.in-Ok-Some.events), (c.take.new.self, c.take.new.registers))
+    let is : (Ok (Some c.in-Ok-Some.events), (c.take.new.self, c.take.new.registers))
     ≡ taken (g.M.GuestMemory.contents c.args.memory.now) c.args.self.now.interrupts c.args.self.now.registers = search rules in
     worked_on c.args.budget (g.M.GuestMemory.contents c.args.memory.now) c.args.self.now c.in-Ok-Some.events
     (c.take.new.self, c.take.new.registers) after _ c.rounds-worked.result runs is c.rounds-worked.ensures.worked

@@ -20,10 +20,10 @@ compare_exchange-found-requires c =
     let n = c.in_ok-ticket.ticket in
     let seat = c.self.inside.seat in
     let table = ap (λ (d : MadeDesk). d.table) c.desk.view_is in
-    let clients = ap (λ (d : MadeDesk). d.clients) c.desk.view_is in
+    let all = ap (λ (d : MadeDesk). d.tags * d.clients) c.desk.view_is in
     let index = ap (λ (l : ClientLine). l.index) c.self.view_is ∙ c.requires.index in
     let old = open_sat seat.me c.self.inside.posted n t c.self.invariant.0 index c.self.invariant.1 c.in_ok-ticket.was in
-    let within : t < shared.key = omega arith in (
+    let within : t < shared.key.all = omega arith in (
       ap (λ (l : ClientLine). l.table) c.self.view_is ∙ c.requires.table ∙ sym table,
       omega arith,
       subst (λ (me : Sat). Allows (IsDesk shared.key) shared.table_id.slots seat.id me t (λ k. either (k == (4 * n + 3)) (4 * n) k) (Looks

@@ -16,7 +16,7 @@ swap-requires c =
     let n = c.claim.inside.ticket in
     let word = 4 * n + 3 in
     let table = ap (λ (d : MadeDesk). d.table) c.desk.view_is in
-    let clients = ap (λ (d : MadeDesk). d.clients) c.desk.view_is in
+    let all = ap (λ (d : MadeDesk). d.tags * d.clients) c.desk.view_is in
     let tag = ap (λ (l : HeldClaim). l.tag) c.claim.view_is in
     let ticket = ap (λ (l : HeldClaim). l.ticket) c.claim.view_is in
     let from = c.from-index.ensures in
@@ -24,7 +24,7 @@ swap-requires c =
     let seat = c.exchange.new.seat in
     let new : seat.me ≡ (Work t (Claimed n), (t, Some c.args.slip) ∷ []) = c.exchange.ensures.3
     ∙ (λ i. ((old i).0, (t, Some c.args.slip) ∷ rest (old i).1)) in
-    let within : t < shared.key = omega arith in
+    let within : t < shared.key.all = omega arith in
     let same : t + 1 ≡ c.args.claim.tag = omega arith in (
       c.exchange.ensures.0 ∙ ap (λ (l : HeldClaim). l.table) c.claim.view_is ∙ c.requires.table ∙ sym table,
       omega arith,

@@ -1,4 +1,4 @@
-use Rattle.std.proofs.Common.{◌≡◌, ◌<◌, [], sym, ap, subst, ◌∙◌, arith, Some}
+use Rattle.std.proofs.Common.{◌≡◌, ◌*◌, ◌<◌, [], sym, ap, subst, ◌∙◌, arith, Some}
 use mathlib.Core.Option as maybe
 use Rattle.atomic_table.specs.Table.{Allows, Joins, step}
 use Rattle.tag_desk.specs.declared.rule.ClientView.TheVariants.{Open}
@@ -19,7 +19,7 @@ join_seat-requires c =
     let other = c.self.inside.seat in
     let w = work_in other.me.0 in
     let table = ap (λ (d : MadeDesk). d.table) c.desk.view_is in
-    let clients = ap (λ (d : MadeDesk). d.clients) c.desk.view_is in
+    let all = ap (λ (d : MadeDesk). d.tags * d.clients) c.desk.view_is in
     let index = ap (λ (l : WorkLine). l.index) c.self.view_is ∙ c.requires.index in
     let its : other.me ≡ (Work t w, []) = c.self.invariant.0 ∙ ap (λ k. work_sat k w) index in
     let mine = c.requires.client.1 in (
@@ -40,12 +40,12 @@ swap-found-requires c =
     let w = work_in other.me.0 in
     let x = c.requires.client.0 in
     let table = ap (λ (d : MadeDesk). d.table) c.desk.view_is in
-    let clients = ap (λ (d : MadeDesk). d.clients) c.desk.view_is in
+    let all = ap (λ (d : MadeDesk). d.tags * d.clients) c.desk.view_is in
     let index = ap (λ (l : WorkLine). l.index) c.self.view_is ∙ c.requires.index in
     let its : other.me ≡ (Work t w, []) = c.self.invariant.0 ∙ ap (λ k. work_sat k w) index in
     let mine = c.requires.client.1 in
     let new : seat.me ≡ (Both t (Open c.args.ticket x) w, []) = c.join_seat.ensures.2 ∙ (λ i. (united (mine i).0 (its i).0, (mine i).1)) in
-    let within : t < shared.key = omega arith in (
+    let within : t < shared.key.all = omega arith in (
       c.join_seat.ensures.0 ∙ c.requires.table.1 ∙ sym table,
       omega arith,
       subst (λ (me : Sat). Allows (IsDesk shared.key) shared.table_id.slots seat.id me t (λ _. 0) (Settles

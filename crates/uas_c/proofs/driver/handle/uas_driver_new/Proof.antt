@@ -36,6 +36,7 @@ use Rattle.c_common.specs.contracts.hand_out_made as over
 use Rattle.c_common.proofs.hand_out_made.Met.{met as over_met}
 use Rattle.c_common.proofs.Given.{As, as_laws, glue_of}
 use Rattle.c_common.proofs.HandedOut.{Made, as_it_was, handed, made_laws, one_value}
+use Rattle.uas_profile.specs.declared.TheConstants.{TAGS}
 use Rattle.uas_driver.specs.Driver.{IsOpening}
 use Rattle.uas_c.specs.DriverCall.{clients_told}
 use Rattle.uas_c.specs.contracts.driver.KeptDriver.{the_row as driver_row}
@@ -103,8 +104,8 @@ uas_driver_new_spec 𝓤 𝓛 𝓜 𝓡 wired =
     ) $
     calls_at ! (framed 𝓤 H 𝓜 𝓣) G known y (and_then ! (get ! refl) (and_then ! (get ! refl) (no_more !))) (λ u.
     use1 𝓛 (later (some (λ (m : (Made T).Denot). (‵ ftrue ⊛ ‵ ((Made T).own_val m (u ∷ []))) ⊛ some (λ (end : Lasts O y.0.0 y.0.3). ‵ (lasts O y.0.0 y.0.3 end)
-    ⊛ raw (fact 𝓤 (IfOk m (λ made. IsOpening clients made.value))) ⊛ raw (fact 𝓤 (clients_told (made_number m) clients ≡ true)) ⊛ raw (fact 𝓤 (IfErr m (λ number. 0 < number))))))) (id⊢ 𝓤 _) $
-    await ! tt $ pick ! (λ m. split ! $ move ! (1 ∷ []) $ pick ! (λ end. split3 ! $ drop ! $ heard ! (IfOk m (λ made. IsOpening clients made.value)) (λ is. split ! $
+    ⊛ raw (fact 𝓤 (IfOk m (λ made. IsOpening TAGS clients made.value))) ⊛ raw (fact 𝓤 (clients_told (made_number m) clients ≡ true)) ⊛ raw (fact 𝓤 (IfErr m (λ number. 0 < number))))))) (id⊢ 𝓤 _) $
+    await ! tt $ pick ! (λ m. split ! $ move ! (1 ∷ []) $ pick ! (λ end. split3 ! $ drop ! $ heard ! (IfOk m (λ made. IsOpening TAGS clients made.value)) (λ is. split ! $
     heard ! (clients_told (made_number m) clients ≡ true) (λ told. heard ! (IfErr m (λ number. 0 < number)) (λ not_0. split ! $ drop ! $
     peeks ! (Made T) (Is (Made T)) (shows 𝓛 (Made T)) m (u ∷ []) (λ is_m. lands_as ! refl refl (((made_laws T L).lawful 𝓛).typed m _ is_m).0 $
     sets ! (addr ! (through ! refl (stop !))) refl (tt, tt) $
@@ -119,7 +120,7 @@ uas_driver_new_spec 𝓤 𝓛 𝓜 𝓡 wired =
     ⊛ raw (fact 𝓤 (n ≡ made_number m)) ⊛ raw (fact 𝓤 (IfErr m (λ _. end.1.0 ≡ r.now))) ⊛ ‵ (handed_if_made (param 0 T) m end.1.0))))) (id⊢ 𝓤 _) $
     await ! tt $ pick ! (λ n. split ! $ move ! (1 ∷ []) $ pick ! (λ end. split3 ! $ fsplit ! $ drop ! $ fsplit ! $ move ! (1 ∷ []) $ drop ! $ move ! (1 ∷ 2 ∷ []) $
     heard ! (n ≡ made_number m) (λ answer. split ! $ heard ! (IfErr m (λ _. end.1.0 ≡ r.now)) (λ kept.
-    use1 𝓛 (‵ (handed_out (param 0 T) (IsOpening clients) n end.1.0)) (handed (param 0 T) (IsOpening clients) 𝓛 m n end.1.0 is not_0 answer) $
+    use1 𝓛 (‵ (handed_out (param 0 T) (IsOpening TAGS clients) n end.1.0)) (handed (param 0 T) (IsOpening TAGS clients) 𝓛 m n end.1.0 is not_0 answer) $
     move ! (2 ∷ []) $ split ! $ move ! (1 ∷ []) $ peeks ! u8 (Is u8) (shows 𝓛 u8) n (v ∷ []) (λ is_n. lands_as ! refl refl ((uint_Lawful 𝓛 w8).typed n _ is_n).0 $
     returns ! (look_at ! 0 refl) $ free_all ! refl $
     -- [the answer; the tokens; what is handed out; the borrow]

@@ -1,4 +1,4 @@
-use Rattle.std.proofs.Common.{length, ◌-◌, ◌∙◌, length-set}
+use Rattle.std.proofs.Common.{length, ◌-◌, length-set}
 use Rattle.uas_target.proofs.Places.{IsRead, MarksHeld-kept, takes_read}
 use Rattle.uas_target.proofs.table.TaskTable.take.Goals as goal
 
@@ -10,6 +10,14 @@ take_held-requires-clause-wanted c =
     in
     rw (← found.under) c.requires.wanted
 
+pub take_held-requires-clause-sound : goal.take_held-requires-clause-sound
+take_held-requires-clause-sound c =
+    let found =
+    takes_read c.self.inside.places.items c.args.self.now c.args.tag c.from.result (length c.args.bytes.now) c.index_mut.result.now c.self.view_is
+    c.from.ensures c.requires.wanted c.index_mut.ensures.value
+    in
+    rw (← found.under) c.requires.sound
+
 -- what was read at the tag's place is its task
 read : (c : goal.After-units-1) → IsRead c.self.inside.places.items c.args.self.now c.args.tag (c.from.result - 1) c.index_mut.result.now
 read c =
@@ -18,7 +26,7 @@ read c =
 
 pub invariant_of-self : goal.invariant_of-self
 invariant_of-self c = (
-  length-set c.self.inside.places.items (c.from.result - 1) c.take_held.new.held ∙ c.self.invariant.0,
+  rw (length-set c.self.inside.places.items (c.from.result - 1) c.take_held.new.held) c.self.invariant.0,
   MarksHeld-kept c.self.inside.marks c.self.inside.places.items (c.from.result - 1) c.index_mut.result.now c.take_held.new.held (read c).within (read c).at
       c.take_held.ensures.held c.self.invariant.1,
 )

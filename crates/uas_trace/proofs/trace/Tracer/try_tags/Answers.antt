@@ -1,5 +1,4 @@
-use Rattle.std.proofs.Common.{◌∙◌, ◌*◌, ℕ, ap, arith, length}
-use Rattle.uas_profile.specs.declared.TheConstants.{TAGS}
+use Rattle.std.proofs.Common.{◌∙◌, ℕ, ap, arith}
 use Rattle.uas_replay.specs.Told.{Telling}
 use Rattle.bus_core.proofs.drain.DrainTags.{tried-further, tried-whole}
 use Rattle.shared_machine.specs.declared.Step.{Step}
@@ -11,6 +10,7 @@ use Rattle.uas_trace.proofs.Tries.{moments-off, moments-on}
 use Rattle.uas_trace.specs.Traced.{step_of_tag}
 use Rattle.uas_trace.specs.Texts.{step_text}
 use Rattle.uas_trace.proofs.trace.Tracer.try_tags.Goals as goal
+use Rattle.shared_machine.specs.Shared.{greatest_tag}
 
 pub loop-next-preserved : goal.loop-next-preserved
 loop-next-preserved g c = record {
@@ -37,6 +37,6 @@ returns-clause-shown g c =
     let at : Shared × ℕ = (c.loop-next.run.telling.machine, c.loop-next.left) in
     let so = c.loop-next.invariant.tags in
     shows_as step_text _ _ _ _ _ _
-    (moments-off (step_of_tag c.args.kind) start c.loop-next.tag (length start.0.parts * TAGS) at so.so_far so.within
-    (λ other above below. c.in_default.ensures.none other above (omega (arith, below, so.parts))))
+    (moments-off (step_of_tag c.args.kind) start c.loop-next.tag (greatest_tag start.0) at so.so_far so.within
+    (λ other above below. c.in_default.ensures.none other above (omega (arith, below, so.greatest))))
     c.loop-next.invariant.shown

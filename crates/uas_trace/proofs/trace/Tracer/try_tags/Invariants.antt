@@ -1,12 +1,12 @@
-use Rattle.std.proofs.Common.{◌≡◌, ◌-◌, ◌*◌, length, map}
+use Rattle.std.proofs.Common.{◌≡◌, ◌-◌, map}
 use Rattle.std.specs.List.{range_with_len}
-use Rattle.uas_profile.specs.declared.TheConstants.{TAGS}
 use Rattle.bus_core.proofs.drain.DrainTags.{HasTried}
 use Rattle.uas_replay.specs.Walks.{Shows}
 use Rattle.uas_replay.specs.Moments.{tried_moments}
 use Rattle.uas_trace.specs.Texts.{step_text}
 use Rattle.uas_trace.specs.Traced.{step_of_tag, with_waiting}
 use Rattle.uas_trace.proofs.trace.Tracer.try_tags.Given as goal
+use Rattle.shared_machine.specs.Shared.{greatest_tag}
 
 -- the tags up to the last that was tried; nothing else of the run changed
 abbrev pub invariant-loop-next : goal.invariant-loop-next
@@ -20,4 +20,4 @@ invariant-loop-next g l = record {
 }
 
 abbrev pub decreases-loop-next : goal.decreases-loop-next
-decreases-loop-next g l = length l.run.telling.machine.parts * TAGS - l.tag
+decreases-loop-next g l = greatest_tag l.run.telling.machine - l.tag

@@ -16,8 +16,9 @@ loop-seat-preserved c =
     let done = vec_len c.loop-seat.parts in
     let popped = c.in-Some-pop.ensures.items in
     let fresh = first_of (IsServerBelow shared.desk (TAGS * shared.clients)) done _ _ _ _ _ step.0 step.1 was.3 in
-    let here : IsServerBelow shared.desk (TAGS * shared.desk.clients) done c.in-Some.seat =
-    subst (λ (n : ℕ). IsServerBelow shared.desk (TAGS * n) done c.in-Some.seat) (sym shared.made.for_clients) fresh in
+    let all : TAGS * shared.clients ≡ shared.desk.tags * shared.desk.clients = λ i. sym shared.made.tags i * sym shared.made.for_clients i in
+    let here : IsServerBelow shared.desk (shared.desk.tags * shared.desk.clients) done c.in-Some.seat =
+    subst (λ (n : ℕ). IsServerBelow shared.desk n done c.in-Some.seat) all fresh in
     let own = first_of (λ (i : ℕ) (seat : Server). IsPumpOf shared.desk seat) 0 _ _ _ _ _ step.0 step.1 was.4 in
     let bell = last_of (IsSeatOf shared.board) _ _ _ popped was.2 in (
       search rules,
@@ -29,7 +30,7 @@ loop-seat-preserved c =
           (record {
             own = own;
             number = search rules;
-            held = c.in_ok-held.ensures.held shared.desk c.in-Some.seat shared.made.for_clients;
+            held = c.in_ok-held.ensures.held shared.desk c.in-Some.seat shared.made.tags shared.made.for_clients;
             whole = home_accounted shared.desk c.in-Some.seat _ (new_home shared.desk done c.in-Some.seat here);
             bell = bell;
           }) k d (search rules)),

@@ -1,5 +1,6 @@
-use Rattle.std.proofs.Common.{subst, sym}
+use Rattle.std.proofs.Common.{◌++◌, subst, sym}
 use Rattle.std.proofs.Math.Logic.{∥∥₁_map}
+use Rattle.log_keeper.specs.Beginnings.{IsBeginning}
 use Rattle.log_keeper.proofs.Begun.{whole}
 use Rattle.work_run.specs.KeptEnds.{HasKept}
 use Rattle.work_run.proofs.KeptText.{has_whole}
@@ -14,5 +15,6 @@ returns-clause-whole g c = λ told.
     has_whole g.J.KeptLog.tells log c.args.why keeper.place (g.F.KeptFile.written keeper.writer.file)
     (g.F.KeptFile.written c.finish.new.self.writer.file) keeper.waiting.items _
     (subst (λ units. HasKept g.J.KeptLog.tells units keeper.place (g.F.KeptFile.written keeper.writer.file) keeper.waiting.items) (sym c.requires.units) kept)
-    (λ given begins. whole log c.args.why keeper.place c.finish.new.self.place given keeper.waiting.items begins c.in_ok-finish.ensures.steps)
+    (λ given begins. whole log c.args.why keeper.place c.finish.new.self.place given keeper.waiting.items
+    (subst (λ tags. IsBeginning tags log.units keeper.place (given ++ keeper.waiting.items)) (sym c.requires.tags) begins) c.in_ok-finish.ensures.steps)
     c.in_ok-finish.ensures.bytes told)

@@ -1,0 +1,33 @@
+//! Where the replies of a replay and those of a text differ.
+ghost use Rattle.std.specs.Prelude.{◌≡◌, ◌↔◌, IsTrue, IfNone, IfSome, map};
+ghost use Rattle.uas_profile.specs.declared.TheConstants.{TAGS};
+ghost use Rattle.log_text.specs.Kept.{with_client};
+ghost use Rattle.audit_run.specs.replay.Replaying.{DifferFirst};
+
+use log_text::SavedReply;
+use scsi_cmd::Reply;
+use uas_profile::TAGS;
+
+/// The number of the first reply, from 0, that is another in a text, or is missing on one side.
+pub(crate) fn first_difference(replayed: &[Reply], saved: &[SavedReply]) -> Option<usize>
+    ensures none { IfNone result (map (with_client TAGS) replayed.now ≡ saved.now) }
+    ensures first { IfSome result (λ at. DifferFirst at (map (with_client TAGS) replayed.now) saved.now) }
+{
+    for (at, reply) in replayed.iter().enumerate() {
+        if at == saved.len() || !is_saved(reply, &saved[at]) {
+            return Some(at);
+        }
+    }
+    if replayed.len() < saved.len() {
+        Some(replayed.len())
+    } else {
+        None
+    }
+}
+
+/// Whether a reply with the client whose tag it brings back is that of a text.
+fn is_saved(reply: &Reply, saved: &SavedReply) -> bool
+    ensures { IsTrue result ↔ (with_client TAGS reply.now ≡ saved.now) }
+{
+    usize::from(reply.tag()).saturating_sub(1) / TAGS == saved.client && reply.same(&saved.reply)
+}

@@ -1,0 +1,36 @@
+-- The numbers of all faults.
+use Rattle.std.specs.Prelude.{ℕ, ◌==◌, ◌&&◌, ◌||◌, not, Bool, true, false, List, [], ◌∷◌}
+use Rattle.c_common.specs.declared.faults.TheConstants.{NO_MEMORY, TRB_UNKNOWN_TYPE, TRB_LENGTH_OVER, TRB_RESERVED_SET, TRB_UNFIT, UNIT_UNKNOWN_ID, UNIT_SHORT}
+use Rattle.c_common.specs.declared.faults.TheConstants.{UNIT_LONG, UNIT_RESERVED_SET, UNIT_LENGTH_FIELD, UNIT_UNFIT, UNIT_NO_ROOM, CDB_CHECK, CDB_UNKNOWN_OPCODE}
+use Rattle.c_common.specs.declared.faults.TheConstants.{CDB_UNFIT, CAPACITY_NO_BLOCKS, UNITS, BLOCKS, IMAGE, BAD_BLOCK, DEVICE_CALL, DEVICE_OVERLAP, DEVICE_PHASE}
+use Rattle.c_common.specs.declared.faults.TheConstants.{DEVICE_LENGTH, DEVICE_UNIT, DEVICE_RANGE, CONTROLLER_CALL, CONTROLLER_RING, CONTROLLER_FULL, CONTROLLER_STEP}
+use Rattle.c_common.specs.declared.faults.TheConstants.{CONTROLLER_ADDRESS, CONTROLLER_TAG, CONTROLLER_LENGTH, CONTROLLER_LENT, CONTROLLER_NOT_LENT, CONTROLLER_NOT_CONSUMED}
+use Rattle.c_common.specs.declared.faults.TheConstants.{CONTROLLER_UNIT, CONTROLLER_RANGE, CLIENT_NOT_YOURS, CLIENT_IN_USE, CLIENT_BAD_LENGTH, CLIENT_TOO_LONG}
+use Rattle.c_common.specs.declared.faults.TheConstants.{CLIENT_OUT_OF_TURN, CLIENT_NO_SUCH_TASK, CLIENT_CALL, CLIENT_OPERATION, CLIENT_TICKET, CLIENT_LENGTH}
+use Rattle.c_common.specs.declared.faults.TheConstants.{CLIENT_FUNCTION, DRIVER_CLIENTS, DRIVER_ROOM, DRIVER_ADDRESS, DRIVER_RING, DRIVER_EVENT, DRIVER_STATE, BUS_STEP}
+use Rattle.c_common.specs.declared.faults.TheConstants.{BUS_CLIENT, BUS_RANGE, TASKS_CALL, TASKS_OVERLAP, TASKS_PHASE, TASKS_LENGTH, TASKS_NOT_OUT, TASKS_BLOCK_BYTES}
+use Rattle.c_common.specs.declared.faults.TheConstants.{TASKS_SERIAL, TASKS_SET, TASKS_CHUNK}
+
+-- every fault, in the order of its number
+abbrev pub all_faults : List ℕ
+all_faults =
+    NO_MEMORY ∷ TRB_UNKNOWN_TYPE ∷ TRB_LENGTH_OVER ∷ TRB_RESERVED_SET ∷ TRB_UNFIT ∷ UNIT_UNKNOWN_ID ∷ UNIT_SHORT ∷ UNIT_LONG ∷
+    UNIT_RESERVED_SET ∷ UNIT_LENGTH_FIELD ∷ UNIT_UNFIT ∷ UNIT_NO_ROOM ∷ CDB_CHECK ∷ CDB_UNKNOWN_OPCODE ∷ CDB_UNFIT ∷
+    CAPACITY_NO_BLOCKS ∷ UNITS ∷ BLOCKS ∷ IMAGE ∷ BAD_BLOCK ∷ DEVICE_CALL ∷ DEVICE_OVERLAP ∷ DEVICE_PHASE ∷ DEVICE_LENGTH ∷
+    DEVICE_UNIT ∷ DEVICE_RANGE ∷ CONTROLLER_CALL ∷ CONTROLLER_RING ∷ CONTROLLER_FULL ∷ CONTROLLER_STEP ∷ CONTROLLER_ADDRESS ∷
+    CONTROLLER_TAG ∷ CONTROLLER_LENGTH ∷ CONTROLLER_LENT ∷ CONTROLLER_NOT_LENT ∷ CONTROLLER_NOT_CONSUMED ∷ CONTROLLER_UNIT ∷
+    CONTROLLER_RANGE ∷ CLIENT_NOT_YOURS ∷ CLIENT_IN_USE ∷ CLIENT_BAD_LENGTH ∷ CLIENT_TOO_LONG ∷ CLIENT_OUT_OF_TURN ∷
+    CLIENT_NO_SUCH_TASK ∷ CLIENT_CALL ∷ CLIENT_OPERATION ∷ CLIENT_TICKET ∷ CLIENT_LENGTH ∷ CLIENT_FUNCTION ∷ DRIVER_CLIENTS ∷
+    DRIVER_ROOM ∷ DRIVER_ADDRESS ∷ DRIVER_RING ∷ DRIVER_EVENT ∷ DRIVER_STATE ∷ BUS_STEP ∷ BUS_CLIENT ∷ BUS_RANGE ∷
+    TASKS_CALL ∷ TASKS_OVERLAP ∷ TASKS_PHASE ∷ TASKS_LENGTH ∷ TASKS_NOT_OUT ∷ TASKS_BLOCK_BYTES ∷ TASKS_SERIAL ∷ TASKS_SET ∷
+    TASKS_CHUNK ∷ []
+
+-- a number is in a list
+abbrev pub is_among : ℕ → List ℕ → Bool
+is_among number [] = false
+is_among number (first ∷ rest) = number == first || is_among number rest
+
+-- no number is in a list twice
+abbrev pub are_different : List ℕ → Bool
+are_different [] = true
+are_different (first ∷ rest) = not (is_among first rest) && are_different rest

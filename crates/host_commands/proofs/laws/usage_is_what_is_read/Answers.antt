@@ -1,0 +1,12 @@
+use Rattle.host_commands.proofs.Used.{usage_is_read, usage_is_read_of_none}
+use Rattle.host_commands.proofs.ToldBits.{told_bits}
+use Rattle.host_commands.proofs.laws.usage_is_what_is_read.Goals as goal
+
+pub returns-clause-there : goal.returns-clause-there
+returns-clause-there c = usage_is_read
+
+pub returns-clause-none : goal.returns-clause-none
+returns-clause-none c = usage_is_read_of_none
+
+pub returns-clause-told : goal.returns-clause-told
+returns-clause-told c = told_bits

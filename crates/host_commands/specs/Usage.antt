@@ -1,0 +1,84 @@
+-- The bits of a CDB that are told as used, against those that are looked at (SPC, CDB USAGE DATA).
+use Rattle.std.specs.Prelude.{◌≡◌, ◌≢◌, ℕ, ◌+◌, ◌^◌, ◌<◌, ◌==◌, nat_lt, Bool, true, false, not, ◌&&◌, ◌||◌, List, length, slice_index, slice_set, Option, None}
+use Rattle.scsi_cmd.specs.Fields.{is_bit_set}
+use Rattle.host_commands.specs.declared.CommandSet.TheVariants.{Host}
+use Rattle.host_commands.specs.declared.HostCommand.{HostCommand}
+use Rattle.host_commands.specs.declared.HostCommand.TheVariants.{Read10, Read12, Read16, Verify10, Verify12, Verify16, Write10, Write12, Write16}
+use Rattle.host_commands.specs.declared.UnitAttention.{UnitAttention}
+use Rattle.host_commands.specs.Commands.{has_service_actions, usage_of}
+use Rattle.host_commands.specs.Fields.{action_in, code_in}
+use Rattle.host_commands.specs.Meaning.{asked_of, asked_of_none}
+use Rattle.host_commands.specs.OperationCodes.{action_of}
+use Rattle.host_commands.specs.Shapes.{Shape}
+use Rattle.host_commands.specs.Told.{code_of}
+
+-- bytes that are a CDB of this command, by its operation code, and by its service action where its operation code has some
+pub record IsCdbOf (command : HostCommand) (cdb : List ℕ) : Type 0 where
+  pub bytes : (place : ℕ) → slice_index cdb place < 2 ^ 8
+  pub code : code_in cdb ≡ code_of command
+  pub action : has_service_actions (code_of command) ≡ true → action_in cdb ≡ action_of command
+
+-- bits of byte 1 that are told as used and change nothing: DPO, bit 4, of READ, WRITE and VERIFY, and FUA, bit 3, of READ, whose blocks come
+-- from where every write was
+abbrev pub hints_of : HostCommand → ℕ
+hints_of Read10 = 0x18
+hints_of Read12 = 0x18
+hints_of Read16 = 0x18
+hints_of Write10 = 0x10
+hints_of Write12 = 0x10
+hints_of Write16 = 0x10
+hints_of Verify10 = 0x10
+hints_of Verify12 = 0x10
+hints_of Verify16 = 0x10
+hints_of command = 0
+
+-- any other bit that is told as used
+abbrev pub is_read : HostCommand → ℕ → ℕ → Bool
+is_read command place bit =
+    is_bit_set (slice_index (usage_of command) place) bit && not (place == 1 && is_bit_set (hints_of command) bit)
+
+-- Two CDBs have the same bits there. Worked: of READ(10), 28 00 and 28 1f do where all else is equal, since DPO, FUA and the bits 2 to 0 aren't
+-- read, and 28 00 and 28 20, RDPROTECT, don't; of INQUIRY, 12 00 and 12 02 do, and 12 00 and 12 01, EVPD, don't.
+abbrev pub AgreeWhereRead : HostCommand → List ℕ → List ℕ → Type 0
+AgreeWhereRead command one other =
+    (place bit : ℕ) → bit < 8 → is_read command place bit ≡ true → is_bit_set (slice_index one place) bit ≡ is_bit_set (slice_index other place) bit
+
+-- Such CDBs ask for the same: all that is looked at is told.
+abbrev pub UsageIsWhatIsRead : Type 0
+UsageIsWhatIsRead =
+    (command : HostCommand) (one other : List ℕ) (maximum count : ℕ) (shape : Shape) (attention : Option UnitAttention)
+    → IsCdbOf command one → IsCdbOf command other → AgreeWhereRead command one other
+    → asked_of one (Host maximum) shape count attention ≡ asked_of other (Host maximum) shape count attention
+
+-- and where no logical unit is
+abbrev pub UsageIsWhatIsReadOfNone : Type 0
+UsageIsWhatIsReadOfNone =
+    (command : HostCommand) (one other : List ℕ) (maximum count : ℕ)
+    → IsCdbOf command one → IsCdbOf command other → AgreeWhereRead command one other
+    → asked_of_none one (Host maximum) count ≡ asked_of_none other (Host maximum) count
+
+-- THE OTHER WAY: each bit that is told is looked at, but for those that change nothing
+
+-- the operation code and the service action are told as themselves
+abbrev pub is_of_name : HostCommand → ℕ → ℕ → Bool
+is_of_name command place bit = place == 0 || (place == 1 && nat_lt bit 5 && has_service_actions (code_of command))
+
+-- these bytes with this bit set too
+abbrev pub with_bit : List ℕ → ℕ → ℕ → List ℕ
+with_bit cdb place bit = slice_set cdb place (slice_index cdb place + 2 ^ bit)
+
+-- Some CDB of the command asks for one thing of some logical unit, and with this bit for another.
+pub record IsLookedAt (command : HostCommand) (place bit : ℕ) : Type 0 where
+  pub cdb : List ℕ
+  pub size : length cdb ≡ 16
+  pub is : IsCdbOf command cdb
+  pub clear : is_bit_set (slice_index cdb place) bit ≡ false
+  pub maximum : ℕ
+  pub count : ℕ
+  pub shape : Shape
+  pub differs : asked_of cdb (Host maximum) shape count None ≢ asked_of (with_bit cdb place bit) (Host maximum) shape count None
+
+abbrev pub ToldBitsAreRead : Type 0
+ToldBitsAreRead =
+    (command : HostCommand) (place bit : ℕ) → place < 16 → bit < 8 → is_read command place bit ≡ true → is_of_name command place bit ≡ false
+    → IsLookedAt command place bit

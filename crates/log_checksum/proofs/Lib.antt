@@ -1,5 +1,0 @@
-pub mod Bytewise
-pub mod Places
-pub mod Fits
-pub mod Telling
-pub mod Bytes

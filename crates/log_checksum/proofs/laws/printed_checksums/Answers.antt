@@ -1,7 +1,0 @@
-use Rattle.std.proofs.Common.{refl}
-use Rattle.log_checksum.specs.Division.{with_bits}
-use Rattle.log_checksum.proofs.laws.printed_checksums.Goals as goal
-
-pub returns : goal.returns
-unfolding with_bits
-returns c = record { zeros = refl; ones = refl; rising = refl; falling = refl }

@@ -1,7 +1,0 @@
-use Rattle.std.proofs.Common.{◌∙◌, ap, arith, get_or}
-use Rattle.log_checksum.specs.declared.table.TheConstants.{REMAINDERS}
-use Rattle.log_checksum.proofs.Places.{remainder_at}
-use Rattle.log_checksum.proofs.left_by.Goals as goal
-
-pub returns : goal.returns
-returns c = ap (λ place. get_or REMAINDERS place 0) c.from.ensures ∙ remainder_at c.args.byte (omega arith)

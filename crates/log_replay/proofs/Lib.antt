@@ -1,5 +1,0 @@
-pub mod FirstUnits
-pub mod Differing
-pub mod Replayed
-mod KeptSteps
-mod TrueLogs

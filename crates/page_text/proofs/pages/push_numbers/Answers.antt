@@ -1,8 +1,0 @@
-use Rattle.std.proofs.Common.{append_assoc}
-use Rattle.page_text.specs.Page.{numbers}
-use Rattle.page_text.proofs.pages.push_numbers.Goals as goal
-
-pub returns : goal.returns
-unfolding numbers
-returns c =
-    rw (c.in_ok-push_number-3.ensures, c.in_ok-push_number-2.ensures, c.in_ok-push_number.ensures, c.from.ensures) (simp append_assoc)

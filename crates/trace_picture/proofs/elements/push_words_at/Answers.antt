@@ -1,8 +1,0 @@
-use Rattle.std.proofs.Common.{append_assoc}
-use Rattle.trace_picture.specs.Elements.{words_at}
-use Rattle.trace_picture.proofs.elements.push_words_at.Goals as goal
-
-pub returns : goal.returns
-unfolding words_at
-returns c =
-    rw (c.in_ok-extend_from_slice.ensures.items, c.in_ok-push_escaped.ensures.text, c.shown.ensures, c.in_ok-push_text_at.ensures) (simp append_assoc)

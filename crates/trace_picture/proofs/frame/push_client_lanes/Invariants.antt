@@ -1,6 +1,0 @@
-use Rattle.std.proofs.Common.{◌≡◌, ◌++◌}
-use Rattle.trace_picture.specs.Frame.{client_lanes}
-use Rattle.trace_picture.proofs.frame.push_client_lanes.Given as goal
-
-abbrev pub invariant-loop-client : goal.invariant-loop-client
-invariant-loop-client l = l.text.items ≡ l.fn.text.items ++ client_lanes l.clients l.bottom l.client

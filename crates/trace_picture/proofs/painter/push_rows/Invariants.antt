@@ -1,9 +1,0 @@
-use Rattle.std.proofs.Common.{◌≡◌, drop, fold, map}
-use Rattle.trace_picture.specs.Points.{start}
-use Rattle.trace_picture.proofs.Rows.{with_row}
-use Rattle.trace_picture.proofs.painter.push_rows.Given as goal
-
-abbrev pub invariant-loop-line : goal.invariant-loop-line
-invariant-loop-line l =
-    fold (with_row l.clients) (l.point, l.text.items) (map (λ line. line.now) (drop l.line-index l.lines))
-    ≡ fold (with_row l.clients) (start, l.fn.text.items) (map (λ line. line.now) l.lines)

@@ -1,6 +1,0 @@
-use Rattle.std.proofs.Common.{◌≡◌, filter, take}
-use Rattle.trace_urbs.specs.Tds.{is_other}
-use Rattle.trace_urbs.proofs.desk.without.Given as goal
-
-abbrev pub invariant-loop-td : goal.invariant-loop-td
-invariant-loop-td l = l.others.items ≡ filter (is_other l.number) (take l.td-index l.under_way)

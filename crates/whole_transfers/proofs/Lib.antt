@@ -1,3 +1,0 @@
-mod Chunks
-pub mod ChunksRead
-pub mod ChunksWritten

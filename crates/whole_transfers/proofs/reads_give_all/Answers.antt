@@ -1,9 +1,0 @@
-use Rattle.std.proofs.Common.{ap, append-nil, refl, ◌∙◌}
-use Rattle.whole_transfers.proofs.ChunksRead.{reads-all, read-stops}
-use Rattle.whole_transfers.proofs.reads_give_all.Goals as goal
-
-pub returns-clause-all : goal.returns-clause-all
-returns-clause-all c = reads-all
-
-pub returns-clause-bad : goal.returns-clause-bad
-returns-clause-bad c = read-stops

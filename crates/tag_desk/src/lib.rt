@@ -265,9 +265,11 @@ impl Desk {
         Ok((desk, seats))
     }
 
-    /// How many tags each client has.
+    /// How many tags each client has, which never changes.
     pub fn tags(&self) -> usize
-        ensures { result ≡ self.now.tags }
+        ensures tags { result ≡ self.now.tags }
+        ensures number { AreTags result }
+        ensures streams { self.now.tags * self.now.clients ≤ STREAMS }
     {
         self.tags
     }

@@ -1,8 +1,8 @@
 -- A log that is true stays true with one more step that acted.
-use Rattle.std.proofs.Common.{◌≡◌, ℕ, ◌≤◌, true, List, [], ◌∷◌, ◌++◌, length, map, refl, ap, sym, ◌∙◌, append_assoc}
+use Rattle.std.proofs.Common.{◌≡◌, ℕ, ◌*◌, ◌≤◌, true, List, [], ◌∷◌, ◌++◌, length, map, refl, ap, sym, ◌∙◌, append_assoc}
 use Rattle.std.specs.Prelude.{option_to_list}
 use Rattle.std.proofs.lemmas.List.{append-nil}
-use Rattle.uas_profile.specs.declared.TheConstants.{USUAL_CLIENTS}
+use Rattle.uas_profile.specs.declared.TheConstants.{MAX_CLIENTS, STREAMS}
 use Rattle.uas_profile.specs.Tags.{AreTags}
 use Rattle.shared_machine.specs.declared.Step.{Step}
 use Rattle.shared_machine.specs.declared.Outcome.{Outcome}
@@ -40,11 +40,13 @@ ticketed_more (first ∷ rest) step all has = (all.0, ticketed_more rest step al
 -- THE LOG
 
 -- a log without a step is true
-pub empty_log-true : (tags : ℕ) (units : List FirstUnit) → AreTags tags → 1 ≤ length units → length units ≤ USUAL_CLIENTS → IsReplay (empty_log tags units)
-empty_log-true tags units are some most = record {
+pub empty_log-true : (tags : ℕ) (units : List FirstUnit) → AreTags tags → 1 ≤ length units → length units ≤ MAX_CLIENTS → length units * tags ≤ STREAMS
+    → IsReplay (empty_log tags units)
+empty_log-true tags units are some most streams = record {
   tags = are;
   some = some;
   most = most;
+  streams = streams;
   refusals = refl;
   replies = refl;
   acted = tt;
@@ -67,6 +69,7 @@ with_entry-true log step state it at has is =
       tags = it.tags;
       some = it.some;
       most = it.most;
+      streams = it.streams;
       refusals = ap (λ list. list ++ refusal_of outcome ∷ []) it.refusals ∙ sym (map_more refusal_of (log_replay log).1 outcome)
           ∙ sym (ap (map refusal_of) goes_on);
       replies = ap (λ list. list ++ option_to_list outcome.reply) it.replies ∙ sym (replies_more (log_replay log).1 outcome)

@@ -1,10 +1,10 @@
 -- What a log tells of a bus, and when that is true.
-use Rattle.std.specs.Prelude.{◌≡◌, ℕ, ◌≤◌, false, List, [], ◌∷◌, ◌++◌, length, map, option_to_list}
+use Rattle.std.specs.Prelude.{◌≡◌, ℕ, ◌*◌, ◌≤◌, false, List, [], ◌∷◌, ◌++◌, length, map, option_to_list}
 use Rattle.std.specs.Option.{option_map_or}
 use Rattle.block_unit.specs.BlockMaps.{BlockMaps, block_count}
 use Rattle.scsi_cmd.specs.declared.Reply.{Reply}
 use Rattle.scsi_cmd.specs.Faults.{fault_number}
-use Rattle.uas_profile.specs.declared.TheConstants.{USUAL_CLIENTS}
+use Rattle.uas_profile.specs.declared.TheConstants.{MAX_CLIENTS, STREAMS}
 use Rattle.uas_profile.specs.Tags.{AreTags}
 use Rattle.shared_machine.specs.declared.Step.{Step}
 use Rattle.shared_machine.specs.declared.Outcome.{Outcome}
@@ -51,11 +51,13 @@ replies_of [] = []
 replies_of (outcome ∷ rest) = option_to_list outcome.reply ++ replies_of rest
 
 -- A log is true: its refusals and replies are those of the replay of its steps on its first units, with its number of tags, which
--- is one that a client may have. It has only steps that acted, and no more than a bus can take.
+-- is one that a client may have, and its clients have no more tags than there are streams. It has only steps that acted, and no more
+-- than a bus can take.
 pub record IsReplay (log : Log) : Type 0 where
   pub tags : AreTags log.tags
   pub some : 1 ≤ length log.units
-  pub most : length log.units ≤ USUAL_CLIENTS
+  pub most : length log.units ≤ MAX_CLIENTS
+  pub streams : length log.units * log.tags ≤ STREAMS
   pub refusals : log.refusals ≡ map refusal_of (log_replay log).1
   pub replies : log.replies ≡ replies_of (log_replay log).1
   pub acted : AllDue (log_opening log) log.steps

@@ -6,6 +6,7 @@ use Rattle.shared_machine.specs.declared.Outcome.{Outcome}
 use Rattle.shared_machine.specs.Bus.{HasTicket}
 use Rattle.shared_machine.specs.Shared.{Shared, due, idle, shared_step}
 use Rattle.shared_machine.proofs.Due.{shared_step-idle}
+use Rattle.shared_machine.proofs.NumberOfTags.{kept-tags}
 use Rattle.uas_log.specs.Booking.{with_entry}
 use Rattle.uas_log.proofs.Replays.{with_entry-state, with_entry-true}
 use Rattle.uas_work.specs.Booked.{BookedState, IsBooked, booked_step}
@@ -21,7 +22,7 @@ acted_state old step = record old {
 pub acted-booked : (old : BookedState) (step : Step) → IsBooked old → HasTicket step → due old.bus step ≡ true → length old.log.steps < old.limit
     → IsBooked (acted_state old step)
 acted-booked old step it has is room = record {
-  tags = it.tags;
+  tags = kept-tags old.bus step ∙ it.tags;
   bus = with_entry-state old.log step (shared_step old.bus step).1 old.bus it.bus;
   log = with_entry-true old.log step old.bus it.log it.bus has is;
   within = omega (arith, length-append old.log.steps (step ∷ []));

@@ -4,7 +4,7 @@ use Rattle.std.specs.Prelude.{All, slice_index, slice_index_or, sum_by}
 use Rattle.std.proofs.lemmas.List.{get_or-set_same, get_or-set_other}
 use Rattle.std.proofs.lemmas.List.Sums.{sum_by-le, sum_by_push}
 use Rattle.std.proofs.lemmas.Grind.{common_steps}
-use Rattle.uas_profile.specs.declared.TheConstants.{USUAL_CLIENTS}
+use Rattle.uas_profile.specs.declared.TheConstants.{MAX_CLIENTS}
 use Rattle.shared_machine.specs.declared.Step.{Step}
 use Rattle.shared_machine.specs.declared.Step.TheVariants.{Submit, Task, CommandPipe, Data, Status, Engine, Event, Retire, Take}
 use Rattle.uas_work.specs.Booked.{IsCounted, asked_by, turns_in, with_turn, with_turn_of}
@@ -75,5 +75,5 @@ counted-more turns steps (Take owner) it = counted-quiet turns steps (Take owner
 
 -- no count is near its end
 pub counted-small : (turns : List ℕ) (steps : List Step) (limit : ℕ) → IsCounted turns steps → length steps ≤ limit → limit < 2 ^ 32
-    → (client : ℕ) → client < USUAL_CLIENTS → slice_index turns client < 2 ^ 32
+    → (client : ℕ) → client < MAX_CLIENTS → slice_index turns client < 2 ^ 32
 counted-small turns steps limit it most small client within = omega (arith, it.1 client within, turns_most client steps)

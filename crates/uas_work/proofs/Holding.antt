@@ -8,7 +8,7 @@ use Rattle.std.proofs.lemmas.List.{get_or-set_other}
 use Rattle.tag_desk.specs.declared.Slip.{Slip}
 use Rattle.tag_desk.specs.declared.rule.WorkView.TheVariants.{Finished}
 use Rattle.tag_desk.specs.Seats.{finishing, MadeDesk, Server, WorkLine, HeldClaim, IsAway, IsServed}
-use Rattle.uas_work.specs.Held.{AreHeldBy, AreNone, AreUnserved, IsHeldAt, IsTaggedAsBus, unserved_line, unserving}
+use Rattle.uas_work.specs.Held.{AreHeldBy, AreNone, AreUnserved, IsHeldAt, unserved_line, unserving}
 
 -- LINES THAT ARE OUT
 
@@ -46,7 +46,6 @@ at_moved desk old new k (Some claim) same keeps h = (h.0, h.1, (h.2.0, h.2.1, h.
 pub held-given : (desk : MadeDesk) (seat : Server) (held : List (Option HeldClaim)) (k : ℕ) → AreHeldBy desk seat held
     → AreHeldBy desk (record seat { lines = set seat.lines k None }) held
 held-given desk seat held k it = record {
-  tags = it.tags;
   count = it.count;
   each =
       λ j within.
@@ -59,7 +58,6 @@ pub held-put : (desk : MadeDesk) (seat : Server) (held : List (Option HeldClaim)
     → claim.table ≡ desk.table → IsServed desk seat claim.tag → IsAway seat claim.tag
     → AreHeldBy desk seat (set held (claim.tag - 1) (Some claim))
 held-put desk seat held claim it table served is = record {
-  tags = it.tags;
   count = length-set held (claim.tag - 1) (Some claim) ∙ it.count;
   each =
       λ j within.
@@ -71,7 +69,6 @@ held-put desk seat held claim it table served is = record {
 pub held-taken : (desk : MadeDesk) (seat : Server) (held : List (Option HeldClaim)) (k : ℕ) → AreHeldBy desk seat held
     → AreHeldBy desk seat (set held k None)
 held-taken desk seat held k it = record {
-  tags = it.tags;
   count = length-set held k None ∙ it.count;
   each = λ j within. holds_set (IsHeldAt desk seat j) held k j None None (λ here. tt) (it.each j within);
 }
@@ -82,7 +79,6 @@ pub held-finished : (desk : MadeDesk) (seat : Server) (held : List (Option HeldC
 held-finished desk seat held k line none it =
     let new : Server = record seat { lines = set seat.lines k line } in
     record {
-      tags = it.tags;
       count = it.count;
       each =
           λ j within.
@@ -104,10 +100,9 @@ none_at (x ∷ xs) zero = refl
 none_at (x ∷ xs) (suc k) = none_at xs k
 
 -- nothing is held by anybody
-pub held-none : (desk : MadeDesk) (seat : Server) (held : List (Option HeldClaim)) → AreNone held → IsTaggedAsBus desk
+pub held-none : (desk : MadeDesk) (seat : Server) (held : List (Option HeldClaim)) → AreNone held
     → length held ≡ desk.tags * desk.clients → AreHeldBy desk seat held
-held-none desk seat held none tags count = record {
-  tags = tags;
+held-none desk seat held none count = record {
   count = count;
   each = λ j within. subst (IsHeldAt desk seat j) (sym (none j None (omega arith))) tt;
 }

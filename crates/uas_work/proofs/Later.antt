@@ -28,13 +28,13 @@ begins_more (x ∷ xs) (y ∷ ys) step is =
 
 -- a bus has the steps that it has
 pub later_same : (first : BookedState) → IsLater first first
-later_same first = record { units = refl; limit = refl; steps = begins_with_itself first.log.steps }
+later_same first = record { tags = refl; units = refl; limit = refl; steps = begins_with_itself first.log.steps }
 
 later_log : (acts : Bool) (first now : BookedState) (bus : Shared) (step : Step) (outcome : Outcome) → IsLater first now
     → IsLater first (record now { bus = bus; log = if acts then with_entry now.log step outcome else now.log })
 later_log true first now bus step outcome it =
-    record { units = it.units; limit = it.limit; steps = begins_more first.log.steps now.log.steps step it.steps }
-later_log false first now bus step outcome it = record { units = it.units; limit = it.limit; steps = it.steps }
+    record { tags = it.tags; units = it.units; limit = it.limit; steps = begins_more first.log.steps now.log.steps step it.steps }
+later_log false first now bus step outcome it = record { tags = it.tags; units = it.units; limit = it.limit; steps = it.steps }
 
 -- and one more, or none where it is idle
 pub later_step : (first old new : BookedState) (step : Step) → IsLater first old → new ≡ (booked_step old step).0 → IsLater first new
@@ -51,10 +51,10 @@ later_turn first old new kind says (Ok true) took it = later_step first old new 
 later_turn first old new kind says (Ok false) left it = later_as first old new it left.same
 later_turn first old new kind says (Err booking) wants it = later_as first old new it wants.same
 
-later_entered : (first old new : BookedState) (client : ℕ) → EnteredOrLeft client old new → IsLater first old → IsLater first new
-later_entered first old new client came it =
+later_entered : (first old new : BookedState) (tags client : ℕ) → EnteredOrLeft tags client old new → IsLater first old → IsLater first new
+later_entered first old new tags client came it =
     ⊎_elim (λ (same : new ≡ old). later_as first old new it same)
-    (λ (entered : Entered client old new). later_step first old new (asked client entered.tag entered.slip) it entered.booked) came
+    (λ (entered : Entered tags client old new). later_step first old new (asked client entered.tag entered.slip) it entered.booked) came
 
 later_taken : (first old new : BookedState) (client : ℕ) (says : Step → Bool → Type 0) (took : Bool) → TakenOrLeft says client old new took
     → IsLater first old → IsLater first new
@@ -62,11 +62,11 @@ later_taken first old new client says true taken it = later_step first old new (
 later_taken first old new client says false left it = later_as first old new it left.1
 
 -- and a pump
-pub later_served : {A : Type 0} (first old new : BookedState) (client : ℕ) (says : Step → Bool → Type 0) (result : Result A Booking)
-    → MatchResult result (λ served. Served says client old new) (λ booking. EnteredOrLeft client old new) → IsLater first old → IsLater first new
-later_served first old new client says (Ok booked) served it =
-    later_taken first served.between new client says served.took served.taken (later_entered first old served.between client served.entered it)
-later_served first old new client says (Err booking) came it = later_entered first old new client came it
+pub later_served : {A : Type 0} (first old new : BookedState) (tags client : ℕ) (says : Step → Bool → Type 0) (result : Result A Booking)
+    → MatchResult result (λ served. Served says tags client old new) (λ booking. EnteredOrLeft tags client old new) → IsLater first old → IsLater first new
+later_served first old new tags client says (Ok booked) served it =
+    later_taken first served.between new client says served.took served.taken (later_entered first old served.between tags client served.entered it)
+later_served first old new tags client says (Err booking) came it = later_entered first old new tags client came it
 
 -- and whoever sweeps
 later_steps : (first old : BookedState) (says : Step → Bool → Type 0) (count : ℕ) (new : BookedState) → IsSwept says old count new

@@ -1,10 +1,10 @@
 -- What is booked of those who have no client is a sweep.
-use Rattle.std.proofs.Common.{◌≡◌, ℕ, zero, suc, Bool, true, false, Result, Ok, Err, MatchResult, refl, sym, subst, inl, inr, ◌+◌, arith}
+use Rattle.std.proofs.Common.{◌≡◌, ℕ, suc, Bool, true, false, Result, Ok, Err, MatchResult, refl, sym, subst, inl, inr, ◌+◌, arith}
 use Rattle.shared_machine.specs.declared.Step.{Step}
 use Rattle.uas_work.specs.declared.Booking.{Booking}
 use Rattle.uas_work.specs.Booked.{BookedState}
 use Rattle.uas_work.specs.Control.{AreLeft, IsControl, IsDispatch, LeftAll, TookOne, TookOrLeft, WantsOne}
-use Rattle.uas_work.specs.Sweep.{AreAllLeft, BookedOne, BookedOrLeft, IsSwept, WasSwept}
+use Rattle.uas_work.specs.Sweep.{BookedOne, BookedOrLeft, IsSwept}
 
 -- the controller's step is one, and so is the dispatcher's
 pub by_control : (says : Step → Bool → Type 0) (old new : BookedState) → TookOne IsControl says old new → BookedOne says old new

@@ -1,40 +1,73 @@
 -- A client's slip is claimed and booked: from the claim to what `pump_in` tells.
-use Rattle.std.proofs.Common.{◌≡◌, ℕ, ◌+◌, ◌-◌, ◌*◌, ◌/◌, ◌%◌, ◌<◌, ◌≤◌, Bool, true, false, List, Option, Some, None, Result, Ok, Err, IfOk, IfErr, get_or, refl, sym, ap, subst, ◌∙◌, arith}
-use Rattle.uas_profile.specs.declared.TheConstants.{TAGS}
-use Rattle.uas_profile.specs.Tags.{client_of}
-use Rattle.uas_profile.proofs.TagLaws.{client-of_some}
+use Rattle.std.proofs.Common.{◌≡◌, ℕ, ◌+◌, ◌-◌, ◌*◌, ◌%◌, ◌<◌, ◌≤◌, Bool, true, false, List, Option, Some, None, Result, Ok, Err, IfOk, IfErr, get_or, refl, sym, ap, subst, ◌∙◌, arith}
+use Rattle.std.proofs.Common.{mul_comm, ◌≢◌}
+use Rattle.uas_profile.specs.declared.Place.{Place}
+use Rattle.uas_profile.specs.Tags.{client_of, slot_of, tag_of, task_slot}
+use Rattle.uas_profile.proofs.TagLaws.{client-before, client-of_some, slot-before, slot-of_some, tag-of_its_place, tags-within}
 use Rattle.shared_machine.specs.declared.Step.{Step}
 use Rattle.tag_desk.specs.declared.Slip.{Slip}
+use Rattle.tag_desk.specs.declared.Slip.TheVariants.{Ask, AskTask, Answer, Refused, Unserved}
 use Rattle.tag_desk.specs.Slips.{IsAsk}
 use Rattle.tag_desk.specs.Seats.{MadeDesk, Server, HeldClaim, ClaimsAt, IsAway, IsServed, IsTagOf}
 use Rattle.uas_work.specs.declared.Booking.{Booking}
 use Rattle.uas_work.specs.Booked.{BookedState, booked_step}
-use Rattle.uas_work.specs.Held.{Pump, AreHeldBy, IsTaggedAsBus, ServesClient}
-use Rattle.uas_work.specs.Pumps.{Given, GaveUpIn, GaveUpWith, TookInOrLeft, asked, brought, claiming, emptied, submitted}
+use Rattle.uas_work.specs.Held.{Pump, AreHeldBy, ServesClient}
+use Rattle.uas_work.specs.Pumps.{Given, GaveUpIn, GaveUpWith, Submits, TookInOrLeft, asked, brought, claiming, emptied, submitted}
 use Rattle.uas_work.proofs.Holding.{held-given}
 
 -- THE TAGS OF A CLIENT
 
-pub client_at : (client index tag : ℕ) → index < TAGS → tag ≡ TAGS * client + index + 1 → client_of TAGS tag ≡ client
-client_at client index tag within is = let first : (tag - 1) / TAGS ≡ client = omega arith in sym (client-of_some TAGS tag (omega arith)) ∙ first
-
-pub served_at : (desk : MadeDesk) (seat : Server) (client index tag : ℕ) → IsTaggedAsBus desk → ServesClient desk seat client → index < TAGS
-    → tag ≡ TAGS * client + index + 1 → IsServed desk seat tag
-served_at desk seat client index tag tags serves within is =
-    let below : client < desk.clients = serves.0 in
-    let most : tag ≤ TAGS * desk.clients = omega arith in (
-      omega arith,
-      subst (λ n. tag ≤ n * desk.clients) (sym tags) most,
-      ap (λ n. client_of n tag % desk.pumps) tags ∙ ap (λ c. c % desk.pumps) (client_at client index tag within is) ∙ serves.2,
+-- a tag between the client's first and its last is the client's, and it is none for task management
+pub command_own : (tags client tag : ℕ) → tags * client < tag → tag < tags * client + tags → IsTagOf tags client tag × (slot_of tags tag ≢ task_slot tags)
+command_own tags client tag above below =
+    let slot : ℕ = tag - 1 - tags * client in
+    let turned : tags * client ≡ client * tags = mul_comm tags client in
+    let short : slot < tags = omega arith in
+    let is : tag - 1 ≡ client * tags + slot = omega arith in
+    let place : slot_of tags tag ≡ slot = sym (slot-of_some tags tag (omega arith)) ∙ slot-before tags client (tag - 1) slot is short in (
+      (omega arith, sym (client-of_some tags tag (omega arith)) ∙ client-before tags client (tag - 1) slot is short),
+      λ last. omega (arith, place, last),
     )
+
+-- so of the client and the number of a seat, where they are the range's
+pub issued_own : (per client tags owner tag : ℕ) → tags ≡ per → owner ≡ client → per * client < tag → tag < per * client + per
+    → IsTagOf tags owner tag × (slot_of tags tag ≢ task_slot tags)
+issued_own per client tags owner tag number same above below =
+    subst (λ (p : ℕ × ℕ). IsTagOf p.0 p.1 tag × (slot_of p.0 tag ≢ task_slot p.0)) (λ i. (sym number i, sym same i)) (command_own per client tag above below)
+
+pub client_at : (tags client slot tag : ℕ) → slot < tags → tag ≡ tag_of tags (record { client = client; slot = slot }) → client_of tags tag ≡ client
+client_at tags client slot tag within is = ap (client_of tags) is ∙ (tag-of_its_place tags (record { client = client; slot = slot }) within).0
+
+pub served_at : (desk : MadeDesk) (seat : Server) (client slot tag : ℕ) → ServesClient desk seat client → slot < desk.tags
+    → tag ≡ tag_of desk.tags (record { client = client; slot = slot }) → IsServed desk seat tag
+served_at desk seat client slot tag serves within is =
+    let place : Place = record { client = client; slot = slot } in
+    let all = tags-within desk.tags desk.clients place serves.0 within in (
+      omega (arith, all.0),
+      subst (λ n. n ≤ desk.tags * desk.clients) (sym is) all.1,
+      ap (λ c. c % desk.pumps) (client_at desk.tags client slot tag within is) ∙ serves.2,
+    )
+
+-- a tag of a desk is a number of 16 bits
+pub tag_small : (tags clients client slot : ℕ) → client < clients → slot < tags → tags * clients ≤ 248 → client * tags + slot + 1 < 65536
+tag_small tags clients client slot below within few =
+    let all = tags-within tags clients (record { client = client; slot = slot }) below within in
+    omega (arith, all.1)
 
 -- THE CLAIM
 
+pub asks_submits : (tags tag ticket : ℕ) (slip : Slip) → IsAsk tags tag ticket slip → Submits ticket slip
+asks_submits tags tag ticket (Ask n command) asks = asks.0
+asks_submits tags tag ticket (AskTask n task) asks = asks.0
+asks_submits tags tag ticket (Answer reply) asks = asks
+asks_submits tags tag ticket (Refused n fault buffer) asks = asks
+asks_submits tags tag ticket (Unserved n buffer) asks = asks
+
 pub given_at : (desk : MadeDesk) (ticket tag : ℕ) (full empty : HeldClaim) (slip : Slip) (seat new : Server) (held : List (Option HeldClaim))
-    → IsTaggedAsBus desk → IsServed desk seat tag → get_or held (tag - 1) None ≡ None → full.table ≡ desk.table → ClaimsAt desk.tags seat new tag ticket full → IsAway new tag
+    → IsServed desk seat tag → get_or held (tag - 1) None ≡ None → full.table ≡ desk.table → ClaimsAt desk.tags seat new tag ticket full → IsAway new tag
     → full.slip ≡ Some slip → empty ≡ record full { slip = None }
-    → Given desk (client_of TAGS tag) ticket empty slip (record { seat = seat; held = held }) new
-given_at desk ticket tag full empty slip seat new held tags served free table claims away has is =
+    → Given desk (client_of desk.tags tag) ticket empty slip (record { seat = seat; held = held }) new
+given_at desk ticket tag full empty slip seat new held served free table claims away has is =
     let named : empty.tag ≡ tag = ap (λ (k : HeldClaim). k.tag) is ∙ claims.3 in
     let same : claims.0 ≡ slip = let e : Some claims.0 ≡ Some slip = sym claims.2 ∙ has in cc in
     record {
@@ -42,9 +75,9 @@ given_at desk ticket tag full empty slip seat new held tags served free table cl
           is ∙ (λ i. record { table = table i; tag = claims.3 i; ticket = claims.4 i; slip = None })
           ∙ ap (λ t. emptied desk t ticket) (sym named);
       asks = record {
-        own = subst (λ t. IsTagOf TAGS (client_of TAGS tag) t) (sym named) (served.0, refl);
+        own = subst (λ t. IsTagOf desk.tags (client_of desk.tags tag) t) (sym named) (served.0, refl);
         free = subst (λ t. get_or held (t - 1) None ≡ None) (sym named) free;
-        ask = subst (λ t. IsAsk TAGS t ticket slip) (sym named) (subst (λ (p : ℕ × Slip). IsAsk p.0 tag ticket p.1) (λ i. (tags i, same i)) claims.1);
+        ask = subst (λ t. IsAsk desk.tags t ticket slip) (sym named) (subst (λ (x : Slip). IsAsk desk.tags tag ticket x) same claims.1);
       };
       served = subst (IsServed desk seat) (sym named) served;
       away = subst (IsAway new) (sym named) away;

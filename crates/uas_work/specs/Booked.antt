@@ -1,7 +1,7 @@
 -- A bus with its log, and what a booked step does.
 use Rattle.std.specs.Prelude.{◌≡◌, ℕ, ◌+◌, ◌<◌, ◌≤◌, ◌^◌, ◌==◌, false, List, length, take, map, cond, if◌then◌else◌, slice_index, slice_set, sum_by}
 use Rattle.block_unit.specs.BlockMaps.{BlockMaps}
-use Rattle.uas_profile.specs.declared.TheConstants.{USUAL_CLIENTS}
+use Rattle.uas_profile.specs.declared.TheConstants.{MAX_CLIENTS}
 use Rattle.shared_machine.specs.declared.Step.{Step}
 use Rattle.shared_machine.specs.declared.Step.TheVariants.{Submit, Task, CommandPipe, Data, Status, Engine, Event, Retire, Take}
 use Rattle.shared_machine.specs.declared.Outcome.{Outcome}
@@ -9,7 +9,6 @@ use Rattle.shared_machine.specs.Shared.{Shared, due, opening, shared_step}
 use Rattle.uas_log.specs.declared.FirstUnit.{FirstUnit}
 use Rattle.uas_log.specs.declared.Log.{Log}
 use Rattle.uas_log.specs.Booking.{IsReplay, empty_log, log_replay, with_entry}
-use Rattle.uas_profile.specs.declared.TheConstants.{TAGS}
 
 -- the bus as the shared machine, its log, and how many steps the log may hold
 pub record BookedState : Type 0 where
@@ -17,9 +16,9 @@ pub record BookedState : Type 0 where
   pub log : Log
   pub limit : ℕ
 
--- The bus is what its log's replay comes to, and what the log tells beside its steps is that replay's. Each client has 16 tags.
+-- The bus is what its log's replay comes to, and what the log tells beside its steps is that replay's. Both have the same number of tags.
 pub record IsBooked (booked : BookedState) : Type 0 where
-  pub tags : booked.log.tags ≡ TAGS
+  pub tags : booked.bus.tags ≡ booked.log.tags
   pub bus : (log_replay booked.log).0 ≡ booked.bus
   pub log : IsReplay booked.log
   pub within : length booked.log.steps ≤ booked.limit
@@ -36,9 +35,9 @@ pub record IsNew (unit : BlockMaps) : Type 0 where
 abbrev pub first_unit : BlockMaps → FirstUnit
 first_unit unit = record { blocks = unit.blocks; bad = unit.bad }
 
--- a bus of new units that took no step, and its log
-abbrev pub new_booked : List BlockMaps → ℕ → BookedState
-new_booked units limit = record { bus = opening TAGS units; log = empty_log TAGS (map first_unit units); limit = limit }
+-- a bus of new units that took no step, with so many tags of each client, and its log
+abbrev pub new_booked : ℕ → List BlockMaps → ℕ → BookedState
+new_booked tags units limit = record { bus = opening tags units; log = empty_log tags (map first_unit units); limit = limit }
 
 -- A STEP
 
@@ -53,8 +52,9 @@ booked_step old step = (
   (shared_step old.bus step).1,
 )
 
--- a bus with more steps: its logical units and its limit are the same, and its steps begin with those that it had
+-- a bus with more steps: its number of tags, its logical units and its limit are the same, and its steps begin with those that it had
 pub record IsLater (first now : BookedState) : Type 0 where
+  pub tags : now.log.tags ≡ first.log.tags
   pub units : now.log.units ≡ first.log.units
   pub limit : now.limit ≡ first.limit
   pub steps : take (length first.log.steps) now.log.steps ≡ first.log.steps
@@ -79,7 +79,7 @@ turns_in client steps = sum_by (asked_by client) steps
 
 -- so many submissions of each client are counted
 abbrev pub IsCounted : List ℕ → List Step → Type 0
-IsCounted turns steps = (length turns ≡ USUAL_CLIENTS) × ((client : ℕ) → client < USUAL_CLIENTS → slice_index turns client ≡ turns_in client steps)
+IsCounted turns steps = (length turns ≡ MAX_CLIENTS) × ((client : ℕ) → client < MAX_CLIENTS → slice_index turns client ≡ turns_in client steps)
 
 -- one more of a client
 abbrev pub with_turn_of : List ℕ → ℕ → List ℕ

@@ -1,6 +1,6 @@
 -- What the workers take who have no client: the controller, and the dispatcher of events and retirements. A gate says which steps are
 -- allowed: says step true where it allowed the step, says step false where it didn't.
-use Rattle.std.specs.Prelude.{◌≡◌, ℕ, ◌*◌, ◌<◌, ◌≤◌, Bool, true, false, length}
+use Rattle.std.specs.Prelude.{◌≡◌, ℕ, ◌<◌, ◌≤◌, Bool, true, false}
 use Rattle.uas_profile.specs.declared.Pipe.{Pipe}
 use Rattle.uas_profile.specs.declared.Pipe.TheVariants.{Command, Status as StatusPipe, DataIn, DataOut}
 use Rattle.shared_machine.specs.declared.Step.{Step}

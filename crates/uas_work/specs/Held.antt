@@ -3,7 +3,7 @@ use Rattle.std.specs.Prelude.{◌≡◌, ℕ, suc, ◌+◌, ◌-◌, ◌*◌, �
 use Rattle.std.specs.Prelude.{slice_index_or, slice_set}
 use Rattle.scsi_cmd.specs.declared.Reply.{Reply}
 use Rattle.scsi_cmd.specs.Replies.{reply_tag, reply_ticket}
-use Rattle.uas_profile.specs.declared.TheConstants.{USUAL_CLIENTS, TAGS}
+use Rattle.uas_profile.specs.declared.TheConstants.{MAX_CLIENTS}
 use Rattle.uas_profile.specs.Tags.{client_of}
 use Rattle.tag_desk.specs.declared.Slip.TheVariants.{Answer, Unserved}
 use Rattle.tag_desk.specs.declared.rule.WorkView.TheVariants.{Finished}
@@ -25,19 +25,14 @@ abbrev pub IsHeldAt : MadeDesk → Server → ℕ → Option HeldClaim → Type 
 IsHeldAt desk seat k None = Unit {0}
 IsHeldAt desk seat k (Some claim) = (claim.table ≡ desk.table) × (claim.tag ≡ k + 1) × IsServed desk seat claim.tag × IsAway seat claim.tag
 
--- a client of the desk has as many tags as one of the bus
-abbrev pub IsTaggedAsBus : MadeDesk → Type 0
-IsTaggedAsBus desk = desk.tags ≡ TAGS
-
 -- all claims that are held are of the seat
 pub record AreHeldBy (desk : MadeDesk) (seat : Server) (held : List (Option HeldClaim)) : Type 0 where
-  pub tags : IsTaggedAsBus desk
   pub count : length held ≡ desk.tags * desk.clients
   pub each : (k : ℕ) → k < desk.tags * desk.clients → IsHeldAt desk seat k (slice_index_or held k None)
 
 -- client c is served by pump c mod the number of pumps
 abbrev pub ServesClient : MadeDesk → Server → ℕ → Type 0
-ServesClient desk seat client = (client < desk.clients) × (client < USUAL_CLIENTS) × (client % desk.pumps ≡ seat.pump)
+ServesClient desk seat client = (client < desk.clients) × (client < MAX_CLIENTS) × (client % desk.pumps ≡ seat.pump)
 
 -- LINES THAT ARE HOME
 

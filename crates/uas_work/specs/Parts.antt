@@ -1,9 +1,9 @@
 -- What each worker has of its own at the desk and at the board, and what it gives back.
 use Rattle.std.specs.Prelude.{◌≡◌, ℕ, ◌*◌, ◌<◌, ◌≤◌, List, length, slice_index_or, vec_len, vec_capacity}
-use Rattle.uas_profile.specs.declared.TheConstants.{USUAL_CLIENTS}
+use Rattle.uas_profile.specs.declared.TheConstants.{MAX_CLIENTS}
 use Rattle.door_board.specs.Counts.{MadeBoard, IsSeatOf}
 use Rattle.tag_desk.specs.Seats.{MadeDesk, Customer, Server, IsClientOf, IsPumpOf}
-use Rattle.uas_work.specs.Held.{AreAccounted, AreAllHome, AreHeldBy, IsTaggedAsBus}
+use Rattle.uas_work.specs.Held.{AreAccounted, AreAllHome, AreHeldBy}
 use Rattle.uas_work.specs.declared.parts.ClientPart.{ClientPart}
 use Rattle.uas_work.specs.declared.parts.PumpPart.{PumpPart}
 use Rattle.uas_work.specs.declared.workers.Lists.{Lists}
@@ -14,20 +14,21 @@ use Rattle.uas_work.specs.declared.workers.StartedPump.TheVariants as pumps
 
 -- a desk for so many clients and pumps
 pub record IsDeskFor (desk : MadeDesk) (clients pumps : ℕ) : Type 0 where
-  pub tags : IsTaggedAsBus desk
   pub for_clients : desk.clients ≡ clients
-  pub most : clients ≤ USUAL_CLIENTS
+  pub most : clients ≤ MAX_CLIENTS
   pub for_pumps : desk.pumps ≡ pumps
   pub some : 0 < pumps
   pub few : pumps ≤ 4
 
--- A client's worker: its seat is the client's at this desk, its tags are the client's, and no ticket that it posted is left to be given.
+-- A client's worker: its seat is the client's at this desk, its tags are the client's, as many as the seat has, and no ticket that it posted
+-- is left to be given.
 pub record IsClientPart (desk : MadeDesk) (board : MadeBoard) (part : ClientPart) : Type 0 where
   pub own : IsClientOf desk part.seat
   pub number : part.seat.client ≡ part.client
-  pub below : part.client < USUAL_CLIENTS
-  pub tags : part.tags.client ≡ part.client
-  pub later : part.seat.least_ticket ≤ part.tags.next
+  pub below : part.client < MAX_CLIENTS
+  pub tags : part.tags.held.client ≡ part.client
+  pub as_many : part.tags.tags ≡ part.seat.tags
+  pub later : part.seat.least_ticket ≤ part.tags.held.next
   pub bell : IsSeatOf board part.bell
 
 -- A pump's worker: its seat is the pump's at this desk, the claims that it holds are the seat's, and no other line of it is out.

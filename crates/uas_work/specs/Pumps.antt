@@ -4,7 +4,6 @@ use Rattle.std.specs.Option.{option_map_or}
 use Rattle.shared_machine.specs.declared.Refusal.{Refusal}
 use Rattle.shared_machine.specs.declared.Step.{Step}
 use Rattle.shared_machine.specs.declared.Step.TheVariants.{Submit, Task, CommandPipe, Data, Status, Engine, Event, Retire, Take}
-use Rattle.uas_profile.specs.declared.TheConstants.{TAGS}
 use Rattle.tag_desk.specs.declared.Slip.{Slip}
 use Rattle.tag_desk.specs.declared.Slip.TheVariants.{Ask, AskTask, Answer, Refused, Unserved}
 use Rattle.tag_desk.specs.Slips.{IsAsk}
@@ -21,6 +20,14 @@ asked client tag (AskTask ticket task) = Task client ticket task
 asked client tag (Answer reply) = Take client
 asked client tag (Refused ticket fault buffer) = Take client
 asked client tag (Unserved ticket buffer) = Take client
+
+-- a client posts such a slip, with this ticket
+abbrev pub Submits : ℕ → Slip → Type 0
+Submits ticket (Ask n command) = n ≡ ticket
+Submits ticket (AskTask n task) = n ≡ ticket
+Submits ticket (Answer reply) = ⊥
+Submits ticket (Refused n fault buffer) = ⊥
+Submits ticket (Unserved n buffer) = ⊥
 
 -- the buffer that a submission brought
 abbrev pub brought : Step → List ℕ
@@ -57,16 +64,16 @@ pub record GaveUpWith (claim : HeldClaim) (buffer : List ℕ) (old new : Pump) :
   pub ends : AreUnserved (finishing old.seat claim (Unserved claim.ticket buffer)) old.held new.seat
   pub none : AreNone new.held
 
--- a slip with this ticket can be claimed on a tag: the tag is the client's, and no claim of it is held
-pub record Asks (client ticket tag : ℕ) (slip : Slip) (old : Pump) : Type 0 where
-  pub own : IsTagOf TAGS client tag
+-- a slip with this ticket can be claimed on a tag: of so many tags of each client it is this client's, and no claim of it is held
+pub record Asks (tags client ticket tag : ℕ) (slip : Slip) (old : Pump) : Type 0 where
+  pub own : IsTagOf tags client tag
   pub free : slice_index_or old.held (tag - 1) None ≡ None
-  pub ask : IsAsk TAGS tag ticket slip
+  pub ask : IsAsk tags tag ticket slip
 
 -- the claim of a client's ticket was given, and its slip taken out
 pub record Given (desk : MadeDesk) (client ticket : ℕ) (claim : HeldClaim) (slip : Slip) (old : Pump) (new : Server) : Type 0 where
   pub is : claim ≡ emptied desk claim.tag ticket
-  pub asks : Asks client ticket claim.tag slip old
+  pub asks : Asks desk.tags client ticket claim.tag slip old
   pub served : IsServed desk old.seat claim.tag
   pub away : IsAway new claim.tag
   pub seat : new ≡ (claiming claim.tag old).seat
@@ -75,7 +82,7 @@ pub record Given (desk : MadeDesk) (client ticket : ℕ) (claim : HeldClaim) (sl
 pub record TookIn (desk : MadeDesk) (client ticket : ℕ) (before after : BookedState) (old new : Pump) : Type 0 where
   pub tag : ℕ
   pub slip : Slip
-  pub asks : Asks client ticket tag slip old
+  pub asks : Asks desk.tags client ticket tag slip old
   pub booked : after ≡ (booked_step before (asked client tag slip)).0
   pub pump : new ≡ submitted (booked_step before (asked client tag slip)).1.refused (emptied desk tag ticket) (claiming tag old)
 
@@ -88,20 +95,20 @@ TookInOrLeft desk client ticket before after old new false = (after ≡ before) 
 pub record GaveUpIn (desk : MadeDesk) (client ticket : ℕ) (old new : Pump) : Type 0 where
   pub tag : ℕ
   pub slip : Slip
-  pub asks : Asks client ticket tag slip old
+  pub asks : Asks desk.tags client ticket tag slip old
   pub ends : GaveUpWith (emptied desk tag ticket) (brought (asked client tag slip)) (claiming tag old) new
 
 -- WHAT A PUMP BOOKS OF A CLIENT UNDER A GATE
 
--- a submission that the client posted with its next ticket is booked
-pub record Entered (client : ℕ) (before after : BookedState) : Type 0 where
+-- a submission that the client, one of so many tags, posted with its next ticket is booked
+pub record Entered (tags client : ℕ) (before after : BookedState) : Type 0 where
   pub tag : ℕ
   pub slip : Slip
-  pub ask : IsAsk TAGS tag (turns_in client before.log.steps) slip
+  pub ask : IsAsk tags tag (turns_in client before.log.steps) slip
   pub booked : after ≡ (booked_step before (asked client tag slip)).0
 
-abbrev pub EnteredOrLeft : ℕ → BookedState → BookedState → Type 0
-EnteredOrLeft client before after = (after ≡ before) ⊎ Entered client before after
+abbrev pub EnteredOrLeft : ℕ → ℕ → BookedState → BookedState → Type 0
+EnteredOrLeft tags client before after = (after ≡ before) ⊎ Entered tags client before after
 
 -- the client's Take is booked, which was due and allowed; or nothing is, as it wasn't due or wasn't allowed
 abbrev pub TakenOrLeft : (Step → Bool → Type 0) → ℕ → BookedState → BookedState → Bool → Type 0
@@ -110,8 +117,8 @@ TakenOrLeft says client before after true =
 TakenOrLeft says client before after false = IsLeft says before.bus (Take client) × (after ≡ before)
 
 -- what the client posted is booked, or nothing, and then its Take, where that is due and allowed
-pub record Served (says : Step → Bool → Type 0) (client : ℕ) (before after : BookedState) : Type 0 where
+pub record Served (says : Step → Bool → Type 0) (tags client : ℕ) (before after : BookedState) : Type 0 where
   pub between : BookedState
-  pub entered : EnteredOrLeft client before between
+  pub entered : EnteredOrLeft tags client before between
   pub took : Bool
   pub taken : TakenOrLeft says client between after took

@@ -1,9 +1,9 @@
 //! The claims that a pump holds: of slips that it booked and whose end it owes to the client.
 ghost use Rattle.std.specs.Prelude.{◌≡◌, ℕ, ◌-◌, ◌*◌, ◌<◌, ◌≤◌, ◌↔◌, true, false, IsTrue, IfOk, IfSome, IfNone, None, Some, length, slice_index_or, slice_set};
 ghost use Rattle.std.specs.Option.{option_map_or};
-ghost use Rattle.uas_profile.specs.declared.TheConstants.{USUAL_CLIENTS, TAGS};
+ghost use Rattle.uas_profile.specs.declared.TheConstants.{STREAMS, TAGS, USUAL_CLIENTS};
 ghost use Rattle.tag_desk.specs.Seats.{MadeDesk, Server, IsPumpOf};
-ghost use Rattle.uas_work.specs.Held.{AreHeldBy, AreNone, AreUnserved, IsTaggedAsBus, answered, is_claim_of, unserving};
+ghost use Rattle.uas_work.specs.Held.{AreHeldBy, AreNone, AreUnserved, answered, is_claim_of, unserving};
 
 use crate::Held;
 use scsi_cmd::{Buffer, Reply};
@@ -12,15 +12,24 @@ use tag_desk::{Claim, Desk, Slip, WorkSeat};
 use uas_profile::TAGS;
 
 impl Held {
-    /// No claims, of a desk for so many clients; all room that it ever needs is taken here.
+    /// No claims, of a desk for so many clients of 16 tags each (`TAGS`); all room that it ever needs is taken here.
     pub fn new(alloc: Global, clients: usize) -> Result<Held, AllocError>
         requires { clients ≤ USUAL_CLIENTS }
         ensures none { IfOk result AreNone }
-        ensures held { IfOk result (λ held. (desk : MadeDesk) (seat : Server) → IsTaggedAsBus desk → desk.clients ≡ clients → AreHeldBy desk seat held) }
+        ensures held { IfOk result (λ held. (desk : MadeDesk) (seat : Server) → desk.tags ≡ TAGS → desk.clients ≡ clients → AreHeldBy desk seat held) }
     {
-        let tags = TAGS * clients;
-        let mut claims = Vec::with_capacity(alloc, tags)?;
-        for _ in 0..tags {
+        Held::with_tags(alloc, clients, TAGS)
+    }
+
+    /// The same of another number of tags of each client.
+    pub fn with_tags(alloc: Global, clients: usize, tags: usize) -> Result<Held, AllocError>
+        requires { tags * clients ≤ STREAMS }
+        ensures none { IfOk result AreNone }
+        ensures held { IfOk result (λ held. (desk : MadeDesk) (seat : Server) → desk.tags ≡ tags → desk.clients ≡ clients → AreHeldBy desk seat held) }
+    {
+        let all = tags * clients;
+        let mut claims = Vec::with_capacity(alloc, all)?;
+        for _ in 0..all {
             claims.push(None)?;
         }
         Ok(Held { claims })

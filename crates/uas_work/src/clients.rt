@@ -1,7 +1,6 @@
 //! The part of a client: it posts its commands on the desk and looks for what they came to.
 ghost use Rattle.std.specs.Prelude.{◌≡◌, ◌+◌, ◌≤◌, ◌<◌, ◌^◌, IfSome, vec_len, vec_capacity};
 ghost use Rattle.tag_desk.specs.Seats.{IsClientOf, IsTagOf};
-ghost use Rattle.uas_profile.specs.declared.TheConstants.{TAGS};
 ghost use Rattle.uas_work.specs.Parts.{HasRoomForRounds, IsClientPart, IsSeatOfClient};
 
 use crate::desk_and_board::DeskAndBoard;
@@ -15,7 +14,7 @@ use door_board::place;
 use scsi_cmd::Command;
 use std::sync::Wait;
 use tag_desk::Slip;
-use uas_profile::TAGS;
+use uas_profile::slot_of;
 
 impl ClientPart {
     /// Takes so many rounds, or as many as the workers are let take: what is left of the part.
@@ -105,20 +104,23 @@ impl ClientPart {
         ensures part { IsClientPart shared.now.desk shared.now.board self.new }
         ensures same { self.new.client ≡ self.old.client }
         ensures room { self.new.replies ≡ self.old.replies }
-        ensures tag { IfSome result (IsTagOf TAGS self.new.client) }
+        ensures tag { IfSome result (IsTagOf self.new.seat.tags self.new.seat.client) }
     {
-        let (tag, ticket) = self.tags.issue().ok()?;
+        let Ok((tag, ticket)) = self.tags.issue() else {
+            return None;
+        };
         if !self.seat.is_free(tag) {
             return None;
         }
         shared
             .desk
             .post(&mut self.seat, tag, Slip::Ask { ticket, command });
+        let tags = self.tags.tags();
         let client = usize::from(self.client);
-        let index = usize::from(tag) - TAGS * client;
+        let index = slot_of(tags, tag) + 1;
         shared
             .board
-            .ring(&mut self.bell, place(TAGS, client, index));
+            .ring(&mut self.bell, place(tags, client, index));
         Some(tag)
     }
 
@@ -132,7 +134,7 @@ impl ClientPart {
         tag: u16,
     ) -> Option<Slip>
         requires part { IsClientPart shared.now.desk shared.now.board self.old }
-        requires tag { IsTagOf TAGS self.old.client tag }
+        requires tag { IsTagOf self.old.seat.tags self.old.seat.client tag }
         ensures part { IsClientPart shared.now.desk shared.now.board self.new }
         ensures same { self.new.client ≡ self.old.client }
         ensures room { self.new.replies ≡ self.old.replies }
@@ -159,7 +161,9 @@ impl ClientPart {
         ensures client { self.new.client ≡ self.old.client }
         ensures one { vec_len self.new.replies ≤ vec_len self.old.replies + 1 }
         ensures capacity { vec_capacity self.new.replies ≡ vec_capacity self.old.replies }
-        ensures tags { (self.new.tags.client ≡ self.old.tags.client) × (self.new.tags.next ≡ self.old.tags.next) }
+        ensures tags { self.new.tags.tags ≡ self.old.tags.tags }
+        ensures owner { self.new.tags.held.client ≡ self.old.tags.held.client }
+        ensures next { self.new.tags.held.next ≡ self.old.tags.held.next }
     {
         if self.tags.is_issued(tag) {
             self.tags.free(tag);

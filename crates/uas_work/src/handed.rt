@@ -103,8 +103,8 @@ impl<J: Origin> Handed<J> {
         requires client { ServesClient shared.now.desk pump.old.seat client }
         ensures part { IsPumpPart shared.now.desk shared.now.board pump.new }
         ensures same { pump.new.pump ≡ pump.old.pump }
-        ensures served { MatchResult result (λ served. Served (G.says gate.now) client self.old.booked self.new.booked)
-            (λ booking. EnteredOrLeft client self.old.booked self.new.booked) }
+        ensures served { MatchResult result (λ served. Served (G.says gate.now) shared.now.desk.tags client self.old.booked self.new.booked)
+            (λ booking. EnteredOrLeft shared.now.desk.tags client self.old.booked self.new.booked) }
     {
         pump.served(alloc, shared, gate, &mut self.booked, client)
     }

@@ -51,7 +51,7 @@ pub use sweeping::sweep;
 use tag_desk::{Claim, Left};
 use thiserror::Error;
 use uas_log::{Log, Replies};
-use uas_profile::USUAL_CLIENTS;
+use uas_profile::MAX_CLIENTS;
 pub use workers::spawn_all;
 
 /// Why a step was not taken.
@@ -71,7 +71,7 @@ pub struct Booked {
     /// How many steps the log may hold.
     limit: usize,
     /// Of each client how many of its submissions the log has.
-    turns: [u64; USUAL_CLIENTS],
+    turns: [u64; MAX_CLIENTS],
 }
 
 /// The claims that a pump holds, by tag: of slips that are booked and whose end the pump owes to the client.

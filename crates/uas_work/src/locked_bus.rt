@@ -38,7 +38,7 @@ impl<J: Origin> LockedBus<J> {
             ended: AtomicU64::new(Ended::Done.code()),
             clients_left: AtomicU64::new(clients as u64),
             pumps_left: AtomicU64::new(pumps as u64),
-            parkers: Parkers::new(),
+            parkers: Parkers::new(clients),
         }
     }
 

@@ -1,6 +1,7 @@
 //! A bus and its log as they begin.
-ghost use Rattle.std.specs.Prelude.{◌≡◌, ℕ, ◌<◌, ◌≤◌, ◌^◌, All, IfOk, length, map, vec_len};
-ghost use Rattle.uas_profile.specs.declared.TheConstants.{USUAL_CLIENTS, TAGS};
+ghost use Rattle.std.specs.Prelude.{◌≡◌, ℕ, ◌*◌, ◌<◌, ◌≤◌, ◌^◌, All, IfOk, length, map, vec_len};
+ghost use Rattle.uas_profile.specs.declared.TheConstants.{MAX_CLIENTS, STREAMS, TAGS, USUAL_CLIENTS};
+ghost use Rattle.uas_profile.specs.Tags.{AreTags};
 ghost use Rattle.uas_log.specs.Booking.{empty_log, first_maps};
 ghost use Rattle.uas_work.specs.Booked.{IsNew, first_unit, new_booked};
 
@@ -11,36 +12,55 @@ use std::alloc::{AllocError, Global};
 use uas_log::{
     BlockBytes, BlockNumbers, FirstUnit, FirstUnits, Log, RefusalNumbers, Replies, Steps,
 };
-use uas_profile::{TAGS, USUAL_CLIENTS};
+use uas_profile::{MAX_CLIENTS, TAGS};
 
 impl Booked {
-    /// The bus of these units, the unit of client c at place c, whose log may hold `limit` steps. Asks for 1 to 15 units that
-    /// are as new: the blocks of each are its medium's, and no attention is established. `AllocError` where there is no memory.
+    /// The bus of these units, the unit of client c at place c, with 16 tags of each client (`TAGS`), whose log may hold `limit` steps.
+    /// Asks for 1 to 15 units that are as new: the blocks of each are its medium's, and no attention is established. `AllocError` where
+    /// there is no memory.
     pub fn new(alloc: Global, units: Vec<Unit>, limit: usize) -> Result<Booked, AllocError>
         requires some { 1 ≤ vec_len units }
         requires most { vec_len units ≤ USUAL_CLIENTS }
         requires fresh { All IsNew units.items }
         requires limit { limit < 2 ^ 32 }
-        ensures { IfOk result (λ booked. booked ≡ new_booked units.items limit) }
+        ensures { IfOk result (λ booked. booked ≡ new_booked TAGS units.items limit) }
+    {
+        Booked::with_tags(alloc, units, limit, TAGS)
+    }
+
+    /// The same of 1 to 31 units with another number of tags of each client, 2 to 16; of all clients there are 248 (`STREAMS`) at most.
+    pub fn with_tags(
+        alloc: Global,
+        units: Vec<Unit>,
+        limit: usize,
+        tags: usize,
+    ) -> Result<Booked, AllocError>
+        requires number { AreTags tags }
+        requires some { 1 ≤ vec_len units }
+        requires most { vec_len units ≤ MAX_CLIENTS }
+        requires streams { vec_len units * tags ≤ STREAMS }
+        requires fresh { All IsNew units.items }
+        requires limit { limit < 2 ^ 32 }
+        ensures { IfOk result (λ booked. booked ≡ new_booked tags units.items limit) }
     {
         let firsts = first_units(alloc, units.as_slice())?;
-        let bus = Bus::new(alloc, units)?;
-        let log = new_log(alloc, firsts);
+        let bus = Bus::with_tags(alloc, units, tags)?;
+        let log = new_log(alloc, firsts, tags);
         Ok(Booked {
             bus,
             log,
             limit,
-            turns: [0; USUAL_CLIENTS],
+            turns: [0; MAX_CLIENTS],
         })
     }
 }
 
-/// The log of these first units that has no step; takes no memory.
-fn new_log(alloc: Global, units: Vec<FirstUnit>) -> Log
-    ensures { result ≡ empty_log TAGS units.items }
+/// The log of these first units and so many tags of each client that has no step; takes no memory.
+fn new_log(alloc: Global, units: Vec<FirstUnit>, tags: usize) -> Log
+    ensures { result ≡ empty_log tags units.items }
 {
     Log {
-        tags: TAGS,
+        tags,
         units: FirstUnits::from_vec(units),
         steps: Steps::from_vec(Vec::new(alloc)),
         refusals: RefusalNumbers::from_vec(Vec::new(alloc)),

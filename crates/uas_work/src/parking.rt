@@ -3,7 +3,7 @@ use std::array;
 use std::sync::Wait;
 use std::thread::Parker;
 use std::time::Duration;
-use uas_profile::USUAL_CLIENTS;
+use uas_profile::MAX_CLIENTS;
 
 const MOST_PUMPS: usize = 4;
 
@@ -25,16 +25,20 @@ pub(crate) enum Worker {
 /// A parker for each worker.
 #[derive(Drop)]
 pub(crate) struct Parkers {
-    clients: [Parker; USUAL_CLIENTS],
+    clients: [Parker; MAX_CLIENTS],
+    /// How many clients there are: the parkers behind theirs are nobody's.
+    count: usize,
     pumps: [Parker; MOST_PUMPS],
     controllers: [Parker; MOST_CONTROLLERS],
     dispatcher: Parker,
 }
 
 impl Parkers {
-    pub(crate) fn new() -> Parkers {
+    /// Parkers for so many clients and the others.
+    pub(crate) fn new(clients: usize) -> Parkers {
         Parkers {
             clients: array::from_fn(|_| Parker::new()),
+            count: clients,
             pumps: array::from_fn(|_| Parker::new()),
             controllers: array::from_fn(|_| Parker::new()),
             dispatcher: Parker::new(),
@@ -70,14 +74,14 @@ impl Parkers {
     }
 
     pub(crate) fn unpark_clients(&self) {
-        for parker in &self.clients {
+        for parker in self.clients.iter().take(self.count) {
             parker.unpark();
         }
     }
 
     /// Unparks the clients that have a reply.
-    pub(crate) fn unpark_replied(&self, replied: &[bool; USUAL_CLIENTS]) {
-        for (parker, has_reply) in self.clients.iter().zip(replied) {
+    pub(crate) fn unpark_replied(&self, replied: &[bool; MAX_CLIENTS]) {
+        for (parker, has_reply) in self.clients.iter().zip(replied).take(self.count) {
             if *has_reply {
                 parker.unpark();
             }

@@ -3,8 +3,7 @@ use crate::Held;
 use door_board::Seat;
 use scsi_cmd::Reply;
 use tag_desk::{ClientSeat, WorkSeat};
-use tag_range::TagRange;
-use uas_profile::TAGS;
+use tag_range::ClientRange;
 
 /// What a client's worker has: its seats, the tags that it has out, and what it took.
 #[derive(Drop)]
@@ -12,7 +11,7 @@ pub(crate) struct ClientPart {
     pub(crate) client: u8,
     pub(crate) seat: ClientSeat,
     pub(crate) bell: Seat,
-    pub(crate) tags: TagRange<TAGS>,
+    pub(crate) tags: ClientRange,
     pub(crate) replies: Vec<Reply>,
 }
 

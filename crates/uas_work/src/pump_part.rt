@@ -1,5 +1,6 @@
 //! The part of a pump: turn by turn it collects its bells and serves its clients under the lock.
-ghost use Rattle.std.specs.Prelude.{◌≡◌, IfOk, IfErr, MatchResult};
+ghost use Rattle.std.specs.Prelude.{◌≡◌, ◌≤◌, IfOk, IfErr, MatchResult};
+ghost use Rattle.door_board.specs.declared.TheConstants.{WORDS};
 ghost use Rattle.uas_work.specs.Pumps.{EnteredOrLeft, Served, TakenOrLeft};
 ghost use Rattle.shared_machine.specs.declared.Step.{Step};
 ghost use Rattle.shared_machine.specs.Shared.{due};
@@ -19,13 +20,16 @@ use door_board::WORDS;
 use std::alloc::Global;
 use std::sync::Wait;
 use tag_desk::WorkSeat;
-use uas_profile::USUAL_CLIENTS;
+use uas_profile::MAX_CLIENTS;
 
 /// The most rounds that a pump takes in one hold of the lock: what its clients post meanwhile is served with it.
 const MOST_ROUNDS: u32 = 8;
 
 /// The most steps of those who have no client in a round.
 const MOST_SWEPT: u32 = 4096;
+
+/// So many clients ring in the first half of the board's words; any further ones in the second half too.
+const FIRST_CLIENTS: usize = 16;
 
 /// What a pump did of a client.
 #[derive(Clone, Copy)]
@@ -81,7 +85,7 @@ impl PumpPart {
             if !self.is_called(shared) && !is_busy {
                 locked.park(rt, Worker::Pump(self.pump));
             }
-            let mut replied = [false; USUAL_CLIENTS];
+            let mut replied = [false; MAX_CLIENTS];
             match self.served_all(rt, locked, shared, gate, &mut replied) {
                 Ok(served) => is_busy = served,
                 Err(booking) => locked.end(Ended::from_booking(booking)),
@@ -97,7 +101,7 @@ impl PumpPart {
         ensures same { self.new.pump ≡ self.old.pump }
     {
         let mut called = false;
-        for word in 0..WORDS {
+        for word in 0..words_of(shared.clients) {
             if word % shared.pumps == self.pump {
                 called |= shared.board.collect(&mut self.bell, word) != 0;
             }
@@ -112,7 +116,7 @@ impl PumpPart {
         locked: &LockedBus<J>,
         shared: &DeskAndBoard,
         gate: &G,
-        replied: &mut [bool; USUAL_CLIENTS],
+        replied: &mut [bool; MAX_CLIENTS],
     ) -> Result<bool, Booking>
         requires part { IsPumpPart shared.now.desk shared.now.board self.old }
         ensures part { IsPumpPart shared.now.desk shared.now.board self.new }
@@ -135,7 +139,7 @@ impl PumpPart {
         handed: &mut Handed<J>,
         shared: &DeskAndBoard,
         gate: &G,
-        replied: &mut [bool; USUAL_CLIENTS],
+        replied: &mut [bool; MAX_CLIENTS],
     ) -> Result<bool, Booking>
         requires part { IsPumpPart shared.now.desk shared.now.board self.old }
         ensures part { IsPumpPart shared.now.desk shared.now.board self.new }
@@ -166,8 +170,8 @@ impl PumpPart {
         requires client { ServesClient shared.now.desk self.old.seat client }
         ensures part { IsPumpPart shared.now.desk shared.now.board self.new }
         ensures same { self.new.pump ≡ self.old.pump }
-        ensures served { MatchResult result (λ served. Served (G.says gate.now) client booked.old booked.new)
-            (λ booking. EnteredOrLeft client booked.old booked.new) }
+        ensures served { MatchResult result (λ served. Served (G.says gate.now) shared.now.desk.tags client booked.old booked.new)
+            (λ booking. EnteredOrLeft shared.now.desk.tags client booked.old booked.new) }
     {
         let has_posted = self.took_in(alloc, shared, booked, client)?;
         let has_reply = self.brought_out(alloc, shared, gate, booked, client)?;
@@ -189,7 +193,7 @@ impl PumpPart {
         requires client { ServesClient shared.now.desk self.old.seat client }
         ensures part { IsPumpPart shared.now.desk shared.now.board self.new }
         ensures same { self.new.pump ≡ self.old.pump }
-        ensures entered { IfOk result (λ posted. EnteredOrLeft client booked.old booked.new) }
+        ensures entered { IfOk result (λ posted. EnteredOrLeft shared.now.desk.tags client booked.old booked.new) }
         ensures err { IfErr result (λ booking. booked.new ≡ booked.old) }
     {
         let PumpPart { seat, held, .. } = self;
@@ -236,5 +240,16 @@ impl PumpPart {
     {
         let PumpPart { seat, held, .. } = self;
         pump_out(alloc, booked, &shared.desk, seat, held, client)
+    }
+}
+
+/// How many words of the board clients ring in.
+fn words_of(clients: usize) -> usize
+    ensures { result ≤ WORDS }
+{
+    if clients <= FIRST_CLIENTS {
+        WORDS / 2
+    } else {
+        WORDS
     }
 }

@@ -1,15 +1,13 @@
 //! The part of a pump: it books what its clients posted on the desk, and brings home what it came to.
 ghost use Rattle.std.specs.Prelude.{◌≡◌, ℕ, ◌+◌, ◌-◌, ◌*◌, ◌/◌, ◌<◌, ◌≤◌, ◌^◌, IfOk, IfErr, IfSome, IfNone, IsErrAnd, MatchResult, None, Some, false, true, length, slice_index_or};
-ghost use Rattle.uas_profile.specs.declared.TheConstants.{USUAL_CLIENTS, TAGS};
 ghost use Rattle.uas_profile.specs.Tags.{client_of};
 ghost use Rattle.shared_machine.specs.declared.Step.{Step};
 ghost use Rattle.shared_machine.specs.Bus.{HasTicket};
 ghost use Rattle.shared_machine.specs.Shared.{due};
-ghost use Rattle.tag_desk.specs.Slips.{IsAsk};
 ghost use Rattle.tag_desk.specs.Seats.{IsPumpOf, IsServed, IsAway};
 ghost use Rattle.uas_work.specs.Booked.{booked_step, turns_in};
-ghost use Rattle.uas_work.specs.Held.{AreHeldBy, IsTaggedAsBus, ServesClient, GaveUp, answered};
-ghost use Rattle.uas_work.specs.Pumps.{TookInOrLeft, GaveUpIn, GaveUpWith, Given, asked, brought, handed_back, submitted};
+ghost use Rattle.uas_work.specs.Held.{AreHeldBy, ServesClient, GaveUp, answered};
+ghost use Rattle.uas_work.specs.Pumps.{TookInOrLeft, GaveUpIn, GaveUpWith, Given, Submits, asked, brought, handed_back, submitted};
 
 use crate::{Booked, Booking, Held};
 use bus_core::{Outcome, Step};
@@ -17,7 +15,7 @@ use scsi_cmd::{Buffer, Reply};
 use shared_machine::Refusal;
 use std::alloc::Global;
 use tag_desk::{Claim, Desk, Slip, WorkSeat};
-use uas_profile::TAGS;
+use uas_profile::{Place, tag_of};
 
 /// Claims the slip that a client posted with its next ticket, and books what it asks for: whether there was one. The claim is
 /// held until its reply, or finished where the submission is refused. The client's tags are tried by rising index. Where the
@@ -121,22 +119,14 @@ fn claimed(
     ensures own { IsPumpOf desk.now seat.new }
     ensures given { IfSome result (λ given. Given desk.now client ticket given.0 given.1 (record { seat = seat.old; held = held.now }) seat.new) }
 {
-    for index in 0..TAGS {
-        let tag = tag_at(client, index);
+    let tags = desk.tags();
+    for slot in 0..tags {
+        let tag = tag_of(tags, Place { client, slot });
         if let Some(given) = claimed_at(desk, seat, held, tag, ticket) {
             return Some(given);
         }
     }
     None
-}
-
-/// The tag at an index of a client's, the first at 0.
-fn tag_at(client: usize, index: usize) -> u16
-    requires client { client < USUAL_CLIENTS }
-    requires index { index < TAGS }
-    ensures { result ≡ TAGS * client + index + 1 }
-{
-    (TAGS * client + index + 1) as u16
 }
 
 /// The claim of a ticket and its slip, where a tag of the client has it posted and no claim of it is held.
@@ -148,13 +138,12 @@ fn claimed_at(
     ticket: u64,
 ) -> Option<(Claim, Slip)>
     requires own { IsPumpOf desk.now seat.old }
-    requires tags { IsTaggedAsBus desk.now }
     requires count { length held.now ≡ desk.now.tags * desk.now.clients }
     requires served { IsServed desk.now seat.old tag }
     requires ticket { ticket < 2 ^ 60 }
     ensures none { IfNone result (seat.new ≡ seat.old) }
     ensures own { IsPumpOf desk.now seat.new }
-    ensures given { IfSome result (λ given. Given desk.now (client_of TAGS tag) ticket given.0 given.1 (record { seat = seat.old; held = held.now }) seat.new) }
+    ensures given { IfSome result (λ given. Given desk.now (client_of desk.now.tags tag) ticket given.0 given.1 (record { seat = seat.old; held = held.now }) seat.new) }
 {
     if !held.is_free(tag) {
         return None;
@@ -238,9 +227,9 @@ fn settle(
     }
 }
 
-/// The step that a client's slip on a tag asks for. Asks for a slip that a client posts there with the ticket.
+/// The step that a client's slip on a tag asks for. Asks for a slip that a client posts with the ticket.
 fn asked(client: usize, tag: u16, ticket: u64, slip: Slip) -> Step
-    requires ask { IsAsk TAGS tag ticket slip }
+    requires ask { Submits ticket slip }
     requires ticket { ticket < 2 ^ 60 }
     ensures step { result ≡ asked client tag slip }
     ensures ticket { HasTicket result }

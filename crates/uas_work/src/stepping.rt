@@ -1,7 +1,8 @@
 //! Steps of a bus that are booked.
-ghost use Rattle.std.specs.Prelude.{◌≡◌, ℕ, ◌<◌, ◌≤◌, ◌^◌, true, IfOk, IfErr, OnErr, IsErrAnd, length};
+ghost use Rattle.std.specs.Prelude.{◌≡◌, ℕ, ◌*◌, ◌<◌, ◌≤◌, ◌^◌, true, IfOk, IfErr, OnErr, IsErrAnd, length};
 ghost use Rattle.shared_machine.specs.Bus.{HasTicket};
-ghost use Rattle.uas_profile.specs.declared.TheConstants.{USUAL_CLIENTS};
+ghost use Rattle.uas_profile.specs.Tags.{AreTags};
+ghost use Rattle.uas_profile.specs.declared.TheConstants.{MAX_CLIENTS, STREAMS};
 ghost use Rattle.shared_machine.specs.Shared.{due};
 ghost use Rattle.shared_machine.specs.Rooms.{step_len};
 ghost use Rattle.uas_work.specs.Booked.{IsBooked, booked_step, turns_in};
@@ -11,7 +12,7 @@ use crate::{Booked, Booking};
 use bus_core::{Bus, Outcome, Step};
 use std::alloc::Global;
 use uas_log::{Growth, Log};
-use uas_profile::USUAL_CLIENTS;
+use uas_profile::MAX_CLIENTS;
 
 impl Booked {
     /// The bus.
@@ -21,13 +22,23 @@ impl Booked {
         &self.bus
     }
 
-    /// How many clients the bus has: 1 to 15.
+    /// How many clients the bus has: 1 to 31.
     pub(crate) fn clients(&self) -> usize
         ensures count { result ≡ length self.now.bus.parts }
         ensures some { 1 ≤ result }
-        ensures most { result ≤ USUAL_CLIENTS }
+        ensures most { result ≤ MAX_CLIENTS }
+        ensures streams { result * self.now.bus.tags ≤ STREAMS }
     {
         self.bus.clients()
+    }
+
+    /// How many tags each client has, which never changes.
+    pub fn tags(&self) -> usize
+        ensures tags { result ≡ self.now.bus.tags }
+        ensures log { result ≡ self.now.log.tags }
+        ensures number { AreTags result }
+    {
+        self.bus.tags()
     }
 
     /// The log: the bus is what its replay comes to, and its refusals and replies are that replay's.
@@ -54,7 +65,7 @@ impl Booked {
 
     /// How many submissions of a client the log has, refused ones too.
     pub fn turn(&self, client: usize) -> u64
-        requires { client < USUAL_CLIENTS }
+        requires { client < MAX_CLIENTS }
         ensures turns { result ≡ turns_in client self.now.log.steps }
         ensures small { result < 2 ^ 32 }
     {

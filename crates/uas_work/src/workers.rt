@@ -97,7 +97,8 @@ pub fn spawn_all<R: Threads + Wait + Sync, G: Gate + Sync>(
     ensures held { IfOk result (λ finished. IfSome finished.left (λ left. left.held ≡ [])) }
     ensures err { IfErr result (λ back. back.1 ≡ booked) }
 {
-    let Ok(opened) = open_desk_and_board(alloc, booked.clients(), plan.pumps, plan.rounds) else {
+    let (clients, tags) = (booked.clients(), booked.tags());
+    let Ok(opened) = open_desk_and_board(alloc, clients, tags, plan.pumps, plan.rounds) else {
         return Err((AllocError, booked));
     };
     let Ok(lists) = make_lists(alloc, opened.shared.clients, opened.shared.pumps) else {
@@ -117,6 +118,7 @@ fn finished<J: Origin + Send + Sync, R: Threads + Wait + Sync, G: Gate + Sync>(
     lists: Lists,
 ) -> Finished
     requires origin { booked ≡ J.first }
+    requires tags { opened.shared.desk.tags ≡ booked.bus.tags }
     requires clients { AreClientParts opened.shared.desk opened.shared.board plan.rounds opened.clients.items }
     requires pumps { ArePumpParts opened.shared.desk opened.shared.board opened.pumps.items }
     requires room { HasRoomFor opened.shared.clients opened.shared.pumps lists }

@@ -1,4 +1,4 @@
-use Rattle.std.proofs.Common.{◌-◌, ◌*◌, length}
+use Rattle.std.proofs.Common.{◌-◌}
 use Rattle.shared_machine.specs.declared.Step.TheVariants.{Data}
 use Rattle.uas_work.specs.Control.{AreLeftUpTo}
 use Rattle.uas_work.proofs.pumps.next_data.Given as goal

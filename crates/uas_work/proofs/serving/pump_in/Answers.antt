@@ -1,15 +1,13 @@
-use Rattle.std.proofs.Common.{ℕ, sym, ap, subst, ◌∙◌}
-use Rattle.uas_profile.specs.declared.TheConstants.{TAGS}
-use Rattle.tag_desk.specs.Slips.{IsAsk}
+use Rattle.std.proofs.Common.{ℕ, ap, subst, ◌∙◌}
 use Rattle.uas_work.specs.Booked.{turns_in}
 use Rattle.uas_work.specs.Held.{Pump}
 use Rattle.uas_work.specs.Pumps.{Given, asked}
-use Rattle.uas_work.proofs.Taking.{given_held, given_served, given_table, took_in, gave_up_in}
+use Rattle.uas_work.proofs.Taking.{asks_submits, given_held, given_served, given_table, took_in, gave_up_in}
 use Rattle.uas_work.proofs.serving.pump_in.Goals as goal
 
 pub asked-step-requires-clause-ask : goal.asked-step-requires-clause-ask
 asked-step-requires-clause-ask c =
-    subst (λ (t : ℕ). IsAsk TAGS t c.turn-ticket.result c.in-Some.slip) (sym c.tag.ensures) c.in-Some.ensures.given.asks.ask
+    asks_submits _ _ _ _ c.in-Some.ensures.given.asks.ask
 
 pub submit-requires-clause-held : goal.submit-requires-clause-held
 submit-requires-clause-held c = given_held _ _ _ _ _ _ _ c.in-Some.ensures.given c.requires.held

@@ -1,6 +1,5 @@
 use Rattle.std.specs.Prelude.{◌≡◌, ℕ, ◌+◌, ◌*◌, ◌<◌, All, get_or, vec_items, vec_len}
 use Rattle.std.specs.Vec.Iter.{into_iter_items, into_iter_len}
-use Rattle.uas_profile.specs.declared.TheConstants.{TAGS}
 use Rattle.door_board.specs.Counts.{IsSeatOf}
 use Rattle.tag_desk.specs.Seats.{IsPumpOf, IsServerBelow}
 use Rattle.uas_work.specs.Parts.{IsPumpPart}
@@ -12,7 +11,7 @@ invariant-loop-seat l =
     (done + into_iter_len rest ≡ shared.pumps)
     × (l.pump ≡ done)
     × All (IsSeatOf shared.board) (vec_items l.bells)
-    × ((k : ℕ) (d : _) → k < into_iter_len rest → IsServerBelow shared.desk (TAGS * shared.clients) (done + k) (get_or (into_iter_items rest) k d))
+    × ((k : ℕ) (d : _) → k < into_iter_len rest → IsServerBelow shared.desk (shared.desk.tags * shared.clients) (done + k) (get_or (into_iter_items rest) k d))
     × ((k : ℕ) (d : _) → k < into_iter_len rest → IsPumpOf shared.desk (get_or (into_iter_items rest) k d))
     × ((k : ℕ) (d : _) → k < done → IsPumpPart shared.desk shared.board (get_or (vec_items l.parts) k d))
     × ((k : ℕ) (d : _) → k < done → (get_or (vec_items l.parts) k d).pump ≡ k)

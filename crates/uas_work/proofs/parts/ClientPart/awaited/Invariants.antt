@@ -1,6 +1,5 @@
 use Rattle.std.specs.Prelude.{◌≡◌}
 use Rattle.tag_desk.specs.Seats.{IsTagOf}
-use Rattle.uas_profile.specs.declared.TheConstants.{TAGS}
 use Rattle.uas_work.specs.Parts.{IsClientPart}
 use Rattle.uas_work.proofs.parts.ClientPart.awaited.Given as goal
 
@@ -10,4 +9,4 @@ invariant-loop g l =
     × IsClientPart l.shared.desk l.shared.board l.self
     × (l.self.client ≡ l.fn.self.client)
     × (l.self.replies ≡ l.fn.self.replies)
-    × IsTagOf TAGS l.self.seat.client l.tag
+    × IsTagOf l.self.seat.tags l.self.seat.client l.tag

@@ -1,5 +1,5 @@
 use Rattle.std.proofs.Common.{◌≡◌, length, All, None}
-use Rattle.uas_work.proofs.Held.new.Given as goal
+use Rattle.uas_work.proofs.Held.with_tags.Given as goal
 
 abbrev pub invariant-loop : goal.invariant-loop
 invariant-loop l = record {

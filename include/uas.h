@@ -810,8 +810,9 @@ uint8_t uas_driver_context(const uas_driver *driver, uint8_t pipe, uint16_t stre
  *   client <--reply-- ready <--step-- event <--step-- status
  *
  * Up to 31 clients of 2 to 16 tags, each with a logical unit of its own. Of 16 tags, client c has 16c + 1 to 16c + 15 for commands, and
- * 16c + 16 under which its task management goes; of t tags likewise, tc + 1 to tc + t. A ticket names a submission: it is below 2^60, and rises for each client. What was submitted
- * goes on by steps, in any order; a step that isn't due changes nothing. uas_bus_drain takes what is due until nothing is.
+ * 16c + 16 under which its task management goes; of t tags likewise, tc + 1 to tc + t. A ticket names a submission: it is below 2^60, and
+ * rises for each client. What was submitted goes on by steps, in any order; a step that isn't due changes nothing. uas_bus_drain takes
+ * what is due until nothing is.
  * A client's replies, blocks and medium are those of a disk that it had alone, whatever the others do, for every list of steps. */
 typedef struct uas_bus uas_bus;
 

@@ -1,5 +1,5 @@
 -- What a step wrote, read where it stands: on the rings, in the buffers and in the stream contexts.
-use Rattle.std.specs.Prelude.{◌≡◌, ℕ, zero, suc, ◌+◌, ◌-◌, ◌*◌, ◌%◌, ◌==◌, nat_lt, ◌&&◌, Bool, false, if◌then◌else◌, List, [], ◌++◌, length, take, codes, fold}
+use Rattle.std.specs.Prelude.{ℕ, zero, suc, ◌+◌, ◌-◌, ◌*◌, ◌%◌, ◌==◌, nat_lt, ◌&&◌, Bool, false, if◌then◌else◌, List, [], ◌++◌, length, take, codes, fold}
 use Rattle.std.specs.Prelude.{Option, Some, None, slice_index_or, is_none}
 use Rattle.std.specs.Option.{option_map_or}
 use Rattle.xhci_trb.specs.declared.Trb.{Trb}

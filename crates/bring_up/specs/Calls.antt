@@ -15,7 +15,7 @@ use Rattle.bring_up.specs.Accesses.{is_read, is_written, kept, read_at}
 use Rattle.bring_up.specs.Completions.{advanced}
 use Rattle.bring_up.specs.Options.{can_ask}
 use Rattle.bring_up.specs.Surveys.{begun_survey, survey_offset, survey_read}
-use Rattle.bring_up.specs.Table.{taken_access, taken_interrupted, word_in}
+use Rattle.bring_up.specs.Table.{step_addressed, taken_access, taken_interrupted, word_in}
 
 -- the capability registers have 32 bytes
 abbrev pub first_stage : Options → Stage
@@ -111,3 +111,10 @@ stage_interrupted Gone = Gone
 
 abbrev pub interrupted : BringUp → BringUp
 interrupted b = record b { stage = stage_interrupted b.stage }
+
+abbrev pub is_addressed : Stage → Bool
+is_addressed (Surveying s) = false
+is_addressed (Wanting c) = false
+is_addressed (Taken t) = step_addressed t.step
+is_addressed (Refused why) = false
+is_addressed Gone = false

@@ -106,6 +106,17 @@ ended_as t (Refuse why) completion slot now = disabled t completion (Some why) n
 abbrev pub completed : Taken → Asked → Completed → ℕ → Taken
 completed t asked ended now = ended_as t asked (completion_in ended.code) ended.slot now
 
+-- a device that has its address isn't used, or is tried again, twice
+
+abbrev pub given_up : Taken → Why → Taken
+given_up t why = with_step t (command_begun t.commands (Refuse why))
+
+abbrev pub tried_again : Taken → Taken
+tried_again t =
+    if nat_lt t.tries.of_device 2 then
+    record t { tries = record t.tries { of_device = min (t.tries.of_device + 1) 255 }; step = command_begun t.commands ResetPort }
+    else given_up t why.Silent
+
 -- THE LOOK FOR A COMMAND'S EVENT
 
 abbrev pub serve_on : Taken → Asked → Option Completed → Service → Taken

@@ -20,6 +20,8 @@ use Rattle.bring_up.specs.declared.ports.Ports.{Ports}
 use Rattle.bring_up.specs.declared.ports.Ports.TheVariants as ports
 use Rattle.bring_up.specs.declared.ports.PortReset.TheVariants.{Read}
 use Rattle.bring_up.specs.declared.ports.PortState.{PortState}
+use Rattle.bring_up.specs.declared.step.Ended.{Ended}
+use Rattle.bring_up.specs.declared.step.Ended.TheVariants.{Addressed, Refused, Dead}
 use Rattle.bring_up.specs.declared.step.Step.{Step}
 use Rattle.bring_up.specs.declared.step.Step.TheVariants as step
 use Rattle.bring_up.specs.declared.slots.Device.{Device}
@@ -141,3 +143,12 @@ step_interrupted other = other
 
 abbrev pub taken_interrupted : Taken → Taken
 taken_interrupted t = with_step t (step_interrupted t.step)
+
+abbrev pub ended_addressed : Ended → Bool
+ended_addressed Addressed = true
+ended_addressed (Refused why) = false
+ended_addressed Dead = false
+
+abbrev pub step_addressed : Step → Bool
+step_addressed (step.Ended how) = ended_addressed how
+step_addressed _ = false

@@ -64,7 +64,7 @@ impl Access {
 }
 
 /// A time so many ms later.
-pub(crate) fn later(now: u64, ms: u64) -> u64
+pub fn later(now: u64, ms: u64) -> u64
     ensures { result ≡ later now ms }
 {
     now.saturating_add(ms)
@@ -78,14 +78,14 @@ fn near(offset: u64) -> u32
 }
 
 /// A register is read.
-pub(crate) fn read_at(offset: u64) -> Access
+pub fn read_at(offset: u64) -> Access
     ensures { result ≡ read_at offset }
 {
     Access::Read32(near(offset))
 }
 
 /// A register is written.
-pub(crate) fn write_at(offset: u64, value: u32) -> Access
+pub fn write_at(offset: u64, value: u32) -> Access
     ensures { result ≡ write_at offset value }
 {
     Access::Write32 {
@@ -95,7 +95,7 @@ pub(crate) fn write_at(offset: u64, value: u32) -> Access
 }
 
 /// Bytes are stored at an address; where there is none, nothing is told but a rest that is over.
-pub(crate) fn store_in(at: Option<u64>, bytes: Stored) -> Access
+pub fn store_in(at: Option<u64>, bytes: Stored) -> Access
     ensures { result ≡ store_in at bytes }
 {
     match at {
@@ -105,7 +105,7 @@ pub(crate) fn store_in(at: Option<u64>, bytes: Stored) -> Access
 }
 
 /// Bytes are loaded, likewise.
-pub(crate) fn load_in(at: Option<u64>, length: u32) -> Access
+pub fn load_in(at: Option<u64>, length: u32) -> Access
     ensures { result ≡ load_in at length }
 {
     match at {

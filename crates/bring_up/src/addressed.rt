@@ -1,6 +1,6 @@
 //! Rows 9 to 11: what a device's reset and its commands came to.
 ghost use Rattle.std.specs.Prelude.{◌≡◌, ◌<◌, ◌^◌, slice_set};
-ghost use Rattle.bring_up.specs.Completions.{addressed, closed, completed, disabled, enabled, event_seen, event_watched, is_enabled, reset_advanced, reset_late, reset_waited, restarted, served, service_went, speed_read, watch_went, watched};
+ghost use Rattle.bring_up.specs.Completions.{addressed, closed, completed, disabled, enabled, event_seen, event_watched, given_up, is_enabled, reset_advanced, reset_late, reset_waited, restarted, served, service_went, speed_read, tried_again, watch_went, watched};
 
 use crate::access::later;
 use crate::commands::{Asked, CommandRing, Completed};
@@ -221,7 +221,7 @@ impl Taken {
     }
 
     /// The controller is taken anew, twice at most.
-    pub(crate) fn restart(&mut self, now: u64)
+    pub fn restart(&mut self, now: u64)
         ensures { self.new ≡ restarted self.old now }
     {
         self.events = EventRing::begun();
@@ -231,6 +231,25 @@ impl Taken {
             self.step = first_step(&self.controller, now);
         } else {
             self.step = Step::Ended(Ended::Dead);
+        }
+    }
+
+    /// The device that has its address isn't used: its slot is taken back, and the next port is tried.
+    pub fn give_up(&mut self, why: Why)
+        ensures { self.new ≡ given_up self.old why }
+    {
+        self.step = command_begun(self.commands, Asked::Refuse(why));
+    }
+
+    /// The device that has its address is tried again, from its port's reset on; a third time it is given up.
+    pub fn try_again(&mut self)
+        ensures { self.new ≡ tried_again self.old }
+    {
+        if self.tries.of_device < MOST_RESTARTS {
+            self.tries.of_device = self.tries.of_device.saturating_add(1);
+            self.step = command_begun(self.commands, Asked::ResetPort);
+        } else {
+            self.give_up(Why::Silent);
         }
     }
 

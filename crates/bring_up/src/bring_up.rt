@@ -1,7 +1,7 @@
 //! The driver's calls: what it tells, and what it is answered.
 ghost use Rattle.std.specs.Prelude.{◌≡◌, ◌↔◌, true, false};
 ghost use Rattle.bring_up.specs.Accesses.{IsInside};
-ghost use Rattle.bring_up.specs.Calls.{answered, at_time, begun, driver_access, first_stage, fits, interrupted, is_gone, layout_of, stage_access, stage_advanced, surveyed, told, woken};
+ghost use Rattle.bring_up.specs.Calls.{answered, at_time, begun, driver_access, first_stage, fits, interrupted, is_addressed, is_gone, layout_of, stage_access, stage_advanced, surveyed, told, woken};
 
 use crate::access::{Access, read_at};
 use crate::controller::Controller;
@@ -149,6 +149,16 @@ impl BringUp {
             self.stage.advance(self.time, bytes);
         }
         Ok(())
+    }
+
+    /// Whether its device has its address.
+    pub fn is_addressed(&self) -> bool
+        ensures { result ≡ is_addressed self.now.stage }
+    {
+        match &self.stage {
+            Stage::Taken(taken) => taken.is_addressed(),
+            _ => false,
+        }
     }
 
     /// An interrupt came: events are looked for at once.

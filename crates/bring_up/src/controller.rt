@@ -57,7 +57,7 @@ pub struct Port {
 }
 
 /// Whether a bit of a register is set.
-pub(crate) fn is_set(value: u32, place: u32) -> bool
+pub fn is_set(value: u32, place: u32) -> bool
     requires { place < 32 }
     ensures { result ≡ is_set value place }
 {

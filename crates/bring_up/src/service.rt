@@ -104,7 +104,7 @@ impl EventRing {
 }
 
 /// The event of 16 bytes.
-pub(crate) fn taken_event(bytes: &[u8]) -> Event
+pub fn taken_event(bytes: &[u8]) -> Event
     ensures { result ≡ taken_event bytes.now }
 {
     let (event, _) = read_event(&event_bytes(bytes));

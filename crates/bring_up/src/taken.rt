@@ -1,6 +1,6 @@
 //! A controller that memory was lent for, and the table's steps on it.
 ghost use Rattle.std.specs.Prelude.{◌≡◌, ◌<◌, ◌^◌, replicate, slice_set};
-ghost use Rattle.bring_up.specs.Table.{asked_command, look_on, port_state, ports_advanced, refused, taken_access, taken_begun, taken_interrupted, word_in};
+ghost use Rattle.bring_up.specs.Table.{asked_command, look_on, port_state, ports_advanced, refused, step_addressed, taken_access, taken_begun, taken_interrupted, word_in};
 ghost use Rattle.bring_up.specs.Completions.{advanced};
 
 use crate::access::Access;
@@ -10,7 +10,7 @@ use crate::options::Quirks;
 use crate::ports::{CONNECTED, PortReset, PortState, Ports, look_begun, looked_on};
 use crate::service::EventRing;
 use crate::slots::Device;
-use crate::step::Step;
+use crate::step::{Ended, Step};
 use crate::takeover::first_step;
 use crate::why::Why;
 use byteorder::{ByteOrder, LittleEndian};
@@ -62,7 +62,7 @@ pub(crate) const ADDRESS_RECOVERY: u64 = 10;
 pub(crate) const SUPER_SPEED: u8 = 4;
 
 /// The word of four bytes; 0 of others.
-pub(crate) fn word_in(bytes: &[u8]) -> u32
+pub fn word_in(bytes: &[u8]) -> u32
     ensures { result ≡ word_in bytes.now }
 {
     if bytes.len() == 4 {
@@ -245,6 +245,13 @@ impl Taken {
             refused: Some(why),
         };
         self.step = look_begun(now, false);
+    }
+
+    /// Whether its device has its address.
+    pub fn is_addressed(&self) -> bool
+        ensures { result ≡ step_addressed self.now.step }
+    {
+        matches!(self.step, Step::Ended(Ended::Addressed))
     }
 
     /// An interrupt ends a rest between looks for events.

@@ -28,4 +28,20 @@ pub enum Why {
     NoAddress,
     #[error("the device was silent three times")]
     Silent,
+    #[error("the device descriptor isn't that of a SuperSpeed device")]
+    BadDevice,
+    #[error("the device is a hub")]
+    Hub,
+    #[error("the configuration is too long")]
+    LongConfiguration,
+    #[error("a descriptor has a wrong length or type")]
+    BadDescriptor,
+    #[error("no interface of USB Attached SCSI")]
+    NoUas,
+    #[error("not the four pipes of USB Attached SCSI")]
+    BadPipes,
+    #[error("an endpoint of a pipe has no companion")]
+    NoCompanion,
+    #[error("USB Attached SCSI doesn't work on this bridge")]
+    BrokenUas,
 }

@@ -1,6 +1,6 @@
 //! What a client of `uasdisk work` submits.
 ghost use Rattle.std.specs.Prelude.{◌≡◌, ◌+◌, ◌*◌, ◌<◌, IfOk};
-ghost use Rattle.uas_profile.specs.declared.TheConstants.{USUAL_CLIENTS};
+ghost use Rattle.uas_profile.specs.declared.TheConstants.{MAX_CLIENTS};
 ghost use Rattle.uas_profile.specs.Tags.{AreTags};
 ghost use Rattle.log_audit.specs.Plan.{filled, planned_read, planned_steps, planned_write};
 
@@ -25,7 +25,7 @@ pub fn planned(
     rounds: u32,
 ) -> Result<Vec<Step>, AllocError>
     requires tags { AreTags tags }
-    requires client { client < USUAL_CLIENTS }
+    requires client { client < MAX_CLIENTS }
     ensures { IfOk result (λ steps. steps.items ≡ planned_steps tags client rounds) }
 {
     let mut steps = Vec::new(alloc);
@@ -38,7 +38,7 @@ pub fn planned(
 
 fn planned_write(alloc: Global, tags: usize, client: usize, round: u32) -> Result<Step, AllocError>
     requires tags { AreTags tags }
-    requires client { client < USUAL_CLIENTS }
+    requires client { client < MAX_CLIENTS }
     ensures { IfOk result (λ step. step ≡ planned_write tags client round) }
 {
     let byte = ((16 * client as u64 + u64::from(round)) % 256) as u8;
@@ -59,7 +59,7 @@ fn planned_write(alloc: Global, tags: usize, client: usize, round: u32) -> Resul
 
 fn planned_read(alloc: Global, tags: usize, client: usize, round: u32) -> Result<Step, AllocError>
     requires tags { AreTags tags }
-    requires client { client < USUAL_CLIENTS }
+    requires client { client < MAX_CLIENTS }
     ensures { IfOk result (λ step. step ≡ planned_read tags client round) }
 {
     Ok(Step::Submit {
@@ -80,7 +80,7 @@ fn planned_read(alloc: Global, tags: usize, client: usize, round: u32) -> Result
 /// A client's first tag.
 fn first_tag(tags: usize, client: usize) -> u16
     requires tags { AreTags tags }
-    requires client { client < USUAL_CLIENTS }
+    requires client { client < MAX_CLIENTS }
     ensures { result ≡ tags * client + 1 }
 {
     (tags * client) as u16 + 1

@@ -694,9 +694,12 @@ static void opens(const uint32_t *blocks, size_t units, size_t length, const str
 
 static void open_faults(void)
 {
-    static const uint32_t ones[32] = { [0 ... 31] = 1 }, none[2] = { 24, 0 }, many[2] = { 65537, 3 };
+    static const uint32_t none[2] = { 24, 0 }, many[2] = { 65537, 3 };
     static const struct uas_bad_block beyond_unit = { 2, 0 }, beyond_blocks = { 1, 3 }, far = { 0xffffffff, 0xffffffff };
     const size_t all = 512 * IMAGE_BLOCKS;
+    uint32_t ones[32];
+    for (int i = 0; i < 32; i++)
+        ones[i] = 1;
     opens(image_blocks, 0, 0, three_bad, 0, UAS_UNITS);
     opens(ones, 32, 32 * 512, three_bad, 0, UAS_UNITS);
     opens(none, 2, 24 * 512, three_bad, 0, UAS_BLOCKS);
@@ -2479,9 +2482,11 @@ static void bus_new_faults(void)
 /* A bus of `clients` clients with `tags` tags each, of blocks that hold nothing. */
 static uint8_t opens_bus(size_t clients, uint32_t size, uint32_t tags, uas_bus **bus)
 {
-    static const uint32_t blocks[32] = { [0 ... 31] = 3 };
     static const struct uas_bad_block none = { 0 };
     const uint8_t image = 0;
+    uint32_t blocks[32];
+    for (int i = 0; i < 32; i++)
+        blocks[i] = 3;
     return uas_bus_open(blocks, clients, &image, 0, &none, 0, &(struct uas_bus_options){ size, tags }, bus);
 }
 

@@ -11,3 +11,4 @@ pub mod TakenLog
 pub mod Wrote
 pub mod Keeping
 pub mod Migrated
+pub mod Plain

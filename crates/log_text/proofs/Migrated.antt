@@ -1,5 +1,5 @@
 -- A log whose tags were renumbered is within the limits of clients of 16 tags.
-use Rattle.std.proofs.Common.{◌≡◌, ℕ, ◌+◌, ◌*◌, ◌/◌, ◌%◌, ◌^◌, ◌<◌, ◌≤◌, ◌==◌, ◌||◌, Bool, true, false, cond, List, [], ◌∷◌, length, map, refl, arith, ap, sym, ◌∙◌}
+use Rattle.std.proofs.Common.{◌≡◌, ℕ, ◌+◌, ◌*◌, ◌/◌, ◌%◌, ◌^◌, ◌<◌, ◌≤◌, ◌==◌, ◌||◌, Bool, true, false, cond, List, [], ◌∷◌, length, map, refl, arith, sym, ◌∙◌}
 use Rattle.std.specs.Prelude.{nat_lt}
 use Rattle.std.specs.List.{AllByRecursion}
 use Rattle.std.proofs.lemmas.Bool.{ltb-false}
@@ -7,14 +7,13 @@ use Rattle.scsi_cmd.specs.declared.Reply.{Reply}
 use Rattle.scsi_cmd.specs.declared.Reply.TheVariants as replies
 use Rattle.scsi_cmd.specs.declared.Task.{Task}
 use Rattle.scsi_cmd.specs.declared.Task.TheVariants.{Abort, Reset, Query}
-use Rattle.scsi_cmd.specs.Replies.{reply_tag, reply_ticket}
 use Rattle.shared_machine.specs.declared.Step.{Step}
 use Rattle.shared_machine.specs.declared.Step.TheVariants as steps
 use Rattle.log_text.specs.declared.SavedReply.{SavedReply}
 use Rattle.log_text.specs.Migration.{moved_log, moved_reply, moved_saved, moved_step, moved_tag, moved_task}
 use Rattle.log_text.specs.declared.Version.{Version}
 use Rattle.log_text.specs.declared.Version.TheVariants.{Second}
-use Rattle.log_text.specs.Text.{BodyFits, IsWithin, ReplyFits, Saved, StepFits, TaskFits}
+use Rattle.log_text.specs.Text.{IsWithin, ReplyFits, Saved, StepFits, TaskFits}
 use Rattle.log_text.proofs.Keeping.{length-map}
 
 chosen_small : (none even : Bool) (clients tag : ℕ) → clients ≤ 15 → (none ≡ false → tag ≤ 8 * clients)

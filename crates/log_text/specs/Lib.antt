@@ -4,4 +4,5 @@ pub mod Stops
 pub mod Loading
 pub mod Writing
 pub mod Kept
+pub mod Plain
 pub mod Migration

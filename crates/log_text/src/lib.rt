@@ -4,8 +4,8 @@
 //! specs/Text.antt) is the fields one behind the other, each number big endian; it has two versions, each with limits of its own
 //! (`IsWithin`), and a log has one text. Which fault a text has that is none is said by specs/Reading.antt, field by field.
 //! Whoever reads a text in parts has [`read_first_units`], [`read_step`], [`read_reply`] and the fields, each up to a [`Stop`].
-//! [`migrate`] brings a log of clients of 8 tags over to clients of 16. Whoever writes a text piece by piece has its parts: [`put_header`],
-//! [`put_units`], [`put`] for a count, [`put_step`] and [`put_reply`].
+//! [`migrate`] brings a log of clients of 8 tags over to clients of 16. A [`PlainLog`] is a log of any number of tags, as it is replayed.
+//! Whoever writes a text piece by piece has its parts: [`put_header`], [`put_units`], [`put`] for a count, [`put_step`] and [`put_reply`].
 //!
 //! ```text
 //!     UASLOG, version (2), tags of a client (1), clients (1)
@@ -19,6 +19,7 @@
 
 mod lists;
 mod migration;
+mod plain_log;
 mod read_fields;
 mod read_log;
 mod read_replies;
@@ -85,6 +86,27 @@ impl Model for SavedLog {
 
     ghost invariant = { λ log.
         IsWithin (record { version = log.version; units = log.units; steps = log.steps; replies = log.replies }) };
+}
+
+/// A log as it is replayed: its clients have so many tags each, and its steps weren't refused. A bus can be asked for its steps
+/// (`IsPlain` in specs/Plain.antt).
+#[derive(Debug, Drop)]
+pub struct PlainLog {
+    tags: usize,
+    units: FirstUnits,
+    steps: Steps,
+    replies: SavedReplies,
+}
+
+impl Model for PlainLog {
+    ghost use Rattle.log_text.specs.Plain.{IsPlain, Plain};
+
+    ghost Value = { Plain };
+
+    ghost view = { λ log. record { tags = log.tags; units = log.units; steps = log.steps; replies = log.replies } };
+
+    ghost invariant = { λ log.
+        IsPlain (record { tags = log.tags; units = log.units; steps = log.steps; replies = log.replies }) };
 }
 
 /// Why a text is no log's: the first fault from its front.

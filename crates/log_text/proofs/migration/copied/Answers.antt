@@ -1,7 +1,4 @@
-use Rattle.std.proofs.Common.{◌≡◌, List, rules, subst, sym}
-use Rattle.shared_machine.specs.declared.Step.{Step}
-use Rattle.uas_log.specs.declared.FirstUnit.{FirstUnit}
-use Rattle.log_text.specs.declared.SavedReply.{SavedReply}
+use Rattle.std.proofs.Common.{◌≡◌, rules, subst}
 use Rattle.log_text.specs.Text.{IsWithin, Saved}
 use Rattle.log_text.proofs.migration.copied.Goals as goal
 

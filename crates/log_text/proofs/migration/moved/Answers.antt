@@ -1,4 +1,4 @@
-use Rattle.std.proofs.Common.{◌≡◌, ◌≤◌, List, length, rules, subst, sym}
+use Rattle.std.proofs.Common.{◌≡◌, ◌≤◌, length, rules, subst}
 use Rattle.log_text.specs.declared.Version.TheVariants.{Second}
 use Rattle.log_text.specs.Migration.{moved_log}
 use Rattle.log_text.specs.Text.{IsWithin, Saved}

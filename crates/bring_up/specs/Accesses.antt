@@ -1,6 +1,5 @@
 -- One access, and which accesses there are: registers of the controller, and memory that was lent.
-use Rattle.std.specs.Prelude.{◌≡◌, ℕ, ◌+◌, ◌-◌, ◌*◌, ◌^◌, ◌<◌, ◌≤◌, ◌&&◌, nat_le, min, if◌then◌else◌, Bool, true, false, Option, Some, None, List}
-use Rattle.byteorder.specs.Endian.{little_number}
+use Rattle.std.specs.Prelude.{ℕ, ◌+◌, ◌-◌, ◌^◌, ◌≤◌, ◌&&◌, nat_le, min, if◌then◌else◌, Bool, true, false, Option, Some, None}
 use Rattle.host_layout.specs.declared.layout.Layout.{Layout}
 use Rattle.host_layout.specs.Shapes.{bytes_of}
 use Rattle.bring_up.specs.declared.access.Access.{Access}

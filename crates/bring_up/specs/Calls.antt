@@ -1,6 +1,6 @@
 -- The driver's calls: what it tells, and what it makes of an answer. A write is done once it is told; a read or a load is told again until it is
 -- answered; a rest is told until its time has come.
-use Rattle.std.specs.Prelude.{ℕ, ◌-◌, ◌^◌, ◌==◌, max, nat_le, nat_lt, if◌then◌else◌, Bool, true, false, not, Option, Some, None, List, [], length}
+use Rattle.std.specs.Prelude.{ℕ, ◌-◌, ◌^◌, ◌==◌, max, nat_le, nat_lt, if◌then◌else◌, Bool, false, not, Option, Some, None, List, [], length}
 use Rattle.host_layout.specs.declared.layout.Layout.{Layout}
 use Rattle.bring_up.specs.declared.access.Access.{Access}
 use Rattle.bring_up.specs.declared.access.Access.TheVariants.{Read32, Load, Write32, Store, Rest}

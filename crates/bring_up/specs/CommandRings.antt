@@ -1,5 +1,5 @@
 -- A command on the command ring (xHCI 1.2, 4.6.1 and 4.9.3): 15 places and a Link with Toggle Cycle; one command at a time.
-use Rattle.std.specs.Prelude.{ℕ, ◌+◌, ◌*◌, nat_le, not, if◌then◌else◌, Bool, true, false, Option, Some, None, List}
+use Rattle.std.specs.Prelude.{ℕ, ◌+◌, ◌*◌, nat_le, not, if◌then◌else◌, true, Some, None}
 use Rattle.byteorder.specs.Endian.{little_bytes}
 use Rattle.host_layout.specs.declared.layout.Area.TheVariants.{At}
 use Rattle.host_layout.specs.declared.layout.Fixed.TheVariants.{CommandRing as CommandArea}

@@ -1,5 +1,5 @@
 -- Row 2: what memory is wanted, and which is taken; and the rows of the table.
-use Rattle.std.specs.Prelude.{◌≡◌, ℕ, ◌+◌, ◌-◌, ◌/◌, ◌%◌, ◌^◌, ◌==◌, ◌&&◌, ◌||◌, min, nat_le, nat_lt, if◌then◌else◌, Bool, true, false}
+use Rattle.std.specs.Prelude.{◌≡◌, ℕ, ◌+◌, ◌-◌, ◌%◌, ◌^◌, ◌&&◌, ◌||◌, min, nat_le, nat_lt, if◌then◌else◌, Bool, true, false}
 use Rattle.host_layout.specs.declared.layout.Layout.{Layout}
 use Rattle.host_layout.specs.declared.shape.Shape.{Shape}
 use Rattle.host_layout.specs.Shapes.{bytes_of}

@@ -1,5 +1,5 @@
 -- That waits end.
-use Rattle.std.specs.Prelude.{◌≡◌, ℕ, ◌⊎◌, Option, Some, None}
+use Rattle.std.specs.Prelude.{◌≡◌, ℕ, ◌⊎◌, Some, None}
 use Rattle.bring_up.specs.declared.waits.Wait.{Wait}
 use Rattle.bring_up.specs.declared.waits.Waited.{Waited}
 use Rattle.bring_up.specs.declared.waits.Waited.TheVariants.{So, Late, On}

@@ -1,5 +1,5 @@
 -- What can be asked for, and what some controllers do otherwise than they tell.
-use Rattle.std.specs.Prelude.{ℕ, ◌==◌, ◌&&◌, ◌||◌, nat_le, Bool, true, false, if◌then◌else◌}
+use Rattle.std.specs.Prelude.{ℕ, ◌==◌, ◌&&◌, ◌||◌, nat_le, Bool, false}
 use Rattle.bring_up.specs.declared.options.Options.{Options}
 use Rattle.bring_up.specs.declared.options.Quirks.{Quirks}
 

@@ -1,5 +1,5 @@
 -- Rows 8 and 9: the ports of USB 3, and the reset of one (xHCI 1.2, 4.19 and 5.4.8). Limits are in ms; ports are read each 10 ms.
-use Rattle.std.specs.Prelude.{ℕ, ◌+◌, ◌/◌, ◌%◌, ◌^◌, ◌==◌, ◌&&◌, ◌||◌, nat_le, nat_lt, not, if◌then◌else◌, Bool, true, false, Option, Some, None, is_some, is_none, bit_and, bit_or}
+use Rattle.std.specs.Prelude.{ℕ, ◌/◌, ◌%◌, ◌^◌, ◌==◌, ◌&&◌, ◌||◌, nat_le, nat_lt, not, if◌then◌else◌, Bool, true, false, Option, Some, None, is_some, is_none, bit_and, bit_or}
 use Rattle.bring_up.specs.declared.access.Access.{Access}
 use Rattle.bring_up.specs.declared.access.Access.TheVariants.{Rest}
 use Rattle.bring_up.specs.declared.controller.Controller.{Controller}
@@ -12,7 +12,6 @@ use Rattle.bring_up.specs.declared.ports.Ports.{Ports}
 use Rattle.bring_up.specs.declared.ports.Ports.TheVariants.{Power, PowerOn, Settle, Look, Pause, Warm, WarmReset}
 use Rattle.bring_up.specs.declared.step.Step.{Step}
 use Rattle.bring_up.specs.declared.step.Step.TheVariants as step
-use Rattle.bring_up.specs.declared.why.Why.{Why}
 use Rattle.bring_up.specs.Accesses.{later, read_at, write_at}
 use Rattle.bring_up.specs.Registers.{first_place, is_set, next_place, port_at, port_register}
 use Rattle.bring_up.specs.Services.{idle}

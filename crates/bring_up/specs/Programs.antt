@@ -1,5 +1,5 @@
 -- Row 6: the memory is zeroed, its tables are written, and the controller is told of them (xHCI 1.2, 4.2).
-use Rattle.std.specs.Prelude.{ℕ, ◌+◌, ◌-◌, ◌*◌, ◌/◌, ◌%◌, ◌^◌, ◌==◌, min, nat_lt, if◌then◌else◌, Bool, true, false, Option, Some, None, List, bit_or}
+use Rattle.std.specs.Prelude.{ℕ, ◌+◌, ◌-◌, ◌*◌, ◌/◌, ◌%◌, ◌^◌, ◌==◌, min, nat_lt, if◌then◌else◌, Bool, Option, Some, None, List, bit_or}
 use Rattle.byteorder.specs.Endian.{little_bytes}
 use Rattle.host_layout.specs.declared.layout.Area.TheVariants.{At, ScratchpadArray, Scratchpad as OneScratchpad}
 use Rattle.host_layout.specs.declared.layout.Fixed.TheVariants.{CommandRing, DeviceContexts, EventRing, SegmentTable}

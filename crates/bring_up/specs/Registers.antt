@@ -1,5 +1,5 @@
 -- Where registers are (xHCI 1.2, 5.3 to 5.6 and 7), and the ports of USB 3.
-use Rattle.std.specs.Prelude.{ℕ, ◌+◌, ◌*◌, ◌/◌, ◌%◌, ◌^◌, ◌-◌, ◌==◌, min, nat_lt, if◌then◌else◌, Bool, Option, Some, None, is_some, slice_get}
+use Rattle.std.specs.Prelude.{ℕ, ◌+◌, ◌*◌, ◌/◌, ◌%◌, ◌^◌, ◌==◌, min, nat_lt, if◌then◌else◌, Bool, Option, Some, None, is_some, slice_get}
 use Rattle.bring_up.specs.declared.controller.Controller.{Controller}
 use Rattle.bring_up.specs.declared.controller.Port.{Port}
 use Rattle.bring_up.specs.declared.controller.PortPlace.{PortPlace}

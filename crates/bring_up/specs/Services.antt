@@ -1,6 +1,6 @@
 -- A look for events (xHCI 1.2, 4.9.4): USBSTS, then each event on the event ring, its last word first, as that has the Cycle bit; at the end,
 -- and behind 64 events, ERDP is written.
-use Rattle.std.specs.Prelude.{ℕ, ◌+◌, ◌-◌, ◌*◌, ◌/◌, ◌%◌, ◌^◌, ◌==◌, ◌&&◌, ◌||◌, min, nat_le, nat_lt, not, if◌then◌else◌, Bool, true, false, Option, Some, None, List, length, replicate, bit_and, bit_or}
+use Rattle.std.specs.Prelude.{ℕ, ◌+◌, ◌-◌, ◌*◌, ◌^◌, ◌==◌, ◌||◌, min, nat_le, nat_lt, not, if◌then◌else◌, Bool, true, false, Some, List, length, replicate, bit_and, bit_or}
 use Rattle.host_layout.specs.declared.layout.Area.TheVariants.{At}
 use Rattle.host_layout.specs.declared.layout.Fixed.TheVariants.{EventRing as EventArea}
 use Rattle.host_layout.specs.declared.layout.Layout.{Layout}

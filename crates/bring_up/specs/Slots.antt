@@ -1,5 +1,5 @@
 -- Rows 10 and 11: what is stored for a device (xHCI 1.2, 4.3.3, 4.6.3 and 4.6.5).
-use Rattle.std.specs.Prelude.{ℕ, Option, Some, None, List}
+use Rattle.std.specs.Prelude.{ℕ, Some, List}
 use Rattle.host_layout.specs.declared.layout.Area.TheVariants.{At}
 use Rattle.host_layout.specs.declared.layout.Fixed.{Fixed}
 use Rattle.host_layout.specs.declared.layout.Fixed.TheVariants as fixed

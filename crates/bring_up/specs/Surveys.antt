@@ -1,5 +1,5 @@
 -- Row 1: the capability registers (xHCI 1.2, 5.3), PAGESIZE (5.4.3) and the extended capabilities (7), and what is refused.
-use Rattle.std.specs.Prelude.{ℕ, ◌+◌, ◌-◌, ◌*◌, ◌/◌, ◌%◌, ◌^◌, ◌==◌, ◌&&◌, ◌||◌, nat_le, nat_lt, not, if◌then◌else◌, Bool, true, false, Option, Some, None, List, replicate, slice_set, bit_and}
+use Rattle.std.specs.Prelude.{ℕ, ◌+◌, ◌-◌, ◌*◌, ◌/◌, ◌%◌, ◌^◌, ◌==◌, ◌&&◌, ◌||◌, nat_le, nat_lt, not, if◌then◌else◌, Bool, false, Option, Some, None, replicate, slice_set}
 use Rattle.host_layout.specs.declared.shape.PageSize.{PageSize}
 use Rattle.host_layout.specs.declared.shape.PageSize.TheVariants.{Kib4}
 use Rattle.host_layout.specs.Sizes.{page_of}

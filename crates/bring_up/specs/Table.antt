@@ -1,5 +1,5 @@
 -- The table over a controller that memory was lent for: each step's access, and what comes after it.
-use Rattle.std.specs.Prelude.{ℕ, ◌+◌, ◌-◌, ◌^◌, ◌==◌, if◌then◌else◌, Bool, true, false, not, Option, Some, None, List, length, replicate, slice_get, slice_set}
+use Rattle.std.specs.Prelude.{ℕ, ◌-◌, ◌^◌, ◌==◌, if◌then◌else◌, Bool, true, false, not, Option, Some, None, List, length, replicate, slice_get, slice_set}
 use Rattle.byteorder.specs.Endian.{little_number}
 use Rattle.host_layout.specs.declared.layout.Area.TheVariants.{At}
 use Rattle.host_layout.specs.declared.layout.Fixed.TheVariants as fixed
@@ -28,13 +28,13 @@ use Rattle.bring_up.specs.declared.slots.Device.{Device}
 use Rattle.bring_up.specs.declared.taken.Taken.{Taken}
 use Rattle.bring_up.specs.declared.taken.Tries.{Tries}
 use Rattle.bring_up.specs.declared.why.Why.{Why}
-use Rattle.bring_up.specs.CommandRings.{command_put, commands_begun, put_after}
+use Rattle.bring_up.specs.CommandRings.{command_put, commands_begun}
 use Rattle.bring_up.specs.PortRows.{is_ready, look_begun, looked_at, looked_on, port_reset_access, ports_access, ports_after}
-use Rattle.bring_up.specs.Programs.{program_access, program_after}
+use Rattle.bring_up.specs.Programs.{program_access}
 use Rattle.bring_up.specs.Registers.{is_set, port_at}
 use Rattle.bring_up.specs.Services.{events_begun, service_access, woken}
-use Rattle.bring_up.specs.Slots.{addressing_access, addressing_after}
-use Rattle.bring_up.specs.Takeovers.{first_step, halt_access, halt_after, handoff_access, handoff_after, reset_access, reset_after, run_access, run_after}
+use Rattle.bring_up.specs.Slots.{addressing_access}
+use Rattle.bring_up.specs.Takeovers.{first_step, halt_access, handoff_access, reset_access, run_access}
 
 -- the word of the four bytes that were read, low byte first
 abbrev pub word_in : List ℕ → ℕ

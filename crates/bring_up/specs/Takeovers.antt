@@ -1,6 +1,6 @@
 -- Rows 3, 4, 5 and 7: the controller is taken from firmware, halted, reset and run (xHCI 1.2, 4.2, 5.4.1, 5.4.2 and 7.1). Limits are in ms;
 -- a register is read each ms.
-use Rattle.std.specs.Prelude.{ℕ, ◌+◌, ◌^◌, not, if◌then◌else◌, is_some, bit_and, bit_or}
+use Rattle.std.specs.Prelude.{ℕ, ◌+◌, not, if◌then◌else◌, is_some, bit_and, bit_or}
 use Rattle.bring_up.specs.declared.access.Access.{Access}
 use Rattle.bring_up.specs.declared.access.Access.TheVariants.{Rest}
 use Rattle.bring_up.specs.declared.controller.Controller.{Controller}

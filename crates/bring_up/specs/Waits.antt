@@ -1,5 +1,5 @@
 -- Waits: a register is read every few ms until something is so, or a limit is over.
-use Rattle.std.specs.Prelude.{ℕ, nat_le, if◌then◌else◌, Bool, true, false, Option, Some, None, is_some}
+use Rattle.std.specs.Prelude.{ℕ, nat_le, if◌then◌else◌, Bool, Option, Some, None, is_some}
 use Rattle.bring_up.specs.declared.access.Access.{Access}
 use Rattle.bring_up.specs.declared.access.Access.TheVariants.{Rest}
 use Rattle.bring_up.specs.declared.waits.Wait.{Wait}

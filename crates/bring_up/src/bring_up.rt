@@ -107,6 +107,13 @@ impl BringUp {
         access
     }
 
+    /// The memory that was lent.
+    pub fn layout(&self) -> Option<Layout>
+        ensures { result ≡ layout_of self.now.stage }
+    {
+        self.stage.layout()
+    }
+
     /// Its stage's access, where that is of the registers or of the memory that was lent.
     fn access(&self) -> Access
         ensures is { result ≡ driver_access self.now }
@@ -183,7 +190,7 @@ fn first_stage(options: Options) -> Stage
 }
 
 /// Whether bytes are as many as an access asks for.
-fn fits(access: &Access, bytes: &[u8]) -> bool
+pub fn fits(access: &Access, bytes: &[u8]) -> bool
     ensures { result ≡ fits access.now bytes.now }
 {
     match access {
@@ -194,7 +201,7 @@ fn fits(access: &Access, bytes: &[u8]) -> bool
 }
 
 /// Whether they are a register of ones alone.
-fn is_gone(access: &Access, bytes: &[u8]) -> bool
+pub fn is_gone(access: &Access, bytes: &[u8]) -> bool
     ensures { result ≡ is_gone access.now bytes.now }
 {
     match access {

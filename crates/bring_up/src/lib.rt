@@ -53,7 +53,7 @@ mod waits;
 mod why;
 
 pub use access::{Access, Stored, later, load_in, read_at, store_in, write_at};
-pub use bring_up::{AnswerFault, BringUp, LendFault, Stage};
+pub use bring_up::{AnswerFault, BringUp, LendFault, Stage, fits, is_gone};
 pub use commands::{Asked, CommandRing, Completed, Putting};
 pub use controller::{Controller, MOST_CAPABILITIES, Port, PortPlace, Protocol, is_set};
 pub use laws::waits_end;

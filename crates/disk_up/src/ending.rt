@@ -25,7 +25,15 @@ impl Finding {
         ensures { record { finding = self.new; taken = taken.new } ≡ served (record { finding = self.old; taken = taken.old }) request moved ended service now value bytes.now }
     {
         match service.at {
-            Serving::Event => self.event_came(taken, request, moved, ended, service, now, taken_event(bytes)),
+            Serving::Event => self.event_came(
+                taken,
+                request,
+                moved,
+                ended,
+                service,
+                now,
+                taken_event(bytes),
+            ),
             _ => self.went(
                 taken,
                 request,
@@ -191,7 +199,14 @@ impl Finding {
         ensures { record { finding = self.new; taken = taken.new } ≡ clear_served (record { finding = self.old; taken = taken.old }) clearing came service now value bytes.now }
     {
         match service.at {
-            Serving::Event => self.clear_event(taken, clearing, came, service, now, taken_event(bytes)),
+            Serving::Event => self.clear_event(
+                taken,
+                clearing,
+                came,
+                service,
+                now,
+                taken_event(bytes),
+            ),
             _ => self.clear_went(
                 taken,
                 clearing,
@@ -285,13 +300,7 @@ impl Finding {
     }
 
     /// A command ended: the other one, or the configuration.
-    fn cleared(
-        &mut self,
-        taken: &mut Taken,
-        clearing: Clearing,
-        completion: Completion,
-        now: u64,
-    )
+    fn cleared(&mut self, taken: &mut Taken, clearing: Clearing, completion: Completion, now: u64)
         ensures { record { finding = self.new; taken = taken.new } ≡ cleared (record { finding = self.old; taken = taken.old }) clearing completion now }
     {
         match (completion, clearing) {

@@ -207,7 +207,13 @@ impl Finding {
     fn answer(&mut self, taken: &mut Taken, request: Request, tags: u8, bytes: &[u8])
         ensures { record { finding = self.new; taken = taken.new } ≡ taken_answer (record { finding = self.old; taken = taken.old }) request tags bytes.now }
     {
-        match read_answer(self.known, request, bytes, tags, taken.controller.max_psa_size) {
+        match read_answer(
+            self.known,
+            request,
+            bytes,
+            tags,
+            taken.controller.max_psa_size,
+        ) {
             Found::Refused(why) => taken.give_up(why),
             Found::Next(known, next) => {
                 self.known = known;

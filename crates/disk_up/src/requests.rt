@@ -22,10 +22,7 @@ pub enum Request {
     Configuration(u16),
     /// SET_CONFIGURATION and SET_INTERFACE.
     SetConfiguration(u8),
-    SetInterface {
-        interface: u8,
-        alternate: u8,
-    },
+    SetInterface { interface: u8, alternate: u8 },
 }
 
 /// What is known of a device: its vendor and product, its function and how many tags that has.
@@ -131,7 +128,12 @@ pub(crate) fn read_answer(
         Request::BosHead => behind_bos(known, read_bos_total(bytes)),
         Request::Bos(_) => Found::Next(known, Request::ConfigurationHead),
         Request::ConfigurationHead => behind_head(known, read_configuration_total(bytes)),
-        Request::Configuration(_) => behind_configuration(known, find_uas(bytes), tags, max_psa_size),
+        Request::Configuration(_) => behind_configuration(
+            known,
+            find_uas(bytes),
+            tags,
+            max_psa_size,
+        ),
         Request::SetConfiguration(_) | Request::SetInterface { .. } => Found::Next(known, request),
     }
 }
@@ -216,9 +218,7 @@ fn is_broken(known: Known, function: &UasFunction) -> bool
 {
     match (known.vendor, known.product) {
         (0x174c, 0x5106) => true,
-        (0x174c, 0x55aa) => {
-            function.pipes.status.max_streams == 5 && function.max_power != 0
-        }
+        (0x174c, 0x55aa) => { function.pipes.status.max_streams == 5 && function.max_power != 0 }
         _ => false,
     }
 }

@@ -1,0 +1,5 @@
+pub mod Requests
+pub mod Controls
+pub mod Findings
+pub mod Endings
+pub mod Disks

@@ -8,16 +8,16 @@ use Rattle.shared_machine.specs.Part.{Part}
 use Rattle.shared_machine.specs.Shared.{Shared}
 use Rattle.uas_log.specs.Booking.{log_replay}
 use Rattle.uas_work.specs.Booked.{BookedState, IsBooked}
-use Rattle.log_text.specs.Kept.{IsSavable}
+use Rattle.log_text.specs.Kept.{FitsText}
 use Rattle.booked_limits.specs.Fitting.{AreUnits, HasFields, IsUnit}
 use Rattle.booked_limits.proofs.FirstUnits.{first-units-fit}
 use Rattle.booked_limits.proofs.FineLogs.{log-fine, log-parts, true-logs-fit}
 
-pub booked-fits : (booked : BookedState) → IsBooked booked → AllByRecursion HasFields booked.log.steps → AreUnits booked.bus.parts → IsSavable booked.log
+pub booked-fits : (booked : BookedState) → IsBooked booked → AllByRecursion HasFields booked.log.steps → AreUnits booked.bus.parts → FitsText booked.log
 booked-fits booked it fields units =
     let left : AreUnits (log_replay booked.log).0.parts = subst (λ (state : Shared). AreUnits state.parts) (sym it.bus) units in
-    true-logs-fit booked.log it.log it.tags (omega (arith, it.within, it.limit))
-    (first-units-fit booked.log.units (log_replay booked.log).0.parts (log-parts booked.log) (log-fine booked.log it.log it.tags fields) left) fields
+    true-logs-fit booked.log it.log (omega (arith, it.within, it.limit))
+    (first-units-fit booked.log.units (log_replay booked.log).0.parts (log-parts booked.log) (log-fine booked.log it.log fields) left) fields
 
 -- one client's unit more
 pub units-more : (parts : List Part) (client : ℕ) (unit : BlockMaps)

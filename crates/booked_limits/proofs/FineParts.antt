@@ -1,11 +1,10 @@
 -- What is so of every task of a client, and of its unit, stays so by each act on the client's part; and only a Take brings a reply. Cited by
 -- FineSteps.
-use Rattle.std.proofs.Common.{◌≡◌, ℕ, suc, Bool, List, [], ◌∷◌, map, length, length-set, Option, Some, None, option_map, IfSome}
-use Rattle.std.proofs.Common.{refl, arith, ap, sym, subst, ◌∙◌}
+use Rattle.std.proofs.Common.{◌≡◌, ℕ, Bool, List, [], ◌∷◌, map, Option, Some, None, option_map, IfSome}
+use Rattle.std.proofs.Common.{refl, arith, sym, subst}
 use Rattle.std.specs.Prelude.{slice_set, option_and_then}
 use Rattle.std.proofs.lemmas.Option.{none-some}
 use Rattle.block_unit.specs.BlockMaps.{BlockMaps}
-use Rattle.uas_profile.specs.declared.TheConstants.{TAGS}
 use Rattle.uas_profile.specs.declared.Pipe.{Pipe}
 use Rattle.uas_profile.specs.declared.Place.{Place}
 use Rattle.scsi_cmd.specs.Held.{AllHeld, held_at}
@@ -29,7 +28,6 @@ IsFineEntry count entry = IsFine count entry.task
 
 -- a client's part, whose unit was this one at first
 pub record IsFinePart (first : BlockMaps) (part : Part) : Type 0 where
-  pub slots : length part.entries ≡ TAGS
   pub tasks : AllHeld (IsFineEntry part.unit.count) part.entries
   pub unit_same : IsSameUnit first part.unit
 
@@ -39,10 +37,6 @@ pub record IsFineAct (first : BlockMaps) (act : Act) : Type 0 where
   pub silent : act.reply ≡ None
 
 -- ENTRIES
-
-length-changed : (change : Entry → Entry) (entries : List (Option Entry)) → length (map (option_map change) entries) ≡ length entries
-length-changed change [] = refl
-length-changed change (held ∷ rest) = ap suc (length-changed change rest)
 
 changed-fine : (count : ℕ) (change : Entry → Entry) (entries : List (Option Entry)) → ((entry : Entry) → IsFineEntry count entry → IsFineEntry count (change entry))
     → AllHeld (IsFineEntry count) entries → AllHeld (IsFineEntry count) (map (option_map change) entries)
@@ -58,7 +52,6 @@ same_task-fine count was now same fine = subst (λ (task : TaggedTask). IsFine c
 pub written-fine : (first : BlockMaps) (part : Part) (slot : ℕ) (now : Option Entry) → IsFinePart first part → IfSome now (IsFineEntry part.unit.count)
     → IsFinePart first (record part { entries = slice_set part.entries slot now })
 written-fine first part slot now fine here = record {
-  slots = length-set part.entries slot now ∙ fine.slots;
   tasks = AllHeld-set (IsFineEntry part.unit.count) part.entries slot now fine.tasks here;
   unit_same = fine.unit_same;
 }
@@ -69,10 +62,6 @@ pub held-fine : (first : BlockMaps) (part : Part) (slot : ℕ) (entry : Entry) �
 held-fine first part slot entry fine is = AllHeld-held (IsFineEntry part.unit.count) part.entries slot entry fine.tasks is
 
 -- CARRY
-
-received-slots : (request : Request) (entries : List (Option Entry)) → length (entries_after request entries) ≡ length entries
-received-slots (Execute op) entries = refl
-received-slots (Manage what noted) entries = length-changed (noted_entry (ended_by what noted).items) entries
 
 received-fine : (count : ℕ) (request : Request) (entries : List (Option Entry)) → AllHeld (IsFineEntry count) entries
     → AllHeld (IsFineEntry count) (entries_after request entries)
@@ -95,7 +84,6 @@ carried_entry-fine first part place entry (Some after) fine held is =
     AllHeld-set (IsFineEntry part.unit.count) entries place.slot (Some now) (received-fine part.unit.count entry.task.request part.entries fine.tasks) task in
     record {
       part_fine = record {
-        slots = length-set entries place.slot (Some now) ∙ received-slots entry.task.request part.entries ∙ fine.slots;
         tasks = subst (λ n. AllHeld (IsFineEntry n) (slice_set entries place.slot (Some now))) (sym same.count) all;
         unit_same = same_unit-then first part.unit after.0 fine.unit_same same;
       };
@@ -128,7 +116,6 @@ moved_entry-fine first part place entry (Some after) wide fine held is =
     AllHeld-set (IsFineEntry part.unit.count) part.entries place.slot (Some now) fine.tasks it.task in
     record {
       part_fine = record {
-        slots = length-set part.entries place.slot (Some now) ∙ fine.slots;
         tasks = subst (λ n. AllHeld (IsFineEntry n) (slice_set part.entries place.slot (Some now))) (sym it.unit_same.count) all;
         unit_same = same_unit-then first part.unit after.0 fine.unit_same it.unit_same;
       };
@@ -162,22 +149,12 @@ send_act-fine first place part fine = sent_slot-fine first part place (held_at p
 
 -- EVENTS
 
-answered-slots : (request : Request) (entries : List (Option Entry)) → length (after_answer request entries) ≡ length entries
-answered-slots (Execute op) entries = refl
-answered-slots (Manage what noted) entries = length-changed (doomed (ended_by what noted).items) entries
-
 answered-fine : (count : ℕ) (request : Request) (entries : List (Option Entry)) → AllHeld (IsFineEntry count) entries
     → AllHeld (IsFineEntry count) (after_answer request entries)
 answered-fine count (Execute op) entries all = all
 answered-fine count (Manage what noted) entries all =
     changed-fine count (doomed (ended_by what noted).items) entries
     (λ entry fine. same_task-fine count entry (doomed (ended_by what noted).items entry) (doomed-task (ended_by what noted).items entry) fine) all
-
-after_event-slots : (event : Completion) (request : Request) (entries : List (Option Entry)) → length (after_event event request entries) ≡ length entries
-after_event-slots (CommandDone place) request entries = refl
-after_event-slots (DataDone place) request entries = refl
-after_event-slots (StatusDone place) request entries = answered-slots request entries
-after_event-slots (EngineDone place) request entries = refl
 
 after_event-fine : (count : ℕ) (event : Completion) (request : Request) (entries : List (Option Entry)) → AllHeld (IsFineEntry count) entries
     → AllHeld (IsFineEntry count) (after_event event request entries)
@@ -197,7 +174,6 @@ seen_entry-fine first event part slot change (Some was) (Some seen) fine at is s
     (same_task-fine part.unit.count was seen (same was seen is) (held-fine first part slot was fine at)) in
     record {
       part_fine = record {
-        slots = after_event-slots event seen.task.request (slice_set part.entries slot (Some seen)) ∙ wrote.slots;
         tasks = after_event-fine part.unit.count event seen.task.request (slice_set part.entries slot (Some seen)) wrote.tasks;
         unit_same = fine.unit_same;
       };

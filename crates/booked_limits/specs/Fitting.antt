@@ -10,7 +10,7 @@ use Rattle.shared_machine.specs.declared.Step.TheVariants.{Submit, Task, Command
 use Rattle.uas_log.specs.declared.Log.{Log}
 use Rattle.uas_log.specs.Booking.{IsReplay}
 use Rattle.log_text.specs.Text.{OpFits, UnitFits}
-use Rattle.log_text.specs.Kept.{IsSavable}
+use Rattle.log_text.specs.Kept.{FitsText, IsSavable}
 
 -- the block, the count and the allocation length that a submission names fit their fields; no other step names any
 abbrev pub HasFields : Step → Type 0
@@ -24,12 +24,14 @@ HasFields Event = Unit {0}
 HasFields (Retire pipe tag) = Unit {0}
 HasFields (Take client) = Unit {0}
 
--- A true log of 16 tags of each client and fewer than 2^32 steps has a text, where its units have whole blocks and its operations are
--- those of CDBs.
+-- A true log of fewer than 2^32 steps fits a text, where its units have whole blocks and its operations are those of CDBs.
 abbrev pub TrueLogsFit : Type 0
 TrueLogsFit =
-    (log : Log) → IsReplay log → log.tags ≡ TAGS → length log.steps < 2 ^ 32 → AllByRecursion UnitFits log.units → AllByRecursion HasFields log.steps
-    → IsSavable log
+    (log : Log) → IsReplay log → length log.steps < 2 ^ 32 → AllByRecursion UnitFits log.units → AllByRecursion HasFields log.steps → FitsText log
+
+-- With 16 tags of each client it has one of the second version.
+abbrev pub FittingLogsSave : Type 0
+FittingLogsSave = (log : Log) → IsReplay log → log.tags ≡ TAGS → FitsText log → IsSavable log
 
 -- a unit has 1 to 65,536 whole blocks, and its bad blocks are among them, rising
 pub record IsUnit (unit : BlockMaps) : Type 0 where

@@ -1,6 +1,7 @@
 //! The law of a bus with its log.
 ghost use Rattle.std.specs.Prelude.{◌≡◌};
-ghost use Rattle.log_text.specs.Kept.{IsSavable};
+ghost use Rattle.uas_profile.specs.declared.TheConstants.{TAGS};
+ghost use Rattle.log_text.specs.Kept.{FitsText, IsSavable};
 ghost use Rattle.booked_limits.specs.Fitting.{AreUnits, IsUnit};
 
 use crate::fields::have_fields;
@@ -8,9 +9,11 @@ use block_unit::Unit;
 use bus_core::Bus;
 use uas_work::Booked;
 
-/// Its log can be saved. Nothing is written, and nothing but the numbers that the law is about is read.
+/// Its log fits a text, and with 16 tags of each client it can be saved. Nothing is written, and nothing but the numbers that the law is
+/// about is read.
 pub fn booked_logs_fit(booked: &Booked)
-    ensures { IsSavable booked.now.log }
+    ensures fits { FitsText booked.now.log }
+    ensures savable { booked.now.log.tags ≡ TAGS → IsSavable booked.now.log }
 {
     let log = booked.log();
     have_fields(log.steps.as_slice());

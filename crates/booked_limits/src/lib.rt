@@ -1,7 +1,7 @@
 //! Laws: the log that a bus books always has a text.
 //!
-//! `log_text` writes the text of a log that is within the limits of its version (`IsSavable` in log_text specs/Kept.antt), and
-//! `log_limits` tests them. Of the log of a [`uas_work::Booked`] no test is needed: [`booked_logs_fit`] is that law, and [`true_logs_fit`]
+//! `log_text` writes the text of a log that is within the limits of its version (`IsSavable` in log_text specs/Kept.antt), `log_keeper` that
+//! of a log of any number of tags, and `log_limits` tests them. Of the log of a [`uas_work::Booked`] no test is needed: [`booked_logs_fit`] is that law, and [`true_logs_fit`]
 //! says where it comes from. A log is true where its refusals and replies are those of its replay. Then
 //!
 //! ```text
@@ -15,7 +15,7 @@
 //! reads them ([`have_fields`]). It stands on machine_invariant, log_text and uas_work.
 #![tactic(auto)]
 
-ghost use Rattle.booked_limits.specs.Fitting.{TrueLogsFit};
+ghost use Rattle.booked_limits.specs.Fitting.{FittingLogsSave, TrueLogsFit};
 
 mod booked;
 mod fields;
@@ -23,8 +23,9 @@ mod fields;
 pub use booked::booked_logs_fit;
 pub use fields::have_fields;
 
-/// A true log of 16 tags of each client and fewer than 2^32 steps fits the limits of its text, where its units and the numbers of its
-/// operations do.
+/// A true log of fewer than 2^32 steps fits the limits of its text, where its units and the numbers of its operations do; and one of 16
+/// tags of each client those of the second version.
 pub fn true_logs_fit()
-    ensures { TrueLogsFit }
+    ensures fit { TrueLogsFit }
+    ensures save { FittingLogsSave }
 {}

@@ -1,5 +1,5 @@
 -- A step's body is read again.
-use Rattle.std.proofs.Common.{◌≡◌, ℕ, ◌+◌, ◌^◌, ◌<◌, ◌≤◌, ◌==◌, Bool, true, false, cond, List, [], ◌∷◌, ◌++◌, length, Result, Ok, Err, Option, Some, None, refl, sym, ap, ◌∙◌, append_assoc, arith}
+use Rattle.std.proofs.Common.{◌≡◌, ℕ, ◌^◌, ◌<◌, ◌≤◌, ◌==◌, Bool, true, false, cond, List, [], ◌∷◌, ◌++◌, length, Result, Ok, Err, Option, Some, None, refl, sym, ap, ◌∙◌, append_assoc, arith}
 use Rattle.std.proofs.Math.Dec.{eqb-suc-zero}
 use Rattle.std.proofs.lemmas.List.{append-nil, length-append}
 use Rattle.scsi_cmd.specs.Replies.{reply_tag, reply_ticket}
@@ -8,9 +8,9 @@ use Rattle.log_text.specs.declared.LogFault.{LogFault}
 use Rattle.log_text.specs.declared.LogFault.TheVariants.{BadField, TrailingBytes}
 use Rattle.log_text.specs.declared.SavedReply.{SavedReply}
 use Rattle.log_text.specs.declared.Version.TheVariants.{Second}
-use Rattle.log_text.specs.Reading.{reply_at, step_at}
+use Rattle.log_text.specs.Reading.{reply_at}
 use Rattle.log_text.specs.Text.{ReplyFits, StepFits, field, reply_body, reply_kind, reply_text, step_text}
-use Rattle.log_text.proofs.TakenFields.{Within, number_again}
+use Rattle.log_text.proofs.TakenFields.{number_again}
 use Rattle.log_text.proofs.TakenSteps.{byte_within, reads_step}
 use Rattle.log_text.proofs.TakenReplies.{reads_reply}
 use Rattle.kept_log.specs.declared.Body.{Body}

@@ -1,27 +1,23 @@
 -- The bodies of records, taken and read again.
-use Rattle.std.proofs.Common.{◌≡◌, ℕ, zero, suc, ◌+◌, ◌^◌, ◌<◌, ◌≤◌, ◌==◌, Bool, true, false, cond, List, [], ◌∷◌, ◌++◌, length, Result, Ok, Err, Option, Some, None, refl, sym, ap, subst, ◌∙◌, append_assoc, arith, inl, inr}
+use Rattle.std.proofs.Common.{◌≡◌, ℕ, zero, suc, ◌^◌, ◌<◌, ◌≤◌, ◌==◌, Bool, true, false, cond, List, ◌++◌, length, Result, Ok, Err, Some, None, refl, sym, ap, subst, ◌∙◌, append_assoc, arith, inl, inr}
 use Rattle.std.specs.Prelude.{◌⊎◌}
 use Rattle.std.proofs.lemmas.Bool.{eqb-false, eqb-true}
 use Rattle.std.proofs.lemmas.List.{append-nil, nil_from_length}
 use Rattle.shared_machine.specs.declared.Step as machine
 use Rattle.log_text.specs.declared.LogFault.{LogFault}
 use Rattle.log_text.specs.declared.LogFault.TheVariants.{BadField, TrailingBytes}
-use Rattle.log_text.specs.declared.SavedReply.{SavedReply}
 use Rattle.log_text.specs.declared.Version.TheVariants.{Second}
-use Rattle.log_text.specs.Reading.{◌>>=◌, field_at, reply_at, step_at}
-use Rattle.log_text.specs.Text.{ReplyFits, StepFits, field, reply_text, step_text}
+use Rattle.log_text.specs.Reading.{field_at, reply_at, step_at}
+use Rattle.log_text.specs.Text.{StepFits, field, reply_text, step_text}
 use Rattle.log_text.proofs.Numbers.{IsBytes}
 use Rattle.log_text.proofs.ReadResults.{bind_ok, test_ok}
-use Rattle.log_text.proofs.TakenFields.{Taken, Takes, Within, number_again, number_taken, then_takes}
-use Rattle.log_text.proofs.TakenSteps.{byte_within, reads_step}
+use Rattle.log_text.proofs.TakenFields.{Takes, number_taken, then_takes}
+use Rattle.log_text.proofs.TakenSteps.{reads_step}
 use Rattle.log_text.proofs.TakenReplies.{reads_reply}
 use Rattle.kept_log.specs.declared.Body.{Body}
 use Rattle.kept_log.specs.declared.Body.TheVariants.{Step, End}
-use Rattle.kept_log.specs.declared.Entry.{Entry}
 use Rattle.kept_log.specs.declared.Entry.TheVariants.{Acted, Refused}
-use Rattle.kept_log.specs.declared.Why.{Why}
-use Rattle.kept_log.specs.declared.Why.TheVariants as why
-use Rattle.kept_log.specs.Form.{EntryFits, GivenFits, end_text, entry_text, given_text, is_take, why_number}
+use Rattle.kept_log.specs.Form.{EntryFits, end_text, entry_text, is_take, why_number}
 use Rattle.kept_log.specs.Reading.{acted_at, body_at, end_at, given_at, refused_at, why_of}
 
 -- the text of what a body says, and what fits

@@ -1,5 +1,5 @@
 -- What a head and a record's body say, or the first fault of their fields.
-use Rattle.std.specs.Prelude.{ℕ, ◌^◌, ◌==◌, if◌then◌else◌, List, length, Result, Ok, Err, Some, None}
+use Rattle.std.specs.Prelude.{ℕ, ◌==◌, if◌then◌else◌, List, length, Result, Ok, Err, Some, None}
 use Rattle.shared_machine.specs.declared.Step as machine
 use Rattle.uas_log.specs.declared.FirstUnit.{FirstUnit}
 use Rattle.log_text.specs.declared.LogFault.{LogFault}

@@ -1,9 +1,8 @@
--- A log that was kept, as one that is saved.
+-- A log that was kept, as it is replayed.
 use Rattle.std.specs.Prelude.{List, [], ◌∷◌, ◌++◌, option_to_list}
 use Rattle.shared_machine.specs.declared.Step.{Step}
 use Rattle.log_text.specs.declared.SavedReply.{SavedReply}
-use Rattle.log_text.specs.declared.Version.TheVariants.{Second}
-use Rattle.log_text.specs.Text.{Saved}
+use Rattle.log_text.specs.Plain.{Plain}
 use Rattle.kept_log.specs.declared.Entry.{Entry}
 use Rattle.kept_log.specs.declared.Entry.TheVariants.{Acted, Refused}
 use Rattle.kept_log.specs.Form.{Kept}
@@ -20,6 +19,6 @@ given_replies [] = []
 given_replies (Acted step given ∷ rest) = option_to_list given ++ given_replies rest
 given_replies (Refused step number ∷ rest) = given_replies rest
 
--- a log without its refused steps, as the second version has one of clients of 16 tags
-abbrev pub saved_of : Kept → Saved
-saved_of kept = record { version = Second; units = kept.units; steps = acted_steps kept.entries; replies = given_replies kept.entries }
+-- a log without its refused steps
+abbrev pub plain_of : Kept → Plain
+plain_of kept = record { tags = kept.tags; units = kept.units; steps = acted_steps kept.entries; replies = given_replies kept.entries }

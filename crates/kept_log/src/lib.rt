@@ -124,15 +124,6 @@ pub enum KeptFault {
     NoMemory,
 }
 
-/// Why a log has no saved form.
-#[derive(Clone, Copy, Debug, PartialEq, Eq, Error)]
-pub enum SavedFault {
-    #[error("clients of another number of tags than 16")]
-    OtherTags = 1,
-    #[error("no memory for the log")]
-    NoMemory,
-}
-
 /// Why a text isn't loaded that comes in parts.
 #[derive(Clone, Copy, Debug, PartialEq, Eq, Error)]
 pub enum PartsFault {

@@ -1,10 +1,10 @@
 //! What a log tells that was kept.
-ghost use Rattle.std.specs.Prelude.{◌≡◌, ◌≢◌, ◌↔◌, ◌∷◌, ◌++◌, [], IfOk, IsErrOf, OnOk, option_to_list};
+ghost use Rattle.std.specs.Prelude.{◌≡◌, ◌∷◌, ◌++◌, [], IfOk, OnOk, option_to_list};
 ghost use Rattle.uas_profile.specs.Tags.{AreTags};
-ghost use Rattle.kept_log.specs.Saved.{acted_steps, given_replies, saved_of};
+ghost use Rattle.kept_log.specs.Saved.{acted_steps, given_replies, plain_of};
 
-use crate::{Entry, KeptLog, SavedFault, Why};
-use log_text::{SavedLog, SavedReplies, SavedReply, Version};
+use crate::{Entry, KeptLog, Why};
+use log_text::{PlainLog, SavedReplies, SavedReply};
 use shared_machine::Step;
 use std::alloc::{AllocError, Global};
 use uas_log::{FirstUnit, Steps};
@@ -39,35 +39,23 @@ impl KeptLog {
         self.ending
     }
 
-    /// The log without its refused steps, as `load_log` gives one of the second version. Nothing is copied. `OtherTags` exactly where its
-    /// clients don't have 16 tags each, as those of that version do.
-    pub fn into_saved(self, alloc: Global) -> Result<SavedLog, SavedFault>
-        ensures saved { IfOk result (λ saved. saved ≡ saved_of self) }
-        ensures tags { OnOk result (self.tags ≡ 16) }
-        ensures other { IsErrOf result SavedFault.OtherTags ↔ (self.tags ≢ 16) }
+    /// The log without its refused steps, whose clients keep their number of tags. Nothing is copied.
+    pub fn into_plain(self, alloc: Global) -> Result<PlainLog, AllocError>
+        ensures { IfOk result (λ plain. plain ≡ plain_of self) }
     {
-        if self.tags != Version::Second.tags() {
-            return Err(SavedFault::OtherTags);
-        }
-        match self.saved(alloc) {
-            Ok(saved) => Ok(saved),
-            Err(_) => Err(SavedFault::NoMemory),
-        }
-    }
-
-    /// The log of clients of 16 tags without its refused steps.
-    fn saved(self, alloc: Global) -> Result<SavedLog, AllocError>
-        requires { self.tags ≡ 16 }
-        ensures { IfOk result (λ saved. saved ≡ saved_of self) }
-    {
-        let KeptLog { units, entries, .. } = self;
+        let KeptLog {
+            tags,
+            units,
+            entries,
+            ..
+        } = self;
         let mut steps = Vec::new(alloc);
         let mut replies = Vec::new(alloc);
         for entry in entries.into_vec() {
             put_entry(&mut steps, &mut replies, entry)?;
         }
-        Ok(SavedLog::from_parts(
-            Version::Second,
+        Ok(PlainLog::from_parts(
+            tags,
             units,
             Steps::from_vec(steps),
             SavedReplies::from_vec(replies),

@@ -1,16 +1,15 @@
-use Rattle.std.proofs.Common.{◌≡◌, ℕ, List, [], ◌∷◌, ◌++◌, length, map, refl, sym, ap, subst, ◌∙◌}
+use Rattle.std.proofs.Common.{◌≡◌, ℕ, List, [], ◌∷◌, ◌++◌, map, refl, sym, ap, ◌∙◌}
 use Rattle.std.proofs.lemmas.Iterator.Adapters.{YieldsList-from_vec}
 use Rattle.std.proofs.lemmas.Iterator.Consumers.{YieldsList-end}
 use Rattle.shared_machine.specs.declared.Step.{Step}
 use Rattle.log_text.specs.declared.SavedReply.{SavedReply}
-use Rattle.log_text.specs.declared.Version.TheVariants.{Second}
-use Rattle.log_text.specs.Text.{IsWithin, Saved}
+use Rattle.log_text.specs.Plain.{Plain}
 use Rattle.uas_log.specs.declared.FirstUnit.{FirstUnit}
 use Rattle.kept_log.specs.declared.Entry.{Entry}
 use Rattle.kept_log.specs.Form.{Kept}
-use Rattle.kept_log.specs.Saved.{acted_steps, given_replies, saved_of}
-use Rattle.kept_log.proofs.SavedOf.{replies_more, saved_within, steps_more}
-use Rattle.kept_log.proofs.KeptLog.saved.Goals as goal
+use Rattle.kept_log.specs.Saved.{acted_steps, given_replies, plain_of}
+use Rattle.kept_log.proofs.SavedOf.{plain_fits, replies_more, steps_more}
+use Rattle.kept_log.proofs.KeptLog.into_plain.Goals as goal
 
 as_they_are : (entries : List Entry) → map (λ entry. entry) entries ≡ entries
 as_they_are [] = refl
@@ -26,8 +25,8 @@ loop-entry-preserved c =
           ∙ sym (replies_more l.yielded more);
     }
 
-abbrev parts : List FirstUnit → List Step → List SavedReply → Saved
-parts units steps replies = record { version = Second; units = units; steps = steps; replies = replies }
+abbrev parts : ℕ → List FirstUnit → List Step → List SavedReply → Plain
+parts tags units steps replies = record { tags = tags; units = units; steps = steps; replies = replies }
 
 pub from_parts-requires : goal.from_parts-requires
 from_parts-requires c =
@@ -38,7 +37,7 @@ from_parts-requires c =
     let whole : c.loop-entry.yielded ≡ inside.entries = sym (as_they_are c.loop-entry.yielded) ∙ t.0 ∙ c.into_vec-entry-items.ensures in
     let steps : c.from_vec.result ≡ acted_steps inside.entries = c.from_vec.ensures ∙ c.loop-entry.invariant.steps ∙ ap acted_steps whole in
     let replies : c.from_vec-2.result ≡ given_replies inside.entries = c.from_vec-2.ensures ∙ c.loop-entry.invariant.replies ∙ ap given_replies whole in
-    rw (steps, replies) (saved_within inside (ap (λ (kept : Kept). kept.tags) c.self.view_is ∙ c.requires) c.self.invariant)
+    rw (steps, replies) (plain_fits inside c.self.invariant)
 
 pub returns : goal.returns
 returns c =
@@ -49,6 +48,6 @@ returns c =
     let whole : c.loop-entry.yielded ≡ inside.entries = sym (as_they_are c.loop-entry.yielded) ∙ t.0 ∙ c.into_vec-entry-items.ensures in
     let steps : c.from_vec.result ≡ acted_steps inside.entries = c.from_vec.ensures ∙ c.loop-entry.invariant.steps ∙ ap acted_steps whole in
     let replies : c.from_vec-2.result ≡ given_replies inside.entries = c.from_vec-2.ensures ∙ c.loop-entry.invariant.replies ∙ ap given_replies whole in
-    c.from_parts.ensures ∙ ap (λ (list : List Step). parts inside.units list c.from_vec-2.result) steps
-    ∙ ap (λ (list : List SavedReply). parts inside.units (acted_steps inside.entries) list) replies
-    ∙ ap saved_of c.self.view_is
+    c.from_parts.ensures ∙ ap (λ (list : List Step). parts inside.tags inside.units list c.from_vec-2.result) steps
+    ∙ ap (λ (list : List SavedReply). parts inside.tags inside.units (acted_steps inside.entries) list) replies
+    ∙ ap plain_of c.self.view_is

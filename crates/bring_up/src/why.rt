@@ -44,4 +44,16 @@ pub enum Why {
     NoCompanion,
     #[error("USB Attached SCSI doesn't work on this bridge")]
     BrokenUas,
+    #[error("the pipes can't be configured")]
+    NotConfigured,
+    #[error("not a direct access block device")]
+    NotADisk,
+    #[error("there is no medium")]
+    NoMedium,
+    #[error("the disk doesn't become ready")]
+    NeverReady,
+    #[error("the disk doesn't tell its size")]
+    BadCapacity,
+    #[error("blocks of fewer than 512 or more than 4096 bytes")]
+    BlockLength,
 }

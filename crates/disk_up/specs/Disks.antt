@@ -12,7 +12,7 @@ use Rattle.bring_up.specs.Calls.{answered as driver_answered, at_time, begun, dr
 use Rattle.bring_up.specs.Table.{word_in}
 use Rattle.disk_up.specs.declared.DiskUp.{DiskUp}
 use Rattle.disk_up.specs.declared.finding.FindStep.{FindStep}
-use Rattle.disk_up.specs.declared.finding.FindStep.TheVariants.{Send, Serve, Take, Clear, ServeClear, Configured}
+use Rattle.disk_up.specs.declared.finding.FindStep.TheVariants.{Send, Serve, Take, Clear, ServeClear, Pipes, Configured}
 use Rattle.disk_up.specs.declared.finding.Finding.{Finding}
 use Rattle.disk_up.specs.Endings.{advanced}
 use Rattle.disk_up.specs.Findings.{World, begun_finding, find_access}
@@ -108,6 +108,7 @@ step_configured (Serve request moved ended service) = false
 step_configured (Take request moved) = false
 step_configured (Clear clearing at) = false
 step_configured (ServeClear clearing came service) = false
+step_configured (Pipes function streams at) = false
 step_configured Configured = true
 
 abbrev pub is_configured : DiskUp → Bool

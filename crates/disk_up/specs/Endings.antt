@@ -6,8 +6,9 @@ use Rattle.bring_up.specs.declared.service.Served.TheVariants.{On, Closed, Broke
 use Rattle.bring_up.specs.declared.service.Service.{Service}
 use Rattle.bring_up.specs.declared.service.Serving.{Serving}
 use Rattle.bring_up.specs.declared.service.Serving.TheVariants as serving
+use Rattle.bring_up.specs.declared.why.Why.TheVariants.{NotConfigured}
 use Rattle.bring_up.specs.CommandRings.{begun_command, command_address, next_command}
-use Rattle.bring_up.specs.Completions.{restarted, tried_again}
+use Rattle.bring_up.specs.Completions.{given_up, restarted, tried_again}
 use Rattle.bring_up.specs.Services.{closing, next_event, passed, rested, service_after, taken_event}
 use Rattle.host_trbs.specs.declared.events.Completion.{Completion}
 use Rattle.host_trbs.specs.declared.events.Completion.TheVariants.{Success}
@@ -17,7 +18,7 @@ use Rattle.host_trbs.specs.Events.{completion_in}
 use Rattle.disk_up.specs.declared.control.Seen.{Seen}
 use Rattle.disk_up.specs.declared.control.Seen.TheVariants as seen
 use Rattle.disk_up.specs.declared.finding.Clearing.{Clearing}
-use Rattle.disk_up.specs.declared.finding.Clearing.TheVariants.{Reset, Move}
+use Rattle.disk_up.specs.declared.finding.Clearing.TheVariants.{Reset, Move, Configure}
 use Rattle.disk_up.specs.declared.finding.Ending.{Ending}
 use Rattle.disk_up.specs.declared.finding.Ending.TheVariants.{Done, Stalled, Failed}
 use Rattle.disk_up.specs.declared.finding.FindStep.{FindStep}
@@ -26,7 +27,8 @@ use Rattle.disk_up.specs.declared.finding.Finding.{Finding}
 use Rattle.disk_up.specs.declared.requests.Request.{Request}
 use Rattle.disk_up.specs.declared.requests.Request.TheVariants.{ConfigurationHead}
 use Rattle.disk_up.specs.Controls.{event_seen, send_after}
-use Rattle.disk_up.specs.Findings.{World, clearing_put, in_next_third, in_step, requested, sent, set_done, taken_answer, with_find, with_taken}
+use Rattle.disk_up.specs.Findings.{World, clearing_put, in_next_third, in_step, piped, requested, sent, set_done, taken_answer, with_find, with_taken}
+use Rattle.disk_up.specs.PipeRows.{pipes_after}
 use Rattle.disk_up.specs.Requests.{may_stall, packet_of}
 
 -- A TRANSFER
@@ -98,10 +100,17 @@ clear_on f clearing came service = in_step f (step.ServeClear clearing came serv
 abbrev pub cleared_as : World → Clearing → World
 cleared_as w Reset = with_find w (in_step w.finding (step.Clear Move (begun_command w.taken.commands)))
 cleared_as w Move = with_find w (requested w.finding ConfigurationHead)
+cleared_as w Configure = with_find w (in_step w.finding step.Configured)
+
+-- a device whose pipes can't be configured isn't used; another command that fails is the controller's fault
+abbrev pub uncleared : World → Clearing → ℕ → World
+uncleared w Reset now = with_taken w (restarted w.taken now)
+uncleared w Move now = with_taken w (restarted w.taken now)
+uncleared w Configure now = with_taken w (given_up w.taken NotConfigured)
 
 abbrev pub cleared : World → Clearing → Completion → ℕ → World
 cleared w clearing Success now = cleared_as w clearing
-cleared w clearing _ now = with_taken w (restarted w.taken now)
+cleared w clearing _ now = uncleared w clearing now
 
 abbrev pub clear_closed : World → Clearing → Option Completed → Service → ℕ → World
 clear_closed w clearing (Some ended) service now =
@@ -147,6 +156,8 @@ step_advanced (step.Serve request moved ended service) w tags now value bytes = 
 step_advanced (step.Take request moved) w tags now value bytes = taken_answer w request tags bytes
 step_advanced (step.Clear clearing at) w tags now value bytes = with_find w (clearing_put w.finding clearing at now)
 step_advanced (step.ServeClear clearing came service) w tags now value bytes = clear_served w clearing came service now value bytes
+step_advanced (step.Pipes function streams at) w tags now value bytes =
+    with_find w (piped w.finding w.taken.commands function streams (pipes_after at w.taken.layout streams))
 step_advanced step.Configured w tags now value bytes = w
 
 abbrev pub advanced : World → ℕ → ℕ → ℕ → List ℕ → World

@@ -2,33 +2,37 @@
 use Rattle.std.specs.Prelude.{ℕ, ◌-◌, ◌^◌, ◌==◌, not, if◌then◌else◌, Bool, true, false, Option, Some, None, List}
 use Rattle.bring_up.specs.declared.access.Access.{Access}
 use Rattle.bring_up.specs.declared.access.Access.TheVariants.{Rest}
+use Rattle.bring_up.specs.declared.commands.CommandRing.{CommandRing}
 use Rattle.bring_up.specs.declared.commands.Putting.{Putting}
 use Rattle.bring_up.specs.declared.commands.Putting.TheVariants as putting
 use Rattle.bring_up.specs.declared.taken.Taken.{Taken}
 use Rattle.bring_up.specs.Accesses.{load_in}
-use Rattle.bring_up.specs.CommandRings.{command_put}
+use Rattle.bring_up.specs.CommandRings.{begun_command, command_put}
 use Rattle.bring_up.specs.Completions.{given_up}
 use Rattle.bring_up.specs.Services.{service_access, service_begun}
 use Rattle.host_layout.specs.declared.layout.Area.TheVariants.{At}
-use Rattle.host_layout.specs.declared.layout.Fixed.TheVariants.{Buffer}
+use Rattle.host_layout.specs.declared.layout.Fixed.TheVariants.{Buffer, InputContext}
 use Rattle.host_layout.specs.Places.{address_of}
 use Rattle.host_trbs.specs.declared.commands.Command.{Command}
-use Rattle.host_trbs.specs.declared.commands.Command.TheVariants.{ResetEndpoint, SetDequeue}
+use Rattle.host_trbs.specs.declared.commands.Command.TheVariants.{ConfigureEndpoint, ResetEndpoint, SetDequeue}
 use Rattle.host_trbs.specs.Commands.{command_words}
 use Rattle.usb_descriptors.specs.declared.UasFunction.{UasFunction}
 use Rattle.usb_descriptors.specs.declared.stream_tags.Streams.{Streams}
 use Rattle.disk_up.specs.declared.control.Sending.{Sending}
 use Rattle.disk_up.specs.declared.control.Sending.TheVariants.{Zeros}
 use Rattle.disk_up.specs.declared.finding.Clearing.{Clearing}
-use Rattle.disk_up.specs.declared.finding.Clearing.TheVariants.{Reset, Move}
+use Rattle.disk_up.specs.declared.finding.Clearing.TheVariants.{Reset, Move, Configure}
 use Rattle.disk_up.specs.declared.finding.FindStep.{FindStep}
 use Rattle.disk_up.specs.declared.finding.FindStep.TheVariants as step
 use Rattle.disk_up.specs.declared.finding.Finding.{Finding}
+use Rattle.disk_up.specs.declared.pipes.Piping.{Piping}
+use Rattle.disk_up.specs.declared.pipes.Piping.TheVariants.{Zero}
 use Rattle.disk_up.specs.declared.requests.Found.{Found}
 use Rattle.disk_up.specs.declared.requests.Found.TheVariants.{Refused, Next}
 use Rattle.disk_up.specs.declared.requests.Request.{Request}
 use Rattle.disk_up.specs.declared.requests.Request.TheVariants as request
 use Rattle.disk_up.specs.Controls.{at_or_zero, next_third, send_access, send_after, trb_in}
+use Rattle.disk_up.specs.PipeRows.{pipes_access, pipes_after}
 use Rattle.disk_up.specs.Requests.{packet_of, read_answer}
 
 -- what is known of the device, and the controller
@@ -54,10 +58,11 @@ begun_finding = record {
 
 -- THE ACCESS
 
--- 4.6.8, 4.6.10: endpoint 0 goes on at the next third
+-- 4.6.8, 4.6.10: endpoint 0 goes on at the next third; 4.6.6
 abbrev pub clearing_command : World → Clearing → Command
 clearing_command w Reset = ResetEndpoint w.taken.device.slot 1
 clearing_command w Move = SetDequeue (at_or_zero (trb_in w.taken.layout w.finding.third 0)) 0 w.taken.device.slot 1
+clearing_command w Configure = ConfigureEndpoint (address_of w.taken.layout (At InputContext)) w.taken.device.slot
 
 abbrev pub clearing_access : World → Clearing → Putting → Access
 clearing_access w clearing at =
@@ -70,6 +75,7 @@ step_access (step.Serve request moved ended service) w = service_access service 
 step_access (step.Take request moved) w = load_in (Some (address_of w.taken.layout (At Buffer))) moved
 step_access (step.Clear clearing at) w = clearing_access w clearing at
 step_access (step.ServeClear clearing came service) w = service_access service w.taken.controller w.taken.layout w.taken.events
+step_access (step.Pipes function streams at) w = pipes_access at w.taken.layout w.taken.device function.pipes streams
 step_access step.Configured w = Rest (2 ^ 64 - 1)
 
 abbrev pub find_access : World → Access
@@ -97,15 +103,27 @@ clearing_put f clearing putting.Body now = in_step f (step.Clear clearing puttin
 clearing_put f clearing putting.Last now = in_step f (step.Clear clearing putting.Bell)
 clearing_put f clearing putting.Bell now = in_step f (step.ServeClear clearing None (service_begun now 5000))
 
--- 13: SET_INTERFACE where the setting isn't 0
-abbrev pub set_configured : Finding → Option (UasFunction × Streams) → Finding
-set_configured f None = in_step f step.Configured
-set_configured f (Some disk) =
-    if not (disk.0.alternate == 0) then requested f (request.SetInterface disk.0.interface disk.0.alternate) else in_step f step.Configured
+-- 14: the stores, then Configure Endpoint
+abbrev pub piped : Finding → CommandRing → UasFunction → Streams → Option Piping → Finding
+piped f commands function streams (Some at) = in_step f (step.Pipes function streams at)
+piped f commands function streams None = in_step f (step.Clear Configure (begun_command commands))
+
+-- 13: SET_INTERFACE where the setting isn't 0; then the pipes, from page 1 on, the input context
+abbrev pub pipes_begun : Finding → UasFunction → Streams → Finding
+pipes_begun f function streams = in_step f (step.Pipes function streams (Zero 1))
+
+abbrev pub set_for : Finding → Request → UasFunction → Streams → Finding
+set_for f (request.SetConfiguration value) function streams =
+    if not (function.alternate == 0) then requested f (request.SetInterface function.interface function.alternate)
+    else pipes_begun f function streams
+set_for f _ function streams = pipes_begun f function streams
+
+abbrev pub set_with : Finding → Request → Option (UasFunction × Streams) → Finding
+set_with f next None = requested f request.Device
+set_with f next (Some disk) = set_for f next disk.0 disk.1
 
 abbrev pub set_done : Finding → Request → Finding
-set_done f (request.SetConfiguration value) = set_configured f f.known.disk
-set_done f _ = in_step f step.Configured
+set_done f next = set_with f next f.known.disk
 
 abbrev pub in_next_third : Finding → Finding
 in_next_third f = record f { third = next_third f.third }

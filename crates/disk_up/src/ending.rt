@@ -6,7 +6,7 @@ ghost use Rattle.disk_up.specs.Endings.{clear_closed, clear_event, clear_served,
 use crate::control::{Seen, event_seen};
 use crate::finding::{Clearing, Ending, FindStep, Finding};
 use crate::requests::Request;
-use bring_up::{Completed, Served, Service, Serving, Taken, taken_event};
+use bring_up::{Completed, Served, Service, Serving, Taken, Why, taken_event};
 use host_trbs::{Completion, Event};
 
 impl Finding {
@@ -311,7 +311,9 @@ impl Finding {
                 };
             }
             (Completion::Success, Clearing::Move) => self.request(Request::ConfigurationHead),
-            _ => taken.restart(now),
+            (Completion::Success, Clearing::Configure) => self.step = FindStep::Configured,
+            (_, Clearing::Configure) => taken.give_up(Why::NotConfigured),
+            (_, Clearing::Reset | Clearing::Move) => taken.restart(now),
         }
     }
 }

@@ -1,13 +1,15 @@
 //! Rows 12 and 13: a device is asked what it is, and configured (xHCI 1.2, 4.11.2.2; USB 3.2, 9.4 and 9.6).
 ghost use Rattle.std.specs.Prelude.{◌≡◌, not};
-ghost use Rattle.disk_up.specs.Findings.{World, begun_finding, clearing_access, clearing_command, clearing_put, find_access, in_next_third, requested, sent, set_done, taken_answer};
+ghost use Rattle.disk_up.specs.Findings.{World, begun_finding, clearing_access, clearing_command, clearing_put, find_access, in_next_third, piped, requested, sent, set_done, set_for, taken_answer};
 ghost use Rattle.disk_up.specs.Endings.{advanced};
 
 use crate::control::{Sending, next_third, send_access, send_after, trb_in};
+use crate::pipes::Piping;
 use crate::requests::{Found, Known, Request, read_answer};
 use bring_up::{Access, Completed, Putting, Service, Taken, load_in};
 use host_layout::Fixed;
 use host_trbs::Command;
+use usb_descriptors::{Streams, UasFunction};
 
 /// How a transfer ended.
 #[derive(Clone, Copy)]
@@ -17,11 +19,14 @@ pub enum Ending {
     Failed,
 }
 
-/// The two commands behind a request that the device refused: Reset Endpoint, then Set TR Dequeue Pointer to the next third.
+/// A command for the device.
 #[derive(Clone, Copy)]
 pub enum Clearing {
+    /// Behind a request that the device refused: Reset Endpoint, then Set TR Dequeue Pointer to the next third.
     Reset,
     Move,
+    /// Configure Endpoint: the pipes are there.
+    Configure,
 }
 
 /// What of rows 12 and 13 comes next.
@@ -54,7 +59,13 @@ pub enum FindStep {
         came: Option<Completed>,
         service: Service,
     },
-    /// The device is configured.
+    /// The pipes' rings, arrays and contexts are stored.
+    Pipes {
+        function: UasFunction,
+        streams: Streams,
+        at: Piping,
+    },
+    /// The device is configured, and so are its pipes.
     Configured,
 }
 
@@ -111,6 +122,11 @@ impl Finding {
                 u32::from(moved),
             ),
             FindStep::Clear { clearing, at } => self.clearing_access(taken, clearing, at),
+            FindStep::Pipes {
+                function,
+                streams,
+                at,
+            } => at.access(&taken.layout, taken.device, &function.pipes, streams),
             FindStep::Configured => Access::Rest(u64::MAX),
         }
     }
@@ -145,6 +161,10 @@ impl Finding {
                 slot: taken.device.slot,
                 endpoint: CONTROL_ENDPOINT,
             },
+            Clearing::Configure => Command::ConfigureEndpoint {
+                input: taken.layout.fixed(Fixed::InputContext),
+                slot: taken.device.slot,
+            },
         }
     }
 
@@ -174,6 +194,11 @@ impl Finding {
                 came,
                 service,
             } => self.serve_clear(taken, clearing, came, service, now, value, bytes),
+            FindStep::Pipes {
+                function,
+                streams,
+                at,
+            } => self.piped(taken, function, streams, at.after(&taken.layout, streams)),
             FindStep::Configured => {}
         }
     }
@@ -247,18 +272,56 @@ impl Finding {
         };
     }
 
-    /// Behind a request that has no answer's bytes.
+    /// The next store of row 14, or its command.
+    fn piped(
+        &mut self,
+        taken: &Taken,
+        function: UasFunction,
+        streams: Streams,
+        next: Option<Piping>,
+    )
+        ensures { self.new ≡ piped self.old taken.now.commands function streams next }
+    {
+        self.step = match next {
+            Some(at) => FindStep::Pipes {
+                function,
+                streams,
+                at,
+            },
+            None => FindStep::Clear {
+                clearing: Clearing::Configure,
+                at: taken.commands.begun_command(),
+            },
+        };
+    }
+
+    /// Behind a request that has no answer's bytes: the setting, where it isn't 0, and then the pipes.
     pub(crate) fn set_done(&mut self, request: Request)
         ensures { self.new ≡ set_done self.old request }
     {
-        match (request, self.known.disk) {
-            (Request::SetConfiguration(_), Some((function, _))) if function.alternate != 0 => {
+        match self.known.disk {
+            Some((function, streams)) => self.set_for(request, function, streams),
+            None => self.request(Request::Device),
+        }
+    }
+
+    fn set_for(&mut self, request: Request, function: UasFunction, streams: Streams)
+        ensures { self.new ≡ set_for self.old request function streams }
+    {
+        match request {
+            Request::SetConfiguration(_) if function.alternate != 0 => {
                 self.request(Request::SetInterface {
                     interface: function.interface,
                     alternate: function.alternate,
                 });
             }
-            _ => self.step = FindStep::Configured,
+            _ => {
+                self.step = FindStep::Pipes {
+                    function,
+                    streams,
+                    at: Piping::Zero(1),
+                };
+            }
         }
     }
 

@@ -1,11 +1,11 @@
-//! A device that has its address is asked what it is, and configured: rows 12 and 13 of a disk's bring-up (USB 3.2, 9.4 and 9.6).
+//! A device that has its address is asked what it is, and configured with its pipes (USB 3.2, 9.4 and 9.6; xHCI 1.2, 4.6.6).
 //!
 //! | Request | Leads to |
 //! |---|---|
 //! | the device descriptor | `Why` it is refused: `BadDevice`, `Hub` |
 //! | the BOS, its first 5 bytes, then all | a device may refuse it: endpoint 0 is cleared, by Reset Endpoint and Set TR Dequeue Pointer |
 //! | configuration 0, its first 9 bytes, then all | `LongConfiguration`, `BadDescriptor`, `NoUas`, `BadPipes`, `NoCompanion`, `BrokenUas`, `NoStreams` |
-//! | SET_CONFIGURATION; SET_INTERFACE where the setting isn't 0 | the device is configured |
+//! | SET_CONFIGURATION; SET_INTERFACE where the setting isn't 0 | the pipes: rings, stream arrays and contexts, then Configure Endpoint; `NotConfigured` |
 //!
 //! [`DiskUp`] owns a [`BringUp`], tells its accesses until it has a device with an address, and then its own. Each request has 5,000 ms; one that
 //! fails, or has no end in time, has the whole device tried again from its port's reset on, twice. A transfer stands alone in its third of
@@ -26,11 +26,15 @@ ghost use Rattle.disk_up.specs.Disks.{answered, begun_disk, disk_access, disk_ad
 mod control;
 mod ending;
 mod finding;
+mod laws;
+mod pipes;
 mod requests;
 
 use bring_up::{Access, AnswerFault, BringUp, Options, Stage, fits, is_gone, word_in};
 pub use control::{Seen, Sending};
 pub use finding::{Clearing, Ending, FindStep, Finding};
+pub use laws::contexts_are_added;
+pub use pipes::{DiskPipe, Piping};
 pub use requests::{Found, Known, Request};
 
 /// A controller that is brought up, and the disk behind it.

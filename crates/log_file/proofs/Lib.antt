@@ -1,1 +1,2 @@
 mod Gaves
+mod GivenRecords

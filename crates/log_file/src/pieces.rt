@@ -14,7 +14,7 @@ use shared_machine::Step;
 use uas_log::Log;
 
 /// How many bytes go out at once, or more.
-const PIECE_BYTES: usize = 65_536;
+pub(crate) const PIECE_BYTES: usize = 65_536;
 
 /// Gives what stands before the steps: the header and the units.
 pub(crate) fn give_front<O: Sink>(

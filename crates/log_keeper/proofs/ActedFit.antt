@@ -1,13 +1,12 @@
--- The steps of a log that can be saved which weren't refused are within the limits.
+-- The steps of a log that fits a text which weren't refused are within the limits.
 use Rattle.std.proofs.Common.{◌≡◌, ℕ, zero, suc, ◌==◌, Bool, true, false, cond, List, [], ◌∷◌, length, map, None, Some, refl, sym, subst}
 use Rattle.std.specs.List.{AllByRecursion}
 use Rattle.std.proofs.Math.Dec.{eqb-suc-zero}
 use Rattle.scsi_cmd.specs.declared.Reply.{Reply}
 use Rattle.shared_machine.specs.declared.Step.{Step}
 use Rattle.uas_log.specs.declared.Log.{Log}
-use Rattle.log_text.specs.declared.Version.{Version}
 use Rattle.log_text.specs.declared.Version.TheVariants.{Second}
-use Rattle.log_text.specs.Kept.{IsSavable, kept, version_with, with_client}
+use Rattle.log_text.specs.Kept.{FitsText, kept, with_client}
 use Rattle.log_text.specs.Text.{ReplyFits, StepFits}
 use Rattle.kept_log.specs.declared.Entry.{Entry}
 use Rattle.kept_log.specs.declared.Entry.TheVariants.{Acted, Refused}
@@ -60,10 +59,5 @@ acted_fit clients tags (step ∷ steps) (number ∷ numbers) (reply ∷ replies)
     ))
     (λ bare. (bare_fits clients number step steps numbers fit, acted_fit clients tags steps numbers (reply ∷ replies) rest given))
 
--- a log of clients with 16 tags each
-pub acted_steps : (log : Log) → log.tags ≡ 16 → IsSavable log → AllActedFit (length log.units) (log_entries log)
-acted_steps log sixteen savable =
-    acted_fit (length log.units) log.tags log.steps log.refusals log.replies
-    (subst (λ (version : Version). AllByRecursion (StepFits version (length log.units)) (kept log.steps log.refusals))
-    (subst (λ tags. version_with tags ≡ Second) (sym sixteen) refl) savable.within.steps)
-    savable.within.replies
+pub acted_steps : (log : Log) → FitsText log → AllActedFit (length log.units) (log_entries log)
+acted_steps log fits = acted_fit (length log.units) log.tags log.steps log.refusals log.replies fits.steps_fit fits.replies_fit

@@ -1,5 +1,5 @@
 //! The records of the steps behind a place.
-ghost use Rattle.std.specs.Prelude.{◌≡◌, ◌+◌, ◌<◌, ◌≤◌, ◌++◌, ◌⊎◌, ◌&&◌, ◌↔◌, nat_lt, IfErr, IfOk, IsErr, IsErrOf, IsTrue, Ok, OnErr, OnOk, Some, [], length};
+ghost use Rattle.std.specs.Prelude.{◌≡◌, ◌+◌, ◌<◌, ◌≤◌, ◌++◌, ◌⊎◌, ◌&&◌, ◌↔◌, nat_lt, IfErr, IfOk, IsErr, IsErrOf, IsTrue, Ok, OnErr, OnOk, Some, [], false, true, length};
 ghost use Rattle.log_records.specs.Records.{record_text, sum_after};
 ghost use Rattle.log_text.specs.declared.Version.TheVariants.{Second};
 ghost use Rattle.log_text.specs.Kept.{with_client};
@@ -25,6 +25,7 @@ pub fn begin(alloc: Global, log: &Log, text: &mut Vec<u8>) -> Result<Place, Keep
     ensures text { OnOk result (text.new.items ≡ text.old.items ++ head_text log.now.tags log.now.units) }
     ensures place { IfOk result (λ place. place ≡ record { steps = 0; replies = 0; sum = head_sum log.now.tags log.now.units }) }
     ensures same { OnErr result (text.new.items ≡ text.old.items) }
+    ensures units { OnOk result (AreUnits log.now.tags log.now.units) }
     ensures limits { IsErrOf result KeepFault.Limits ↔ (AreUnits log.now.tags log.now.units → ⊥) }
 {
     let units = log.units.as_slice();
@@ -71,6 +72,34 @@ pub fn add_records(
         add_next(alloc, log, place, text)?;
     }
     Ok(())
+}
+
+/// Adds the records of a log's steps behind a place to a text until it has so many bytes, and moves the place behind them: whether none is
+/// left. At least one is added where any is left; else as [`add_records`].
+pub fn add_some(
+    alloc: Global,
+    log: &Log,
+    place: &mut Place,
+    text: &mut Vec<u8>,
+    enough: usize,
+) -> Result<bool, KeepFault>
+    requires few { length log.now.units ≤ 31 }
+    requires tags { 1 ≤ log.now.tags }
+    ensures added { Added log.now place.old text.old.items place.new text.new.items }
+    ensures none { result ≡ Ok true → entries_behind log.now place.new ≡ [] }
+    ensures enough { result ≡ Ok false → enough ≤ length text.new.items }
+    ensures goes { result ≡ Ok false → place.old.steps < place.new.steps }
+    ensures within { result ≡ Ok false → place.new.steps ≤ length log.now.steps }
+    ensures limits { IfErr result (λ fault. fault ≡ KeepFault.Limits → FirstFits (length log.now.units) (entries_behind log.now place.new) → ⊥) }
+{
+    let told = told_steps(log);
+    while place.steps < told {
+        add_next(alloc, log, place, text)?;
+        if text.len() >= enough {
+            return Ok(false);
+        }
+    }
+    Ok(true)
 }
 
 /// How many steps there are whose refusal's number is there too.

@@ -3,8 +3,7 @@ ghost use Rattle.std.specs.Prelude.{◌≡◌, ℕ, List, [], ◌++◌, length};
 ghost use Rattle.scsi_cmd.specs.declared.Reply.{Reply};
 ghost use Rattle.shared_machine.specs.declared.Step.{Step};
 ghost use Rattle.uas_log.specs.declared.Log.{Log};
-ghost use Rattle.uas_profile.specs.declared.TheConstants.{TAGS};
-ghost use Rattle.log_text.specs.Kept.{IsSavable};
+ghost use Rattle.log_text.specs.Kept.{FitsText};
 ghost use Rattle.kept_log.specs.Form.{front_text};
 ghost use Rattle.log_keeper.specs.declared.Place.{Place};
 ghost use Rattle.log_keeper.specs.Entries.{Added, AllActedFit, StandsAt, entries_before, entries_behind, entries_of, given_count, log_entries};
@@ -24,7 +23,7 @@ pub fn steps_go_on()
         → entries_of tags (steps ++ more) (numbers ++ others) (replies ++ next) ≡ entries_of tags steps numbers replies ++ entries_of tags more others next }
 {}
 
-/// In a log that can be saved only a step that was refused can be past the limits of a kept log's text.
+/// In a log that fits a text, of any number of tags, only a step that was refused can be past the limits of a kept log's text.
 pub fn acted_steps_fit()
-    ensures { (log : Log) → log.tags ≡ TAGS → IsSavable log → AllActedFit (length log.units) (log_entries log) }
+    ensures { (log : Log) → FitsText log → AllActedFit (length log.units) (log_entries log) }
 {}

@@ -23,7 +23,7 @@ mod laws;
 mod stops;
 mod writer;
 
-pub use adding::{add_records, begin};
+pub use adding::{add_records, add_some, begin};
 pub use keeper::Keeper;
 pub use laws::{acted_steps_fit, kept_texts_are_the_logs, steps_go_on};
 pub use stops::KeepStop;

@@ -17,16 +17,16 @@ use Rattle.host_trbs.specs.declared.contexts.EndpointKind.{EndpointKind}
 use Rattle.host_trbs.specs.declared.contexts.EndpointKind.TheVariants.{BulkIn, BulkOut}
 use Rattle.host_trbs.specs.declared.contexts.SlotContext.{SlotContext}
 use Rattle.host_trbs.specs.Contexts.{endpoint_context, input_control, slot_context, stream_context}
+use Rattle.uas_profile.specs.declared.Pipe.{Pipe}
+use Rattle.uas_profile.specs.declared.Pipe.TheVariants.{Command, Status, DataIn, DataOut}
 use Rattle.usb_descriptors.specs.declared.Endpoint.{Endpoint}
 use Rattle.usb_descriptors.specs.declared.Pipes.{Pipes}
 use Rattle.usb_descriptors.specs.declared.stream_tags.Streams.{Streams}
 use Rattle.usb_descriptors.specs.Endpoints.{context_index}
-use Rattle.disk_up.specs.declared.pipes.DiskPipe.{DiskPipe}
-use Rattle.disk_up.specs.declared.pipes.DiskPipe.TheVariants.{Command, Status, DataIn, DataOut}
 use Rattle.disk_up.specs.declared.pipes.Piping.{Piping}
-use Rattle.disk_up.specs.declared.pipes.Piping.TheVariants.{Zero, Stream, Flags, Slot, Pipe}
+use Rattle.disk_up.specs.declared.pipes.Piping.TheVariants.{Zero, Stream, Flags, Slot, OfPipe}
 
-abbrev pub endpoint_of : Pipes → DiskPipe → Endpoint
+abbrev pub endpoint_of : Pipes → Pipe → Endpoint
 endpoint_of pipes Command = pipes.command
 endpoint_of pipes Status = pipes.status
 endpoint_of pipes DataIn = pipes.data_in
@@ -49,31 +49,31 @@ pipes_slot device pipes = record { speed = device.speed; entries = context_count
 
 -- WHERE EACH PIPE'S RING OR STREAM ARRAY IS, AND EACH TAG'S RING
 
-abbrev pub array_of : Layout → DiskPipe → ℕ
+abbrev pub array_of : Layout → Pipe → ℕ
 array_of layout Command = address_of layout (At CommandPipe)
 array_of layout Status = address_of layout (At StatusStreams)
 array_of layout DataIn = address_of layout (At DataInStreams)
 array_of layout DataOut = address_of layout (At DataOutStreams)
 
-abbrev pub ring_of : Layout → DiskPipe → ℕ → Option ℕ
+abbrev pub ring_of : Layout → Pipe → ℕ → Option ℕ
 ring_of layout Command tag = None
 ring_of layout Status tag = place_of layout (OfTag tag StatusRing)
 ring_of layout DataIn tag = place_of layout (OfTag tag DataInRing)
 ring_of layout DataOut tag = place_of layout (OfTag tag DataOutRing)
 
-abbrev pub kind_of : DiskPipe → EndpointKind
+abbrev pub kind_of : Pipe → EndpointKind
 kind_of Command = BulkOut
 kind_of Status = BulkIn
 kind_of DataIn = BulkIn
 kind_of DataOut = BulkOut
 
-abbrev pub dequeue_of : ℕ → Streams → DiskPipe → Dequeue
+abbrev pub dequeue_of : ℕ → Streams → Pipe → Dequeue
 dequeue_of at streams Command = dequeue.Ring at
 dequeue_of at streams Status = dequeue.Streams at streams.max_primary_streams
 dequeue_of at streams DataIn = dequeue.Streams at streams.max_primary_streams
 dequeue_of at streams DataOut = dequeue.Streams at streams.max_primary_streams
 
-abbrev pub pipe_endpoint : Layout → Pipes → Streams → DiskPipe → EndpointContext
+abbrev pub pipe_endpoint : Layout → Pipes → Streams → Pipe → EndpointContext
 pipe_endpoint layout pipes streams pipe = record {
   kind = kind_of pipe;
   max_packet = (endpoint_of pipes pipe).max_packet;
@@ -85,11 +85,11 @@ pipe_endpoint layout pipes streams pipe = record {
 -- THE STORES: zeros over the input context, the command pipe's ring, the stream arrays and what tags have; the stream contexts of the tags; the
 -- contexts of the input context (6.2.5), of which a pipe's stands one behind its index
 
-abbrev pub stream_at : Option ℕ → Layout → DiskPipe → ℕ → Access
+abbrev pub stream_at : Option ℕ → Layout → Pipe → ℕ → Access
 stream_at (Some ring) layout pipe tag = store_in (Some (later (array_of layout pipe) (16 * tag))) (Sixteen (stream_context ring))
 stream_at None layout pipe tag = Rest 0
 
-abbrev pub stream_put : Layout → DiskPipe → ℕ → Access
+abbrev pub stream_put : Layout → Pipe → ℕ → Access
 stream_put layout pipe tag = stream_at (ring_of layout pipe tag) layout pipe tag
 
 abbrev pub context_put : Layout → ℕ → List ℕ → Access
@@ -100,7 +100,7 @@ pipes_access (Zero page) layout device pipes streams = store_in (Some (later lay
 pipes_access (Stream pipe tag) layout device pipes streams = stream_put layout pipe tag
 pipes_access Flags layout device pipes streams = context_put layout 0 (input_control 0 (added_contexts pipes))
 pipes_access Slot layout device pipes streams = context_put layout 1 (slot_context (pipes_slot device pipes))
-pipes_access (Pipe pipe) layout device pipes streams =
+pipes_access (OfPipe pipe) layout device pipes streams =
     context_put layout (context_index (endpoint_of pipes pipe) + 1) (endpoint_context (pipe_endpoint layout pipes streams pipe))
 
 -- pages 1, 3 to 7, and from 16 on up to the empty page; 8 to 15 are the event ring
@@ -110,24 +110,24 @@ next_page page = if page == 1 then 3 else if page == 7 then 16 else min (page + 
 abbrev pub zero_after : Layout → ℕ → Piping
 zero_after layout next = if nat_lt (later layout.base (4096 * next)) (address_of layout EmptyPage) then Zero next else Stream Status 1
 
-abbrev pub next_streams : DiskPipe → Piping
+abbrev pub next_streams : Pipe → Piping
 next_streams Command = Flags
 next_streams Status = Stream DataIn 1
 next_streams DataIn = Stream DataOut 1
 next_streams DataOut = Flags
 
-abbrev pub stream_after : DiskPipe → ℕ → ℕ → Piping
+abbrev pub stream_after : Pipe → ℕ → ℕ → Piping
 stream_after pipe tag tags = if nat_lt tag tags then Stream pipe (min (tag + 1) 255) else next_streams pipe
 
-abbrev pub pipe_after : DiskPipe → Option Piping
-pipe_after Command = Some (Pipe Status)
-pipe_after Status = Some (Pipe DataIn)
-pipe_after DataIn = Some (Pipe DataOut)
+abbrev pub pipe_after : Pipe → Option Piping
+pipe_after Command = Some (OfPipe Status)
+pipe_after Status = Some (OfPipe DataIn)
+pipe_after DataIn = Some (OfPipe DataOut)
 pipe_after DataOut = None
 
 abbrev pub pipes_after : Piping → Layout → Streams → Option Piping
 pipes_after (Zero page) layout streams = Some (zero_after layout (next_page page))
 pipes_after (Stream pipe tag) layout streams = Some (stream_after pipe tag streams.tags)
 pipes_after Flags layout streams = Some Slot
-pipes_after Slot layout streams = Some (Pipe Command)
-pipes_after (Pipe pipe) layout streams = pipe_after pipe
+pipes_after Slot layout streams = Some (OfPipe Command)
+pipes_after (OfPipe pipe) layout streams = pipe_after pipe

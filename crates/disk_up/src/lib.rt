@@ -34,7 +34,7 @@ use bring_up::{Access, AnswerFault, BringUp, Options, Stage, fits, is_gone, word
 pub use control::{Seen, Sending};
 pub use finding::{Clearing, Ending, FindStep, Finding};
 pub use laws::contexts_are_added;
-pub use pipes::{DiskPipe, Piping};
+pub use pipes::Piping;
 pub use requests::{Found, Known, Request};
 
 /// A controller that is brought up, and the disk behind it.

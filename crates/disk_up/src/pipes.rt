@@ -7,16 +7,8 @@ use host_layout::{Fixed, Layout, TagArea};
 use host_trbs::{
     Dequeue, EndpointContext, EndpointKind, SlotContext, input_control, stream_context,
 };
+use uas_profile::Pipe;
 use usb_descriptors::{Endpoint, Pipes, Streams};
-
-/// A pipe of the disk.
-#[derive(Clone, Copy)]
-pub enum DiskPipe {
-    Command,
-    Status,
-    DataIn,
-    DataOut,
-}
 
 /// What of row 14 is stored next.
 #[derive(Clone, Copy)]
@@ -24,11 +16,11 @@ pub enum Piping {
     /// The 4,096 bytes of this number are zeroed: the input context, the command pipe's ring, stream arrays, and what tags have.
     Zero(u32),
     /// The stream context of a tag.
-    Stream { pipe: DiskPipe, tag: u8 },
+    Stream { pipe: Pipe, tag: u8 },
     /// The input control context, the slot context, and each pipe's.
     Flags,
     Slot,
-    Pipe(DiskPipe),
+    OfPipe(Pipe),
 }
 
 /// The bytes that are zeroed at a time.
@@ -37,14 +29,14 @@ const PAGE_BYTES: u16 = 4096;
 /// Average TRB Length of the pipes.
 const AVERAGE: u16 = 3072;
 
-fn endpoint_of(pipes: &Pipes, pipe: DiskPipe) -> Endpoint
+fn endpoint_of(pipes: &Pipes, pipe: Pipe) -> Endpoint
     ensures { result ≡ endpoint_of pipes.now pipe }
 {
     match pipe {
-        DiskPipe::Command => pipes.command,
-        DiskPipe::Status => pipes.status,
-        DiskPipe::DataIn => pipes.data_in,
-        DiskPipe::DataOut => pipes.data_out,
+        Pipe::Command => pipes.command,
+        Pipe::Status => pipes.status,
+        Pipe::DataIn => pipes.data_in,
+        Pipe::DataOut => pipes.data_out,
     }
 }
 
@@ -74,31 +66,31 @@ fn context_count(pipes: &Pipes) -> u8
 }
 
 /// The stream array of a pipe, or the ring of the command pipe.
-fn array_of(layout: &Layout, pipe: DiskPipe) -> u64
+fn array_of(layout: &Layout, pipe: Pipe) -> u64
     ensures { result ≡ array_of layout.now pipe }
 {
     match pipe {
-        DiskPipe::Command => layout.fixed(Fixed::CommandPipe),
-        DiskPipe::Status => layout.fixed(Fixed::StatusStreams),
-        DiskPipe::DataIn => layout.fixed(Fixed::DataInStreams),
-        DiskPipe::DataOut => layout.fixed(Fixed::DataOutStreams),
+        Pipe::Command => layout.fixed(Fixed::CommandPipe),
+        Pipe::Status => layout.fixed(Fixed::StatusStreams),
+        Pipe::DataIn => layout.fixed(Fixed::DataInStreams),
+        Pipe::DataOut => layout.fixed(Fixed::DataOutStreams),
     }
 }
 
 /// The ring of a tag's stream in a pipe.
-fn ring_of(layout: &Layout, pipe: DiskPipe, tag: u8) -> Option<u64>
+fn ring_of(layout: &Layout, pipe: Pipe, tag: u8) -> Option<u64>
     ensures { result ≡ ring_of layout.now pipe tag }
 {
     match pipe {
-        DiskPipe::Command => None,
-        DiskPipe::Status => layout.of_tag(tag, TagArea::StatusRing),
-        DiskPipe::DataIn => layout.of_tag(tag, TagArea::DataInRing),
-        DiskPipe::DataOut => layout.of_tag(tag, TagArea::DataOutRing),
+        Pipe::Command => None,
+        Pipe::Status => layout.of_tag(tag, TagArea::StatusRing),
+        Pipe::DataIn => layout.of_tag(tag, TagArea::DataInRing),
+        Pipe::DataOut => layout.of_tag(tag, TagArea::DataOutRing),
     }
 }
 
 /// A tag's stream context.
-fn stream_put(layout: &Layout, pipe: DiskPipe, tag: u8) -> Access
+fn stream_put(layout: &Layout, pipe: Pipe, tag: u8) -> Access
     ensures { result ≡ stream_put layout.now pipe tag }
 {
     match ring_of(layout, pipe, tag) {
@@ -111,12 +103,7 @@ fn stream_put(layout: &Layout, pipe: DiskPipe, tag: u8) -> Access
 }
 
 /// A pipe's endpoint context.
-fn pipe_endpoint(
-    layout: &Layout,
-    pipes: &Pipes,
-    streams: Streams,
-    pipe: DiskPipe,
-) -> EndpointContext
+fn pipe_endpoint(layout: &Layout, pipes: &Pipes, streams: Streams, pipe: Pipe) -> EndpointContext
     ensures { result ≡ pipe_endpoint layout.now pipes.now streams pipe }
 {
     let endpoint = endpoint_of(pipes, pipe);
@@ -129,21 +116,21 @@ fn pipe_endpoint(
     }
 }
 
-fn kind_of(pipe: DiskPipe) -> EndpointKind
+fn kind_of(pipe: Pipe) -> EndpointKind
     ensures { result ≡ kind_of pipe }
 {
     match pipe {
-        DiskPipe::Command | DiskPipe::DataOut => EndpointKind::BulkOut,
-        DiskPipe::Status | DiskPipe::DataIn => EndpointKind::BulkIn,
+        Pipe::Command | Pipe::DataOut => EndpointKind::BulkOut,
+        Pipe::Status | Pipe::DataIn => EndpointKind::BulkIn,
     }
 }
 
-fn dequeue_of(at: u64, streams: Streams, pipe: DiskPipe) -> Dequeue
+fn dequeue_of(at: u64, streams: Streams, pipe: Pipe) -> Dequeue
     ensures { result ≡ dequeue_of at streams pipe }
 {
     match pipe {
-        DiskPipe::Command => Dequeue::Ring(at),
-        DiskPipe::Status | DiskPipe::DataIn | DiskPipe::DataOut => Dequeue::Streams {
+        Pipe::Command => Dequeue::Ring(at),
+        Pipe::Status | Pipe::DataIn | Pipe::DataOut => Dequeue::Streams {
             array: at,
             max_primary: streams.max_primary_streams,
         },
@@ -185,7 +172,7 @@ impl Piping {
             Piping::Stream { pipe, tag } => stream_put(layout, pipe, tag),
             Piping::Flags => context_put(layout, 0, input_control(0, added_contexts(pipes))),
             Piping::Slot => context_put(layout, 1, pipes_slot(device, pipes).bytes()),
-            Piping::Pipe(pipe) => context_put(
+            Piping::OfPipe(pipe) => context_put(
                 layout,
                 endpoint_of(pipes, pipe).context_index() + 1,
                 pipe_endpoint(layout, pipes, streams, pipe).bytes(),
@@ -201,8 +188,8 @@ impl Piping {
             Piping::Zero(page) => Some(zero_after(layout, next_page(page))),
             Piping::Stream { pipe, tag } => Some(stream_after(pipe, tag, streams.tags)),
             Piping::Flags => Some(Piping::Slot),
-            Piping::Slot => Some(Piping::Pipe(DiskPipe::Command)),
-            Piping::Pipe(pipe) => pipe_after(pipe),
+            Piping::Slot => Some(Piping::OfPipe(Pipe::Command)),
+            Piping::OfPipe(pipe) => pipe_after(pipe),
         }
     }
 }
@@ -225,14 +212,14 @@ fn zero_after(layout: &Layout, next: u32) -> Piping
         Piping::Zero(next)
     } else {
         Piping::Stream {
-            pipe: DiskPipe::Status,
+            pipe: Pipe::Status,
             tag: 1,
         }
     }
 }
 
 /// The next tag's, or the next pipe's first.
-fn stream_after(pipe: DiskPipe, tag: u8, tags: u8) -> Piping
+fn stream_after(pipe: Pipe, tag: u8, tags: u8) -> Piping
     ensures { result ≡ stream_after pipe tag tags }
 {
     if tag < tags {
@@ -242,25 +229,25 @@ fn stream_after(pipe: DiskPipe, tag: u8, tags: u8) -> Piping
         };
     }
     match pipe {
-        DiskPipe::Status => Piping::Stream {
-            pipe: DiskPipe::DataIn,
+        Pipe::Status => Piping::Stream {
+            pipe: Pipe::DataIn,
             tag: 1,
         },
-        DiskPipe::DataIn => Piping::Stream {
-            pipe: DiskPipe::DataOut,
+        Pipe::DataIn => Piping::Stream {
+            pipe: Pipe::DataOut,
             tag: 1,
         },
-        DiskPipe::Command | DiskPipe::DataOut => Piping::Flags,
+        Pipe::Command | Pipe::DataOut => Piping::Flags,
     }
 }
 
-fn pipe_after(pipe: DiskPipe) -> Option<Piping>
+fn pipe_after(pipe: Pipe) -> Option<Piping>
     ensures { result ≡ pipe_after pipe }
 {
     match pipe {
-        DiskPipe::Command => Some(Piping::Pipe(DiskPipe::Status)),
-        DiskPipe::Status => Some(Piping::Pipe(DiskPipe::DataIn)),
-        DiskPipe::DataIn => Some(Piping::Pipe(DiskPipe::DataOut)),
-        DiskPipe::DataOut => None,
+        Pipe::Command => Some(Piping::OfPipe(Pipe::Status)),
+        Pipe::Status => Some(Piping::OfPipe(Pipe::DataIn)),
+        Pipe::DataIn => Some(Piping::OfPipe(Pipe::DataOut)),
+        Pipe::DataOut => None,
     }
 }

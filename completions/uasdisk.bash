@@ -10,6 +10,7 @@ _uasdisk() {
         --product) return ;;
         --serial) return ;;
         --sync) return ;;
+        --tags) return ;;
         --vendor) return ;;
     esac
     if [ "$COMP_CWORD" = 1 ]; then
@@ -17,17 +18,17 @@ _uasdisk() {
         return
     fi
     case ${COMP_WORDS[1]} in
-        replay) words='--bad -h --help' ;;
-        trace) words='--bad --color -h --help' ;;
-        work) words='--sync -h --help' files=1 ;;
+        replay) words='--bad --tags -h --help' ;;
+        trace) words='--bad --tags --color -h --help' ;;
+        work) words='--tags --sync -h --help' files=1 ;;
         decode) words='--color -h --help' ;;
         make) words='--force -h --help' files=1 ;;
         info) words='-h --help' files=1 ;;
         dump) words='-h --help' files=1 ;;
         fill) words='-h --help' files=1 ;;
         audit) words='--head -h --help' files=1 ;;
-        draw) words='--bad --page -h --help' ;;
-        capture) words='--bad -h --help' files=1 ;;
+        draw) words='--bad --tags --page -h --help' ;;
+        capture) words='--bad --tags -h --help' files=1 ;;
         help) words='replay trace work decode make info dump fill audit draw capture serve usb prove many completions' ;;
         serve) words='--bad --file -h --help' files=1 ;;
         usb) words='--read-only --serial --vendor --product --block-size --bad -h --help' files=1 ;;

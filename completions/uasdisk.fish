@@ -2,12 +2,15 @@
 complete -c uasdisk -f
 complete -c uasdisk -n __fish_use_subcommand -a replay -d 'Reads a script from standard input and runs it on zeroed units'
 complete -c uasdisk -n '__fish_seen_subcommand_from replay' -l bad -x -d 'A block that is bad in every unit: 0 to 65535'
+complete -c uasdisk -n '__fish_seen_subcommand_from replay' -l tags -x -d 'How many tags each client has, one of them for task management: 2 to 16, usually 16; 248 in all'
 complete -c uasdisk -n '__fish_seen_subcommand_from replay' -s h -l help -d 'Print help'
 complete -c uasdisk -n __fish_use_subcommand -a trace -d 'Runs a script as replay does, and prints each step with the bytes that it wrote'
 complete -c uasdisk -n '__fish_seen_subcommand_from trace' -l bad -x -d 'A block that is bad in every unit: 0 to 65535'
+complete -c uasdisk -n '__fish_seen_subcommand_from trace' -l tags -x -d 'How many tags each client has, one of them for task management: 2 to 16, usually 16; 248 in all'
 complete -c uasdisk -n '__fish_seen_subcommand_from trace' -l color -x -a 'always auto never' -d 'Colours: always, auto (on a terminal alone, as without this option) or never'
 complete -c uasdisk -n '__fish_seen_subcommand_from trace' -s h -l help -d 'Print help'
 complete -c uasdisk -n __fish_use_subcommand -a work -d 'Lets clients write and read in threads, and counts what they read'
+complete -c uasdisk -n '__fish_seen_subcommand_from work' -l tags -x -d 'How many tags each client has, one of them for task management: 2 to 16, usually 16; 248 in all'
 complete -c uasdisk -n '__fish_seen_subcommand_from work' -l sync -x -d 'Keep LOG while it grows, synced after each N steps, or at the end alone where N is 0: 0 to 4294967295'
 complete -c uasdisk -n '__fish_seen_subcommand_from work' -s h -l help -d 'Print help'
 complete -c uasdisk -n '__fish_seen_subcommand_from work' -F
@@ -33,10 +36,12 @@ complete -c uasdisk -n '__fish_seen_subcommand_from audit' -s h -l help -d 'Prin
 complete -c uasdisk -n '__fish_seen_subcommand_from audit' -F
 complete -c uasdisk -n __fish_use_subcommand -a draw -d 'Runs a script as replay does, and draws the run as a picture (SVG)'
 complete -c uasdisk -n '__fish_seen_subcommand_from draw' -l bad -x -d 'A block that is bad in every unit: 0 to 65535'
+complete -c uasdisk -n '__fish_seen_subcommand_from draw' -l tags -x -d 'How many tags each client has, one of them for task management: 2 to 16, usually 16; 248 in all'
 complete -c uasdisk -n '__fish_seen_subcommand_from draw' -l page -d 'Write a page (HTML) that shows the run step by step, in place of the picture'
 complete -c uasdisk -n '__fish_seen_subcommand_from draw' -s h -l help -d 'Print help'
 complete -c uasdisk -n __fish_use_subcommand -a capture -d 'Runs a script as replay does, and writes the run to a file that Wireshark reads'
 complete -c uasdisk -n '__fish_seen_subcommand_from capture' -l bad -x -d 'A block that is bad in every unit: 0 to 65535'
+complete -c uasdisk -n '__fish_seen_subcommand_from capture' -l tags -x -d 'How many tags each client has, one of them for task management: 2 to 16, usually 16; 248 in all'
 complete -c uasdisk -n '__fish_seen_subcommand_from capture' -s h -l help -d 'Print help'
 complete -c uasdisk -n '__fish_seen_subcommand_from capture' -F
 complete -c uasdisk -n __fish_use_subcommand -a help -d 'Print this message or the help of the given subcommand(s)'

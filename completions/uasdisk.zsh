@@ -29,17 +29,17 @@ _uasdisk() {
   shift words
   (( CURRENT-- ))
   case $command in
-    replay) _arguments '--bad[A block that is bad in every unit: 0 to 65535]:LBA:' '(-h --help)'{-h,--help}'[Print help]' ':CLIENTS:' ':BLOCKS:' ;;
-    trace) _arguments '--bad[A block that is bad in every unit: 0 to 65535]:LBA:' '--color[Colours: always, auto (on a terminal alone, as without this option) or never]:WHEN:(always auto never)' '(-h --help)'{-h,--help}'[Print help]' ':CLIENTS:' ':BLOCKS:' ;;
-    work) _arguments '--sync[Keep LOG while it grows, synced after each N steps, or at the end alone where N is 0: 0 to 4294967295]:N:' '(-h --help)'{-h,--help}'[Print help]' ':CLIENTS:' ':ROUNDS:' ':LOG:_files' ;;
+    replay) _arguments '--bad[A block that is bad in every unit: 0 to 65535]:LBA:' '--tags[How many tags each client has, one of them for task management: 2 to 16, usually 16; 248 in all]:N:' '(-h --help)'{-h,--help}'[Print help]' ':CLIENTS:' ':BLOCKS:' ;;
+    trace) _arguments '--bad[A block that is bad in every unit: 0 to 65535]:LBA:' '--tags[How many tags each client has, one of them for task management: 2 to 16, usually 16; 248 in all]:N:' '--color[Colours: always, auto (on a terminal alone, as without this option) or never]:WHEN:(always auto never)' '(-h --help)'{-h,--help}'[Print help]' ':CLIENTS:' ':BLOCKS:' ;;
+    work) _arguments '--tags[How many tags each client has, one of them for task management: 2 to 16, usually 16; 248 in all]:N:' '--sync[Keep LOG while it grows, synced after each N steps, or at the end alone where N is 0: 0 to 4294967295]:N:' '(-h --help)'{-h,--help}'[Print help]' ':CLIENTS:' ':ROUNDS:' ':LOG:_files' ;;
     decode) _arguments '--color[Colours: always, auto (on a terminal alone, as without this option) or never]:WHEN:(always auto never)' '(-h --help)'{-h,--help}'[Print help]' ;;
     make) _arguments '--force[Write over a file that is there]' '(-h --help)'{-h,--help}'[Print help]' ':FILE:_files' ':BLOCKS:' ;;
     info) _arguments '(-h --help)'{-h,--help}'[Print help]' ':FILE:_files' ;;
     dump) _arguments '(-h --help)'{-h,--help}'[Print help]' ':FILE:_files' ':LBA:' ':COUNT:' ;;
     fill) _arguments '(-h --help)'{-h,--help}'[Print help]' ':FILE:_files' ':LBA:' ':COUNT:' ':BYTE:' ;;
     audit) _arguments '--head[Tell at which step of a log that was kept this checksum stands: 1 to 8 hexadecimal digits]:HEX:' '(-h --help)'{-h,--help}'[Print help]' ':LOG:_files' ;;
-    draw) _arguments '--bad[A block that is bad in every unit: 0 to 65535]:LBA:' '--page[Write a page (HTML) that shows the run step by step, in place of the picture]' '(-h --help)'{-h,--help}'[Print help]' ':CLIENTS:' ':BLOCKS:' ;;
-    capture) _arguments '--bad[A block that is bad in every unit: 0 to 65535]:LBA:' '(-h --help)'{-h,--help}'[Print help]' ':CLIENTS:' ':BLOCKS:' ':FILE:_files' ;;
+    draw) _arguments '--bad[A block that is bad in every unit: 0 to 65535]:LBA:' '--tags[How many tags each client has, one of them for task management: 2 to 16, usually 16; 248 in all]:N:' '--page[Write a page (HTML) that shows the run step by step, in place of the picture]' '(-h --help)'{-h,--help}'[Print help]' ':CLIENTS:' ':BLOCKS:' ;;
+    capture) _arguments '--bad[A block that is bad in every unit: 0 to 65535]:LBA:' '--tags[How many tags each client has, one of them for task management: 2 to 16, usually 16; 248 in all]:N:' '(-h --help)'{-h,--help}'[Print help]' ':CLIENTS:' ':BLOCKS:' ':FILE:_files' ;;
     help) _arguments ':COMMAND:(replay trace work decode make info dump fill audit draw capture serve usb prove many completions)' ;;
     serve) _arguments '--bad[A block that is bad: 0 to 4294967295]:LBA:' '--file[Changes nothing: blocks always stay in the file]' '(-h --help)'{-h,--help}'[Print help]' ':FILE:_files' ;;
     usb) _arguments '--read-only[Writes nothing, and says so to the guest]' '--serial[The first unit’s serial number, from which the others count on; else the files’ inodes: 0 to 99999999]:N:' '--vendor[Who made it, as the guest is told: 1 to 8 printable characters]:NAME:' '--product[What it is, as the guest is told: 1 to 16 printable characters]:NAME:' '--block-size[The bytes of a block [possible values: 512, 4096]]:BYTES:' '--bad[A block that is bad, of each unit: 0 to 4294967295]:LBA:' '(-h --help)'{-h,--help}'[Print help]' ':FILE:_files' ;;

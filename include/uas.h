@@ -3,7 +3,7 @@
  * libuas_device.a is enough).
  *
  *   codecs      TRBs, information units, CDBs, sense and data, places of rings, doorbells, contexts: bytes to fields and back
- *   device      uas_device: information units in, information units and data out, for up to 15 logical units of 512 byte blocks
+ *   device      uas_device: information units in, information units and data out, for up to 31 logical units of 512 byte blocks
  *   controller  uas_controller: what stands behind a driver, rings and doorbells in, events out: xHCI controller and device
  *   driver      uas_driver: what stands in front of a controller: host, rings and buffers, events in, doorbells out
  *   bus         uas_bus: host, xHCI controller and device as one machine of atomic steps
@@ -19,8 +19,8 @@
  * What the caller must uphold; all else is tested and answered by a fault. An archive of bindings/archive --checked tests what it can of 1, 3
  * and 4 too: null pointers, and handles that are of another kind, closed or in another thread's call. It ends the program at each.
  *
- *   1. No pointer is null, but that of a handle given to its free, and, where the length beside it is 0, the bytes or data of a call on
- *      a handle. A door, a codec, a new and an open want an address also for no bytes, whatever stands there. A pointer is aligned for
+ *   1. No pointer is null, but options, that of a handle given to its free, and, where the length beside it is 0, the bytes or data of a
+ *      call on a handle. A door, a codec, a new and an open want an address also for no bytes, whatever stands there. A pointer is aligned for
  *      its type, and behind it is as much memory as the type, the array bound or the length beside it says: never less.
  *   2. During a call nothing else reads or writes what the call may write, and nothing writes what it reads: no two of its
  *      arguments overlap. What is const isn't written.
@@ -59,8 +59,11 @@ enum {
     UAS_MOST_BLOCKS = 65536,     /* of a logical unit */
     UAS_MOST_BLOCKS_MOVED = 128, /* by one READ or WRITE */
     UAS_MOST_DATA_BYTES = 65536, /* of one command */
-    UAS_MOST_UNITS = 15,         /* logical units of a device, clients of a bus */
-    UAS_CLIENT_TAGS = 16,        /* of a client of a bus, the last of them for task management */
+    UAS_MOST_UNITS = 31,         /* logical units of a device, clients of a bus */
+    UAS_CLIENT_TAGS = 16,        /* of a client of a bus where nobody says another number, the last of them for task management */
+    UAS_LEAST_CLIENT_TAGS = 2,
+    UAS_MOST_CLIENT_TAGS = 16,
+    UAS_MOST_TAGS = 248,         /* of all clients of a bus */
     UAS_GREATEST_TAG = 240,      /* of a task; the least is 1 */
     UAS_MOST_UNIT_BYTES = 112,   /* of an information unit */
     UAS_MOST_SENSE_BYTES = 96    /* in an information unit */
@@ -92,10 +95,11 @@ enum uas_fault {
                                     INQUIRY), or fua neither 0 nor 1 */
     UAS_CAPACITY_NO_BLOCKS = 51,
     /* what a handle is made of */
-    UAS_UNITS = 56,     /* no logical unit, or more than 15 */
+    UAS_UNITS = 56,     /* no logical unit, or more than there may be: 31, of a bus UAS_MOST_TAGS through the tags of each client */
     UAS_BLOCKS = 57,    /* a logical unit of no block, or of more than 65,536 */
     UAS_IMAGE = 58,     /* the image isn't as long as the logical units' blocks together */
     UAS_BAD_BLOCK = 59, /* a bad block of a logical unit that isn't there, or beyond its last block */
+    UAS_TAGS = 60,      /* another number of tags of each client than 2 to 16 */
     /* the device */
     UAS_DEVICE_CALL = 64,    /* there is no such call */
     UAS_DEVICE_OVERLAP = 65, /* the tag of the information unit has a task */
@@ -130,7 +134,7 @@ enum uas_fault {
                                       context */
     UAS_CLIENT_FUNCTION = 106,     /* none of UAS_ABORT_TASK, UAS_LOGICAL_UNIT_RESET, UAS_QUERY_TASK */
     /* the driver */
-    UAS_DRIVER_CLIENTS = 112, /* no client, or more than 15 */
+    UAS_DRIVER_CLIENTS = 112, /* no client, or more than 31 or UAS_MOST_TAGS through the tags of each */
     UAS_DRIVER_ROOM = 113,    /* a ring has too few places, as the controller beyond completed too little, or a command is under the tag */
     UAS_DRIVER_ADDRESS = 114, /* what is named isn't all in one buffer; no item and no Link TRB stands there */
     UAS_DRIVER_RING = 115,    /* no pipe with streams, or no stream from 1 to 248; of a submission, a pipe was given up */
@@ -159,6 +163,9 @@ enum uas_fault {
 
 /* The name above, as "UAS_TRB_UNFIT"; a null pointer where the number is no fault's. */
 const char *uas_fault_name(uint8_t fault);
+
+/* A sentence that says the same; a null pointer likewise. */
+const char *uas_fault_text(uint8_t fault);
 
 /* ---- TRBs (xHCI 6.4) ---- */
 
@@ -646,9 +653,22 @@ uint8_t uas_controller_medium(const uas_controller *controller, uint16_t unit, u
  * Clients, tags and tickets are those of a bus. */
 typedef struct uas_driver uas_driver;
 
-/* A driver of so many clients, 1 to 15, that have submitted nothing. *driver is for uas_driver_free.
- * Faults: UAS_DRIVER_CLIENTS, UAS_NO_MEMORY. */
+/* How a bus or a driver is made. Where there are no options, and where a field is 0 or isn't there by `size`, it is the usual. */
+struct uas_bus_options {
+    uint32_t size; /* the bytes of this structure that the caller has */
+    uint32_t tags; /* of each client, 2 to 16, usually 16: of t tags client c has tc + 1 to tc + t */
+};
+UAS_ASSERT(sizeof(struct uas_bus_options) == 8);
+
+/* A driver of so many clients, 1 to 31 and UAS_MOST_TAGS tags in all at most, that have submitted nothing. *driver is for uas_driver_free.
+ * Faults: UAS_TAGS, UAS_DRIVER_CLIENTS, UAS_NO_MEMORY. */
+uint8_t uas_driver_open(size_t clients, const struct uas_bus_options *options, uas_driver **driver);
+
+/* The same of 1 to 15 clients with 16 tags each. */
 uint8_t uas_driver_new(size_t clients, uas_driver **driver);
+
+/* What both make: a driver of so many tags of each client. */
+uint8_t uas_driver_open_tags(size_t clients, size_t tags, uas_driver **driver);
 
 /* Gives back all memory that the driver holds, but the block of malloc that the pointer is of. For uas_driver_free alone. */
 void uas_driver_close(uas_driver *driver);
@@ -789,20 +809,25 @@ uint8_t uas_driver_context(const uas_driver *driver, uint8_t pipe, uint16_t stre
  *                                                |
  *   client <--reply-- ready <--step-- event <--step-- status
  *
- * Up to 15 clients, each with a logical unit of its own. Client c has the tags 16c + 1 to 16c + 15 for commands, and 16c + 16 under
- * which its task management goes. A ticket names a submission: it is below 2^60, and rises for each client. What was submitted
- * goes on by steps, in any order; a step that isn't due changes nothing. uas_bus_drain takes what is due until nothing is.
+ * Up to 31 clients of 2 to 16 tags, each with a logical unit of its own. Of 16 tags, client c has 16c + 1 to 16c + 15 for commands, and
+ * 16c + 16 under which its task management goes; of t tags likewise, tc + 1 to tc + t. A ticket names a submission: it is below 2^60, and
+ * rises for each client. What was submitted goes on by steps, in any order; a step that isn't due changes nothing. uas_bus_drain takes
+ * what is due until nothing is.
  * A client's replies, blocks and medium are those of a disk that it had alone, whatever the others do, for every list of steps. */
 typedef struct uas_bus uas_bus;
 
-/* A bus of `clients` clients, client c with logical unit c of blocks[c] zeroed blocks. *bus is for uas_bus_free.
- * Faults: UAS_UNITS (no client, or more than 15), UAS_BLOCKS, UAS_NO_MEMORY. */
+/* A bus of `clients` clients, client c with logical unit c of blocks[c] blocks, from images and with bad blocks as uas_device_open. *bus is
+ * for uas_bus_free.
+ * Faults: UAS_TAGS, UAS_UNITS, UAS_BLOCKS, UAS_IMAGE, UAS_BAD_BLOCK, UAS_NO_MEMORY. */
+uint8_t uas_bus_open(const uint32_t *blocks, size_t clients, const uint8_t *image, size_t length, const struct uas_bad_block *bad,
+                     size_t bads, const struct uas_bus_options *options, uas_bus **bus);
+
+/* The same of 1 to 15 clients with 16 tags each, of zeroed blocks, none of them bad. */
 uint8_t uas_bus_new(const uint32_t *blocks, size_t clients, uas_bus **bus);
 
-/* The same from images and with bad blocks, as uas_device_open.
- * Faults: UAS_UNITS, UAS_BLOCKS, UAS_IMAGE, UAS_BAD_BLOCK, UAS_NO_MEMORY. */
-uint8_t uas_bus_open(const uint32_t *blocks, size_t clients, const uint8_t *image, size_t length,
-                     const struct uas_bad_block *bad, size_t bads, uas_bus **bus);
+/* What both make: a bus of so many tags of each client. */
+uint8_t uas_bus_open_tags(size_t tags, const uint32_t *blocks, size_t clients, const uint8_t *image, size_t length,
+                          const struct uas_bad_block *bad, size_t bads, uas_bus **bus);
 
 /* Gives back all memory that the bus holds, but the block of malloc that the pointer is of. For uas_bus_free alone. */
 void uas_bus_close(uas_bus *bus);

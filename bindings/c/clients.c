@@ -8,6 +8,23 @@ static uas_driver *called_driver(const uas_driver *driver)
     return (uas_driver *)(uintptr_t)driver;
 }
 
+/* The number of tags of each client that these options ask for. */
+static size_t tags_of(const struct uas_bus_options *options)
+{
+    bool has_tags = options != NULL && options->size >= offsetof(struct uas_bus_options, tags) + sizeof options->tags;
+    return has_tags && options->tags != 0 ? options->tags : UAS_CLIENT_TAGS;
+}
+
+uint8_t uas_driver_open(size_t clients, const struct uas_bus_options *options, uas_driver **driver)
+{
+    return uas_driver_open_tags(clients, tags_of(options), driver);
+}
+
+uint8_t uas_driver_new(size_t clients, uas_driver **driver)
+{
+    return uas_driver_open_tags(clients, UAS_CLIENT_TAGS, driver);
+}
+
 void uas_driver_free(uas_driver *driver)
 {
     if (driver != NULL)
@@ -145,6 +162,18 @@ uint8_t uas_driver_context(const uas_driver *driver, uint8_t pipe, uint16_t stre
 static uas_bus *called_bus(const uas_bus *bus)
 {
     return (uas_bus *)(uintptr_t)bus;
+}
+
+uint8_t uas_bus_open(const uint32_t *blocks, size_t clients, const uint8_t *image, size_t length, const struct uas_bad_block *bad,
+                     size_t bads, const struct uas_bus_options *options, uas_bus **bus)
+{
+    return uas_bus_open_tags(tags_of(options), blocks, clients, image, length, bad, bads, bus);
+}
+
+uint8_t uas_bus_new(const uint32_t *blocks, size_t clients, uas_bus **bus)
+{
+    const struct uas_bad_block none = { 0 };
+    return uas_bus_open_tags(UAS_CLIENT_TAGS, blocks, clients, bytes_of(NULL, 0), 0, &none, 0, bus);
 }
 
 void uas_bus_free(uas_bus *bus)

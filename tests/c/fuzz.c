@@ -387,14 +387,14 @@ static uint8_t open_controller(const struct second_units *given, uas_controller 
 
 static uint8_t open_bus(const struct second_units *given, uas_bus **bus)
 {
-    return uas_bus_open(given->blocks, given->units, given->image, given->length, given->bad, given->bads, bus);
+    return uas_bus_open(given->blocks, given->units, given->image, given->length, given->bad, given->bads, NULL, bus);
 }
 
 /* What may be wrong with what a handle is opened with. */
 static void spoil_units(struct second_units *given)
 {
     if (one_in(6))
-        given->units = one_in(2) ? 0 : one_in(2) ? 16 : 16 + (size_t)drawn();
+        given->units = one_in(2) ? 0 : one_in(2) ? 32 : 32 + (size_t)drawn();
     if (one_in(6))
         given->blocks[below(SECOND_UNITS)] = one_in(2) ? 0 : 65537 + below(one_in(2) ? 2 : 1u << 31);
     if (one_in(4))
@@ -415,9 +415,9 @@ static void fuzz_open(struct guarded memory, struct guarded out)
     struct second_units given = draw_units(sizes, 3);
     if (one_in(2))
         spoil_units(&given);
-    uint32_t *blocks = (uint32_t *)(void *)at_end(out, sizeof given.blocks[0] * (given.units <= 16 ? given.units : 16));
+    uint32_t *blocks = (uint32_t *)(void *)at_end(out, sizeof given.blocks[0] * (given.units <= 32 ? given.units : 32));
     uint8_t wanted = second_units_fault(&given), *bytes = at_end(memory, given.length);
-    memcpy(blocks, given.blocks, sizeof given.blocks[0] * (given.units <= 16 ? given.units : 16));
+    memcpy(blocks, given.blocks, sizeof given.blocks[0] * (given.units <= 32 ? given.units : 32));
     memcpy(bytes, image, given.length);
     uas_device *made = NULL;
     AGREE(saw(uas_device_open(blocks, given.units, bytes, given.length, given.bad, given.bads, &made)) == wanted);

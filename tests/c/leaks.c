@@ -131,7 +131,7 @@ static uas_bus *used_bus(void)
     uas_bus *bus = NULL;
     uint64_t taken;
     bool quiet;
-    if (uas_bus_open(blocks, 3, image, 0, bad, 3, &bus) != 0)
+    if (uas_bus_open(blocks, 3, image, 0, bad, 3, NULL, &bus) != 0)
         return NULL;
     CHECK(uas_bus_submit(bus, 2, 33, 0, &read_24, data, 24 * 512) == 0);
     CHECK(uas_bus_submit(bus, 0, 1, 0, &ready, data, 0) == 0);
@@ -213,7 +213,7 @@ static uint8_t opened(int which, void **handle)
     uas_bus *bus = NULL;
     uint8_t fault = which == 0   ? uas_device_open(blocks, 3, image, sizeof image, bad, 3, &device)
                     : which == 1 ? uas_controller_open(blocks, 3, image, sizeof image, bad, 3, &controller)
-                                 : uas_bus_open(blocks, 3, image, sizeof image, bad, 3, &bus);
+                                 : uas_bus_open(blocks, 3, image, sizeof image, bad, 3, NULL, &bus);
     *handle = which == 0 ? (void *)device : which == 1 ? (void *)controller : (void *)bus;
     return fault;
 }

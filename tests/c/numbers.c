@@ -17,7 +17,7 @@ static const struct {
     FAULT(UAS_UNIT_UNKNOWN_ID, 32), FAULT(UAS_UNIT_SHORT, 33), FAULT(UAS_UNIT_LONG, 34), FAULT(UAS_UNIT_RESERVED_SET, 35),
     FAULT(UAS_UNIT_LENGTH_FIELD, 36), FAULT(UAS_UNIT_UNFIT, 37), FAULT(UAS_UNIT_NO_ROOM, 38),
     FAULT(UAS_CDB_CHECK, 48), FAULT(UAS_CDB_UNKNOWN_OPCODE, 49), FAULT(UAS_CDB_UNFIT, 50), FAULT(UAS_CAPACITY_NO_BLOCKS, 51),
-    FAULT(UAS_UNITS, 56), FAULT(UAS_BLOCKS, 57), FAULT(UAS_IMAGE, 58), FAULT(UAS_BAD_BLOCK, 59),
+    FAULT(UAS_UNITS, 56), FAULT(UAS_BLOCKS, 57), FAULT(UAS_IMAGE, 58), FAULT(UAS_BAD_BLOCK, 59), FAULT(UAS_TAGS, 60),
     FAULT(UAS_DEVICE_CALL, 64), FAULT(UAS_DEVICE_OVERLAP, 65), FAULT(UAS_DEVICE_PHASE, 66), FAULT(UAS_DEVICE_LENGTH, 67),
     FAULT(UAS_DEVICE_UNIT, 68), FAULT(UAS_DEVICE_RANGE, 69),
     FAULT(UAS_CONTROLLER_CALL, 80), FAULT(UAS_CONTROLLER_RING, 81), FAULT(UAS_CONTROLLER_FULL, 82), FAULT(UAS_CONTROLLER_STEP, 83),
@@ -47,6 +47,10 @@ static void faults_have_names(void)
         if (!CHECK(same))
             fprintf(stderr, "    %d: %s for %s\n", number, name != NULL ? name : "-", wanted != NULL ? wanted : "-");
         named += name != NULL;
+        /* A fault that has a name has a sentence of its own words, and no other number has one. */
+        const char *text = uas_fault_text((uint8_t)number);
+        CHECK((text != NULL) == (name != NULL));
+        CHECK(text == NULL || (strlen(text) > 8 && text[0] >= 'A' && text[0] <= 'Z' && text[strlen(text) - 1] == '.'));
     }
     CHECK(named == count);
     for (int i = 0; i < count; i++)

@@ -405,7 +405,7 @@ struct second_units {
 static inline uint8_t second_units_fault(const struct second_units *given)
 {
     uint64_t all = 0;
-    if (given->units < 1 || given->units > 15)
+    if (given->units < 1 || given->units > 31)
         return UAS_UNITS;
     for (size_t i = 0; i < given->units; i++) {
         if (given->blocks[i] < 1 || given->blocks[i] > 65536)

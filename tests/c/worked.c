@@ -407,23 +407,23 @@ static const struct uas_operation ready = { .opcode = UAS_TEST_UNIT_READY };
 
 static void device_new_faults(void)
 {
-    uint32_t blocks[16];
+    uint32_t blocks[32];
     uas_device *device = NULL;
-    for (int i = 0; i < 16; i++)
+    for (int i = 0; i < 32; i++)
         blocks[i] = 1;
     CHECK(uas_device_new(blocks, 0, &device) == UAS_UNITS);
-    CHECK(uas_device_new(blocks, 16, &device) == UAS_UNITS);
-    blocks[14] = 0;
-    CHECK(uas_device_new(blocks, 15, &device) == UAS_BLOCKS);
-    blocks[14] = 65537;
-    CHECK(uas_device_new(blocks, 15, &device) == UAS_BLOCKS);
+    CHECK(uas_device_new(blocks, 32, &device) == UAS_UNITS);
+    blocks[30] = 0;
+    CHECK(uas_device_new(blocks, 31, &device) == UAS_BLOCKS);
+    blocks[30] = 65537;
+    CHECK(uas_device_new(blocks, 31, &device) == UAS_BLOCKS);
     CHECK(device == NULL);
-    blocks[14] = 65536;
-    CHECK(uas_device_new(blocks, 15, &device) == 0 && device != NULL);
+    blocks[30] = 65536;
+    CHECK(uas_device_new(blocks, 31, &device) == 0 && device != NULL);
     uint32_t size = 0;
-    CHECK(uas_device_size(device, 14, &size) == 0 && size == 65536);
+    CHECK(uas_device_size(device, 30, &size) == 0 && size == 65536);
     CHECK(uas_device_size(device, 0, &size) == 0 && size == 1);
-    CHECK(uas_device_size(device, 15, &size) == UAS_DEVICE_UNIT && size == 1);
+    CHECK(uas_device_size(device, 31, &size) == UAS_DEVICE_UNIT && size == 1);
     uas_device_free(device);
 }
 
@@ -686,7 +686,7 @@ static void opens(const uint32_t *blocks, size_t units, size_t length, const str
     uas_bus *bus = NULL;
     CHECK(uas_device_open(blocks, units, two_images(), length, bad, bads, &device) == fault && (device != NULL) == (fault == UAS_OK));
     CHECK(uas_controller_open(blocks, units, two_images(), length, bad, bads, &controller) == fault && (controller != NULL) == (fault == UAS_OK));
-    CHECK(uas_bus_open(blocks, units, two_images(), length, bad, bads, &bus) == fault && (bus != NULL) == (fault == UAS_OK));
+    CHECK(uas_bus_open(blocks, units, two_images(), length, bad, bads, NULL, &bus) == fault && (bus != NULL) == (fault == UAS_OK));
     uas_device_free(device);
     uas_controller_free(controller);
     uas_bus_free(bus);
@@ -694,11 +694,14 @@ static void opens(const uint32_t *blocks, size_t units, size_t length, const str
 
 static void open_faults(void)
 {
-    static const uint32_t sixteen[16] = { 1, 1, 1, 1, 1, 1, 1, 1, 1, 1, 1, 1, 1, 1, 1, 1 }, none[2] = { 24, 0 }, many[2] = { 65537, 3 };
+    static const uint32_t none[2] = { 24, 0 }, many[2] = { 65537, 3 };
     static const struct uas_bad_block beyond_unit = { 2, 0 }, beyond_blocks = { 1, 3 }, far = { 0xffffffff, 0xffffffff };
     const size_t all = 512 * IMAGE_BLOCKS;
+    uint32_t ones[32];
+    for (int i = 0; i < 32; i++)
+        ones[i] = 1;
     opens(image_blocks, 0, 0, three_bad, 0, UAS_UNITS);
-    opens(sixteen, 16, 16 * 512, three_bad, 0, UAS_UNITS);
+    opens(ones, 32, 32 * 512, three_bad, 0, UAS_UNITS);
     opens(none, 2, 24 * 512, three_bad, 0, UAS_BLOCKS);
     opens(many, 2, 512, three_bad, 0, UAS_BLOCKS);
     opens(image_blocks, 2, all - 1, three_bad, 0, UAS_IMAGE);
@@ -1369,22 +1372,22 @@ static void controller_refuses(void)
 
 static void controller_new_faults(void)
 {
-    uint32_t blocks[16];
+    uint32_t blocks[32];
     uint8_t block[512];
     uas_controller *controller = NULL;
-    for (int i = 0; i < 16; i++)
+    for (int i = 0; i < 32; i++)
         blocks[i] = 1;
     CHECK(uas_controller_new(blocks, 0, &controller) == UAS_UNITS);
-    CHECK(uas_controller_new(blocks, 16, &controller) == UAS_UNITS);
-    blocks[14] = 0;
-    CHECK(uas_controller_new(blocks, 15, &controller) == UAS_BLOCKS);
-    blocks[14] = 65537;
-    CHECK(uas_controller_new(blocks, 15, &controller) == UAS_BLOCKS);
+    CHECK(uas_controller_new(blocks, 32, &controller) == UAS_UNITS);
+    blocks[30] = 0;
+    CHECK(uas_controller_new(blocks, 31, &controller) == UAS_BLOCKS);
+    blocks[30] = 65537;
+    CHECK(uas_controller_new(blocks, 31, &controller) == UAS_BLOCKS);
     CHECK(controller == NULL);
-    blocks[14] = 65536;
-    CHECK(uas_controller_new(blocks, 15, &controller) == 0 && controller != NULL);
-    CHECK(uas_controller_blocks(controller, 14, 65535, block, sizeof block) == 0 && all_are(block, sizeof block, 0));
-    CHECK(uas_controller_blocks(controller, 13, 1, block, sizeof block) == UAS_CONTROLLER_RANGE);
+    blocks[30] = 65536;
+    CHECK(uas_controller_new(blocks, 31, &controller) == 0 && controller != NULL);
+    CHECK(uas_controller_blocks(controller, 30, 65535, block, sizeof block) == 0 && all_are(block, sizeof block, 0));
+    CHECK(uas_controller_blocks(controller, 29, 1, block, sizeof block) == UAS_CONTROLLER_RANGE);
     uas_controller_free(controller);
 }
 
@@ -2000,7 +2003,18 @@ static void driver_new_faults(void)
     CHECK(uas_driver_new(0, &driver) == UAS_DRIVER_CLIENTS);
     CHECK(uas_driver_new(16, &driver) == UAS_DRIVER_CLIENTS);
     CHECK(uas_driver_new(SIZE_MAX, &driver) == UAS_DRIVER_CLIENTS);
+    CHECK(uas_driver_open(1, &(struct uas_bus_options){ 8, 1 }, &driver) == UAS_TAGS);
+    CHECK(uas_driver_open(1, &(struct uas_bus_options){ 8, 17 }, &driver) == UAS_TAGS);
+    CHECK(uas_driver_open(0, &(struct uas_bus_options){ 8, 17 }, &driver) == UAS_TAGS);
+    CHECK(uas_driver_open(32, &(struct uas_bus_options){ 8, 8 }, &driver) == UAS_DRIVER_CLIENTS);
+    CHECK(uas_driver_open(28, &(struct uas_bus_options){ 8, 9 }, &driver) == UAS_DRIVER_CLIENTS);
+    CHECK(uas_driver_open(16, &(struct uas_bus_options){ 4, 8 }, &driver) == UAS_DRIVER_CLIENTS);
+    CHECK(uas_driver_open(16, &(struct uas_bus_options){ 8, 0 }, &driver) == UAS_DRIVER_CLIENTS);
     CHECK(driver == NULL);
+    CHECK(uas_driver_open(31, &(struct uas_bus_options){ 8, 8 }, &driver) == UAS_OK);
+    driver_takes(driver, 30, 241, 0, ready, 0, 0, "00f10003 00000002");
+    driver_memory_is(driver, 0x1000f100, "01 00 00 f1 00 x5 1e 00 x22");
+    uas_driver_free(driver);
     driver = new_driver(15);
     driver_takes(driver, 14, 239, 0, ready, 0, 0, "00ef0003 00000002");
     driver_memory_is(driver, 0x1000ef00, "01 00 00 ef 00 x5 0e 00 x22");
@@ -2319,7 +2333,7 @@ static void bus_of_images(void)
 {
     static uint8_t data[24 * 512];
     uas_bus *bus = NULL;
-    CHECK(uas_bus_open(image_blocks, 2, two_images(), 512 * IMAGE_BLOCKS, three_bad, 4, &bus) == 0);
+    CHECK(uas_bus_open(image_blocks, 2, two_images(), 512 * IMAGE_BLOCKS, three_bad, 4, NULL, &bus) == 0);
     CHECK(submitted(bus, 0, 1, 0, writes(4, 16), 0xaa, 16 * 512) == 0);
     CHECK(submitted(bus, 1, 17, 0, reads(1, 2), 0x77, 1024) == 0);
     CHECK(submitted(bus, 1, 18, 1, reads(1, 1), 0x77, 512) == 0);
@@ -2465,6 +2479,41 @@ static void bus_new_faults(void)
     uas_bus_free(bus);
 }
 
+/* A bus of `clients` clients with `tags` tags each, of blocks that hold nothing. */
+static uint8_t opens_bus(size_t clients, uint32_t size, uint32_t tags, uas_bus **bus)
+{
+    static const struct uas_bad_block none = { 0 };
+    const uint8_t image = 0;
+    uint32_t blocks[32];
+    for (int i = 0; i < 32; i++)
+        blocks[i] = 3;
+    return uas_bus_open(blocks, clients, &image, 0, &none, 0, &(struct uas_bus_options){ size, tags }, bus);
+}
+
+static void bus_of_other_tags(void)
+{
+    uas_bus *bus = NULL;
+    CHECK(opens_bus(1, 8, 1, &bus) == UAS_TAGS && opens_bus(1, 8, 17, &bus) == UAS_TAGS && opens_bus(0, 8, 17, &bus) == UAS_TAGS);
+    CHECK(opens_bus(32, 8, 8, &bus) == UAS_UNITS && opens_bus(0, 8, 8, &bus) == UAS_UNITS && opens_bus(28, 8, 9, &bus) == UAS_UNITS);
+    /* What isn't there by `size`, and 0, are 16 tags. */
+    CHECK(opens_bus(16, 8, 0, &bus) == UAS_UNITS && opens_bus(16, 4, 8, &bus) == UAS_UNITS && opens_bus(16, 8, 16, &bus) == UAS_UNITS);
+    CHECK(bus == NULL && opens_bus(31, 8, 8, &bus) == UAS_OK);
+    /* The last client's tags are 241 to 248, its eighth for task management. */
+    CHECK(submitted(bus, 30, 240, 0, ready, 0, 0) == UAS_CLIENT_NOT_YOURS && submitted(bus, 30, 248, 0, ready, 0, 0) == UAS_CLIENT_NOT_YOURS);
+    CHECK(submitted(bus, 30, 247, 0, ready, 0, 0) == 0 && submitted(bus, 0, 1, 0, ready, 0, 0) == 0);
+    drains(bus);
+    replies(bus, 30, 0, 247, UAS_REPLY_STATUS, UAS_GOOD, 0);
+    replies(bus, 0, 0, 1, UAS_REPLY_STATUS, UAS_GOOD, 0);
+    uas_bus_free(bus);
+    /* With two tags a client has one for commands. */
+    bus = NULL;
+    CHECK(opens_bus(31, 8, 2, &bus) == UAS_OK);
+    CHECK(submitted(bus, 30, 62, 0, ready, 0, 0) == UAS_CLIENT_NOT_YOURS && submitted(bus, 30, 61, 0, ready, 0, 0) == 0);
+    drains(bus);
+    replies(bus, 30, 0, 61, UAS_REPLY_STATUS, UAS_GOOD, 0);
+    uas_bus_free(bus);
+}
+
 int main(void)
 {
     trb_texts();
@@ -2516,6 +2565,7 @@ int main(void)
     bus_retirement_beside_read();
     bus_refuses();
     bus_of_images();
+    bus_of_other_tags();
     no_data_at_null();
     return tell("worked");
 }

@@ -5,7 +5,7 @@ use crate::faults::{BlocksFault, ClientFault, OpenFault};
 use crate::handle::{handle, raw_bad, BadBlock};
 use crate::places::Pipe;
 use crate::scsi::Operation;
-use crate::{raw, MOST_DATA_BYTES};
+use crate::{raw, MOST_DATA_BYTES, USUAL_TAGS};
 use std::ptr::{self, NonNull};
 
 /// One atomic step.
@@ -82,11 +82,17 @@ impl Bus {
 
     /// The same from images and with bad blocks, as [`crate::Device::open`].
     pub fn open(blocks: &[u32], image: &[u8], bad: &[BadBlock]) -> Result<Self, OpenFault> {
+        Self::with_tags(blocks, image, bad, USUAL_TAGS)
+    }
+
+    /// The same of 1 to 31 clients with another number of tags each, 2 to 16; there are 248 tags at most.
+    pub fn with_tags(blocks: &[u32], image: &[u8], bad: &[BadBlock], tags: usize) -> Result<Self, OpenFault> {
         let bad = raw_bad(bad);
         let mut handle = ptr::null_mut();
         // SAFETY: slices' pointers and lengths, and a reference to the place of the handle.
-        let fault =
-            unsafe { raw::uas_bus_open(blocks.as_ptr(), blocks.len(), image.as_ptr(), image.len(), bad.as_ptr(), bad.len(), &mut handle) };
+        let fault = unsafe {
+            raw::uas_bus_open_tags(tags, blocks.as_ptr(), blocks.len(), image.as_ptr(), image.len(), bad.as_ptr(), bad.len(), &mut handle)
+        };
         OpenFault::of(fault)?;
         let handle = NonNull::new(handle).ok_or(OpenFault::NoMemory)?;
         Ok(Self { handle, room: vec![0; MOST_DATA_BYTES].into() })

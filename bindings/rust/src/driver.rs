@@ -6,7 +6,7 @@ use crate::handle::handle;
 use crate::places::{Context, Doorbell, Pipe};
 use crate::scsi::Operation;
 use crate::trb::Trb;
-use crate::{raw, MOST_DATA_BYTES};
+use crate::{raw, MOST_DATA_BYTES, USUAL_TAGS};
 use std::ptr::{self, NonNull};
 
 /// What an event was.
@@ -61,11 +61,16 @@ pub struct Driver {
 handle!(Driver, uas_driver_free);
 
 impl Driver {
-    /// A driver of so many clients, 1 to 15, that have submitted nothing.
+    /// A driver of so many clients, 1 to 15, with 16 tags each, that have submitted nothing.
     pub fn new(clients: usize) -> Result<Self, NewDriverFault> {
+        Self::with_tags(clients, USUAL_TAGS)
+    }
+
+    /// The same of 1 to 31 clients with another number of tags each, 2 to 16; there are 248 tags at most.
+    pub fn with_tags(clients: usize, tags: usize) -> Result<Self, NewDriverFault> {
         let mut handle = ptr::null_mut();
         // SAFETY: a reference to the place of the handle.
-        NewDriverFault::of(unsafe { raw::uas_driver_new(clients, &mut handle) })?;
+        NewDriverFault::of(unsafe { raw::uas_driver_open_tags(clients, tags, &mut handle) })?;
         let handle = NonNull::new(handle).ok_or(NewDriverFault::NoMemory)?;
         Ok(Self { handle, room: vec![0; MOST_DATA_BYTES].into() })
     }

@@ -47,14 +47,16 @@ macro_rules! faults {
 faults! {
     /// Why there is no device, controller or bus: the first that holds.
     OpenFault {
-        /// No logical unit, or more than 15.
-        Units = 56, "no logical unit, or more than 15";
+        /// No logical unit, or more than there may be: 31, of a bus 248 through the tags of each client.
+        Units = 56, "no logical unit, or more than there may be";
         /// A logical unit of no block, or of more than 65,536.
         Blocks = 57, "a logical unit of no block, or of more than 65536";
         /// The image isn't as long as the logical units' blocks together.
         Image = 58, "an image of another length than the blocks";
         /// A bad block of a logical unit that isn't there, or beyond its last block.
         BadBlock = 59, "a bad block that isn't there";
+        /// Of a bus, another number of tags of each client than 2 to 16.
+        Tags = 60, "a number of tags other than 2 to 16";
     } else {
         NoMemory, "no memory"
     }
@@ -63,8 +65,10 @@ faults! {
 faults! {
     /// Why there is no driver.
     NewDriverFault {
-        /// No client, or more than 15.
-        Clients = 112, "no client, or more than 15";
+        /// Another number of tags of each client than 2 to 16.
+        Tags = 60, "a number of tags other than 2 to 16";
+        /// No client, or more than 31 or 248 through the tags of each.
+        Clients = 112, "no client, or more than there may be";
     } else {
         NoMemory, "no memory"
     }

@@ -57,6 +57,9 @@ pub const BLOCK_BYTES: usize = 512;
 /// The most bytes that one command moves.
 pub const MOST_DATA_BYTES: usize = 65536;
 
+/// The tags of a client of a bus or of a driver where nobody says another number.
+pub const USUAL_TAGS: usize = 16;
+
 /// The most bytes of an information unit.
 pub const MOST_UNIT_BYTES: usize = 112;
 

@@ -292,7 +292,7 @@ extern "C" {
     pub fn uas_controller_blocks(controller: *const Controller, unit: u16, lba: u32, data: *mut u8, length: usize) -> u8;
     pub fn uas_controller_medium(controller: *const Controller, unit: u16, lba: u32, data: *mut u8, length: usize) -> u8;
 
-    pub fn uas_driver_new(clients: usize, driver: *mut *mut Driver) -> u8;
+    pub fn uas_driver_open_tags(clients: usize, tags: usize, driver: *mut *mut Driver) -> u8;
     pub fn uas_driver_free(driver: *mut Driver);
     pub fn uas_driver_submit(
         driver: *mut Driver,
@@ -314,7 +314,8 @@ extern "C" {
     pub fn uas_driver_item(driver: *const Driver, address: u64, bytes: *mut [u8; 16]) -> u8;
     pub fn uas_driver_context(driver: *const Driver, pipe: u8, stream: u16, bytes: *mut [u8; 16]) -> u8;
 
-    pub fn uas_bus_open(
+    pub fn uas_bus_open_tags(
+        tags: usize,
         blocks: *const u32,
         clients: usize,
         image: *const u8,

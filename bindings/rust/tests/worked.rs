@@ -2,9 +2,9 @@
 
 use std::num::NonZeroU32;
 use uas::{
-    lun, Asked, BadBlock, BlocksFault, Bus, ClientFault, CompletionCode, Device, DeviceFault, Drained, Function, Moved, OpenFault,
-    Operation, Overlap, Phase, Pipe, Received, Reply, ResponseCode, Sense, Status, Step, Task, Transfer, Trb, TrbFault, TrbFlags, Unfit,
-    Unit, UnitFault,
+    lun, Asked, BadBlock, BlocksFault, Bus, ClientFault, CompletionCode, Device, DeviceFault, Drained, Driver, Function, Moved,
+    NewDriverFault, OpenFault, Operation, Overlap, Phase, Pipe, Received, Reply, ResponseCode, Sense, Status, Step, Task, Transfer, Trb,
+    TrbFault, TrbFlags, Unfit, Unit, UnitFault,
 };
 
 const OUT_OF_RANGE: [u8; 18] = [0x70, 0, 5, 0, 0, 0, 0, 10, 0, 0, 0, 0, 0x21, 0, 0, 0, 0, 0];
@@ -273,6 +273,20 @@ fn a_bus() {
     assert_eq!(block, [0xaa; 512]);
     assert_eq!(bus.blocks(0, 100, &mut block), Err(BlocksFault::Range));
     assert_eq!(bus.blocks(0, 3, &mut block[..1]), Err(BlocksFault::Length));
+}
+
+#[test]
+fn other_numbers_of_tags() {
+    let tur = Operation::TestUnitReady;
+    assert_eq!(Bus::with_tags(&[1; 32], &[], &[], 8).err(), Some(OpenFault::Units));
+    assert_eq!(Bus::with_tags(&[1], &[], &[], 1).err(), Some(OpenFault::Tags));
+    assert_eq!(Driver::with_tags(1, 17).err(), Some(NewDriverFault::Tags));
+    assert_eq!(Driver::with_tags(28, 9).err(), Some(NewDriverFault::Clients));
+    let mut bus = Bus::with_tags(&[1; 31], &[], &[], 8).unwrap();
+    assert_eq!(bus.submit(30, 248, 0, &tur, &[]), Err(ClientFault::NotYours));
+    assert_eq!(bus.submit(30, 247, 0, &tur, &[]), Ok(()));
+    assert!(bus.drain(1000).quiet);
+    assert!(matches!(bus.take_reply(30), Some(Reply::Status { ticket: 0, status: Status::Good, .. })));
 }
 
 #[test]

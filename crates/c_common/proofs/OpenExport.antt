@@ -40,6 +40,7 @@ use Rattle.std.specs.contracts.alloc.Global as heap
 use Rattle.std.proofs.alloc.Global.TheLaws as heap_laws
 use Rattle.c_common.specs.HandedOut.{handed_out}
 use Rattle.c_common.specs.Units.{opened_units, units_told}
+use Rattle.uas_profile.specs.declared.TheConstants.{MAX_CLIENTS}
 use Rattle.c_common.specs.declared.units.OfUnits as of_units
 use Rattle.c_common.specs.contracts.units.UasBadBlock as bad_block
 use Rattle.c_common.specs.contracts.units.OfUnits.TheBound as bound
@@ -87,7 +88,7 @@ clauses R units {𝓤 = 𝓤} 𝓛 κs args =
     record {
       ghost = Unit {0};
       requires = λ ghost. emp 𝓤;
-      ensures = λ ghost r end. sep 𝓤 (fact 𝓤 (units_told r blocks.now image.now bad.now ≡ true)) (sep 𝓤 (fact 𝓤 (0 < r → end.1.1.1.1.0.now ≡ args.1.1.1.1.0.now))
+      ensures = λ ghost r end. sep 𝓤 (fact 𝓤 (units_told r MAX_CLIENTS blocks.now image.now bad.now ≡ true)) (sep 𝓤 (fact 𝓤 (0 < r → end.1.1.1.1.0.now ≡ args.1.1.1.1.0.now))
           (sem 𝓛 (handed_out (param 0 (As R)) (units.is_of (opened_units blocks.now image.now bad.now)) r end.1.1.1.1.0.now)));
     }
 
@@ -135,10 +136,10 @@ meets R N units dU dR make within name_within 𝓤 𝓛 𝓜 𝓡 export closed 
     pass_all ! refl (((heap_laws.the_row_laws.lawful 𝓛).typed alloc (vh ∷ []) (subst (Is heap.the_row alloc) eh are.0)).0, ((tt, (tt, (record { fits = are.1.0.0.1.0 }, tt))), ((tt, (tt, (record { fits = are.1.1.0.0.1.0 }, tt))), ((tt, (tt, (record { fits = are.1.1.1.0.0.1.0 }, tt))), ((tt, tt), tt))))) $
     sets ! (addr ! (through ! refl (stop !))) refl (tt, tt) $
     calls_at ! (framed 𝓤 H 𝓜 𝓣) G known y (and_then ! (get ! refl) (and_then ! (get ! refl) (and_then ! (get ! refl) (and_then ! (get ! refl) (and_then ! (get ! refl) (no_more !)))))) (λ v.
-    use1 𝓛 (later (some (λ (n : ℕ). (toks₁ ⊛ ‵ (u8.own_val n (v ∷ []))) ⊛ some (λ (end : Lasts O y.0.0 y.0.3). ‵ (lasts O y.0.0 y.0.3 end) ⊛ raw (fact 𝓤 (units_told n blocks.now image.now bad.now ≡ true))
+    use1 𝓛 (later (some (λ (n : ℕ). (toks₁ ⊛ ‵ (u8.own_val n (v ∷ []))) ⊛ some (λ (end : Lasts O y.0.0 y.0.3). ‵ (lasts O y.0.0 y.0.3 end) ⊛ raw (fact 𝓤 (units_told n MAX_CLIENTS blocks.now image.now bad.now ≡ true))
     ⊛ raw (fact 𝓤 (0 < n → end.1.1.1.1.0 ≡ r.now)) ⊛ ‵ (handed_out (param 0 (As R)) (units.is_of us) n end.1.1.1.1.0))))) (id⊢ 𝓤 _) $
     await ! tt $ pick ! (λ n. split ! $ move ! (1 ∷ []) $ pick ! (λ end. split3 ! $ fsplit ! $ drop ! $ fsplit ! $ drop ! $ fsplit ! $ drop ! $ fsplit ! $ drop ! $ fsplit ! $ move ! (1 ∷ []) $ drop ! $ move ! (1 ∷ 2 ∷ []) $
-    heard ! (units_told n blocks.now image.now bad.now ≡ true) (λ told. split ! $ heard ! (0 < n → end.1.1.1.1.0 ≡ r.now) (λ refused.
+    heard ! (units_told n MAX_CLIENTS blocks.now image.now bad.now ≡ true) (λ told. split ! $ heard ! (0 < n → end.1.1.1.1.0 ≡ r.now) (λ refused.
     move ! (2 ∷ []) $ split ! $ move ! (1 ∷ []) $ peeks ! u8 (Is u8) (shows 𝓛 u8) n (v ∷ []) (λ is_n. lands_as ! refl refl ((uint_Lawful 𝓛 w8).typed n _ is_n).0 $
     returns ! (look_at ! 0 refl) $ free_all ! refl $
     -- [the answer; the tokens; what is handed out; the borrow]
@@ -146,7 +147,7 @@ meets R N units dU dR make within name_within 𝓤 𝓛 𝓜 𝓡 export closed 
     keep ! (4 ∷ 3 ∷ 2 ∷ 0 ∷ 7 ∷ 5 ∷ 6 ∷ []) $ nothing ! $ move ! (1 ∷ 2 ∷ 3 ∷ 4 ∷ 0 ∷ []) $ group ! 5 $
     nothing ! $ move ! (2 ∷ 0 ∷ []) $ group ! 2 $ nothing ! $ nothing ! $ nothing ! $ nothing ! $ group ! 5 $ move ! (3 ∷ []) $
     use0 𝓛 (raw (fact 𝓤 (0 < n → end.1.1.1.1.0 ≡ r.now))) (fact_i 𝓤 (0 < n → end.1.1.1.1.0 ≡ r.now) (emp 𝓤) refused) $ join ! $
-    use0 𝓛 (raw (fact 𝓤 (units_told n blocks.now image.now bad.now ≡ true))) (fact_i 𝓤 (units_told n blocks.now image.now bad.now ≡ true) (emp 𝓤) told) $ join ! $ keep ! (2 ∷ 1 ∷ 3 ∷ 0 ∷ []) $
+    use0 𝓛 (raw (fact 𝓤 (units_told n MAX_CLIENTS blocks.now image.now bad.now ≡ true))) (fact_i 𝓤 (units_told n MAX_CLIENTS blocks.now image.now bad.now ≡ true) (emp 𝓤) told) $ join ! $ keep ! (2 ∷ 1 ∷ 3 ∷ 0 ∷ []) $
     by ! (leaves 𝓛 ended stayed c z' v n (tt, (tt, (tt, (tt, (end.1.1.1.1.0, tt))))) (tt, (tt, (tt, (tt, (tt, tt)))))))))))))))
 
 -- THE EXPORT OF A CRATE

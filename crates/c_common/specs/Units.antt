@@ -4,7 +4,6 @@ use Rattle.std.specs.Prelude.{slice_get, slice_index, Result, Ok, Err}
 use Rattle.std.specs.List.{list_all, range_with_len}
 use Rattle.std.specs.Option.{option_map_or}
 use Rattle.block_unit.specs.BlockMaps.{BlockMaps, fresh, imaged}
-use Rattle.uas_profile.specs.declared.TheConstants.{MAX_UNITS}
 use Rattle.c_common.specs.declared.faults.TheConstants.{BAD_BLOCK, BLOCKS, IMAGE, NO_MEMORY, UNITS}
 use Rattle.c_common.specs.declared.units.UasBadBlock.{UasBadBlock}
 use Rattle.c_common.specs.declared.units.UnitsFault.{UnitsFault}
@@ -44,10 +43,11 @@ is_image counts image = length image == 0 || length image == 512 * sum counts
 abbrev pub is_bad_block : List ℕ → UasBadBlock → Bool
 is_bad_block counts bad = option_map_or (λ blocks. nat_lt bad.lba blocks) (slice_get counts bad.unit) false
 
--- the first of these that holds: no unit or more than 15, a unit of another number of blocks, another length of the image, no bad block
-abbrev pub units_fault : List ℕ → List ℕ → List UasBadBlock → ℕ
-units_fault counts image bad =
-    if length counts == 0 || nat_lt MAX_UNITS (length counts) then UNITS
+-- The first of these that holds, where there may be so many units: none or more, a unit of another number of blocks, another length of the
+-- image, no bad block.
+abbrev pub units_fault : ℕ → List ℕ → List ℕ → List UasBadBlock → ℕ
+units_fault most counts image bad =
+    if length counts == 0 || nat_lt most (length counts) then UNITS
     else (if not (list_all is_size counts) then BLOCKS
     else (if not (is_image counts image) then IMAGE
     else (if not (list_all (is_bad_block counts) bad) then BAD_BLOCK else 0)))
@@ -64,6 +64,6 @@ units_number (Ok x) = 0
 units_number (Err fault) = units_fault_number fault
 
 -- The number of an answer is right: the fault, or want of memory where there is none.
-abbrev pub units_told : ℕ → List ℕ → List ℕ → List UasBadBlock → Bool
-units_told number counts image bad =
-    number == units_fault counts image bad || (number == NO_MEMORY && units_fault counts image bad == 0)
+abbrev pub units_told : ℕ → ℕ → List ℕ → List ℕ → List UasBadBlock → Bool
+units_told number most counts image bad =
+    number == units_fault most counts image bad || (number == NO_MEMORY && units_fault most counts image bad == 0)

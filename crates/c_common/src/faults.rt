@@ -60,7 +60,7 @@ pub const CAPACITY_NO_BLOCKS: u8 = 51;
 
 // The logical units of which a device, a controller or a bus is made.
 
-/// No logical unit, or more than 15.
+/// No logical unit, or more than there can be: 31, or as many clients as a bus has room for with these tags.
 pub const UNITS: u8 = 56;
 
 /// A logical unit of no block, or of more than 65,536.
@@ -71,6 +71,9 @@ pub const IMAGE: u8 = 58;
 
 /// A bad block of a logical unit that isn't there, or beyond its last block.
 pub const BAD_BLOCK: u8 = 59;
+
+/// Another number of tags of each client than 2 to 16.
+pub const TAGS: u8 = 60;
 
 // The device.
 
@@ -228,7 +231,7 @@ pub const TASKS_CHUNK: u8 = 152;
 /// Law: each fault has its number, no two have the same one, and none has 0, which is no fault's.
 pub fn numbers_are_different()
     ensures pinned { all_faults ≡
-        1 ∷ 16 ∷ 17 ∷ 18 ∷ 19 ∷ 32 ∷ 33 ∷ 34 ∷ 35 ∷ 36 ∷ 37 ∷ 38 ∷ 48 ∷ 49 ∷ 50 ∷ 51 ∷ 56 ∷ 57 ∷ 58 ∷ 59 ∷ 64 ∷ 65 ∷ 66 ∷ 67 ∷
+        1 ∷ 16 ∷ 17 ∷ 18 ∷ 19 ∷ 32 ∷ 33 ∷ 34 ∷ 35 ∷ 36 ∷ 37 ∷ 38 ∷ 48 ∷ 49 ∷ 50 ∷ 51 ∷ 56 ∷ 57 ∷ 58 ∷ 59 ∷ 60 ∷ 64 ∷ 65 ∷ 66 ∷ 67 ∷
         68 ∷ 69 ∷ 80 ∷ 81 ∷ 82 ∷ 83 ∷ 84 ∷ 85 ∷ 86 ∷ 87 ∷ 88 ∷ 89 ∷ 90 ∷ 91 ∷ 96 ∷ 97 ∷ 98 ∷ 99 ∷ 100 ∷ 101 ∷ 102 ∷ 103 ∷ 104 ∷
         105 ∷ 106 ∷ 112 ∷ 113 ∷ 114 ∷ 115 ∷ 116 ∷ 117 ∷ 128 ∷ 129 ∷ 130 ∷ 144 ∷ 145 ∷ 146 ∷ 147 ∷ 148 ∷
         149 ∷ 150 ∷ 151 ∷ 152 ∷ [] }

@@ -37,4 +37,4 @@ pub use operation::{UasOperation, read_operation, record_of};
 pub use sense::padded;
 pub use shown::{ShownFaults, show};
 pub use text::put_unit;
-pub use units::{OfUnits, UasBadBlock, UnitsFault, new_handle, open_handle};
+pub use units::{OfUnits, UasBadBlock, UnitsFault, new_handle, open_handle, opened_units};

@@ -3,7 +3,7 @@ ghost use Rattle.std.specs.Prelude.{◌≡◌, ◌≤◌, ◌<◌, ◌*◌, List
 ghost use Rattle.std.specs.List.{list_all};
 ghost use types.Logic.{sem};
 ghost use Rattle.block_unit.specs.BlockMaps.{BlockMaps};
-ghost use Rattle.uas_profile.specs.declared.TheConstants.{MAX_UNITS};
+ghost use Rattle.uas_profile.specs.declared.TheConstants.{MAX_CLIENTS};
 ghost use Rattle.c_common.specs.Units.{bad_of, image_of, is_bad_block, is_image, is_size, opened_unit, opened_units, units_fault_number};
 ghost use Rattle.c_common.specs.Units.{units_number, units_told};
 ghost use Rattle.c_common.specs.HandedOut.{handed_out, made_number};
@@ -12,7 +12,7 @@ use crate::faults::{BAD_BLOCK, BLOCKS, IMAGE, NO_MEMORY, UNITS};
 use crate::handle::hand_out_made;
 use block_unit::Unit;
 use std::alloc::{AllocError, Global};
-use uas_profile::{BLOCK_BYTES, MAX_BLOCKS, MAX_UNITS};
+use uas_profile::{BLOCK_BYTES, MAX_BLOCKS, MAX_CLIENTS};
 
 /// A bad block as C has it: one of the logical unit of this number.
 #[repr(C)]
@@ -25,7 +25,7 @@ pub struct UasBadBlock {
 /// Why no units are made.
 #[derive(Clone, Copy)]
 pub enum UnitsFault {
-    /// No unit, or more than 15.
+    /// No unit, or more than there may be.
     Count,
     /// A unit of no block, or of more than 65,536.
     Blocks,
@@ -56,10 +56,10 @@ pub trait OfUnits: Sized {
     /// It was just made of these units.
     ghost is_of: { List BlockMaps → Self → Type 0 };
 
-    /// Of these units, 1 to 15 of them.
+    /// Of these units, 1 to 31 of them.
     fn of_units(alloc: Global, units: Vec<Unit>) -> Result<Self, AllocError>
         requires some { 1 ≤ vec_len units }
-        requires most { vec_len units ≤ MAX_UNITS }
+        requires most { vec_len units ≤ MAX_CLIENTS }
         ensures { IfOk result (is_of units.items) };
 }
 
@@ -72,7 +72,7 @@ pub fn open_handle<T: OfUnits + Drop, Name>(
     bad: &[UasBadBlock],
     handle: &mut *mut Name,
 ) -> u8
-    ensures fault { units_told result blocks.now image.now bad.now ≡ true }
+    ensures fault { units_told result MAX_CLIENTS blocks.now image.now bad.now ≡ true }
     ensures refused { 0 < result → handle.new ≡ handle.old }
     ensures* handed_out { sem 𝓛 (handed_out T.row (T.is_of (opened_units blocks.now image.now bad.now)) result handle.new) }
 {
@@ -85,7 +85,7 @@ pub fn new_handle<T: OfUnits + Drop, Name>(
     blocks: &[u32],
     handle: &mut *mut Name,
 ) -> u8
-    ensures fault { units_told result blocks.now [] [] ≡ true }
+    ensures fault { units_told result MAX_CLIENTS blocks.now [] [] ≡ true }
     ensures refused { 0 < result → handle.new ≡ handle.old }
     ensures* handed_out { sem 𝓛 (handed_out T.row (T.is_of (opened_units blocks.now [] [])) result handle.new) }
 {
@@ -95,7 +95,7 @@ pub fn new_handle<T: OfUnits + Drop, Name>(
 /// Of zeroed units without a bad block.
 fn zeroed<T: OfUnits + Drop>(alloc: Global, blocks: &[u32]) -> Result<Box<T, Global>, u8>
     ensures made { IfOk result (λ made. T.is_of (opened_units blocks.now [] []) made.value) }
-    ensures fault { units_told (made_number result) blocks.now [] [] ≡ true }
+    ensures fault { units_told (made_number result) MAX_CLIENTS blocks.now [] [] ≡ true }
     ensures number { IfErr result (λ number. 0 < number) }
 {
     made::<T>(alloc, blocks, &[], &[])
@@ -109,7 +109,7 @@ fn made<T: OfUnits + Drop>(
     bad: &[UasBadBlock],
 ) -> Result<Box<T, Global>, u8>
     ensures made { IfOk result (λ made. T.is_of (opened_units blocks.now image.now bad.now) made.value) }
-    ensures fault { units_told (made_number result) blocks.now image.now bad.now ≡ true }
+    ensures fault { units_told (made_number result) MAX_CLIENTS blocks.now image.now bad.now ≡ true }
     ensures number { IfErr result (λ number. 0 < number) }
 {
     match boxed(alloc, blocks, image, bad) {
@@ -125,9 +125,9 @@ fn boxed<T: OfUnits + Drop>(
     bad: &[UasBadBlock],
 ) -> Result<Box<T, Global>, UnitsFault>
     ensures made { IfOk result (λ made. T.is_of (opened_units blocks.now image.now bad.now) made.value) }
-    ensures fault { units_told (units_number result) blocks.now image.now bad.now ≡ true }
+    ensures fault { units_told (units_number result) MAX_CLIENTS blocks.now image.now bad.now ≡ true }
 {
-    let units = opened_units(alloc, blocks, image, bad)?;
+    let units = opened_units(alloc, MAX_CLIENTS, blocks, image, bad)?;
     let Ok(made) = T::of_units(alloc, units) else {
         return Err(UnitsFault::NoMemory);
     };
@@ -137,19 +137,21 @@ fn boxed<T: OfUnits + Drop>(
     }
 }
 
-/// The units, 1 to 15 of them.
-fn opened_units(
+/// The units, 1 to `most` of them, at most 31: of so many blocks each, from an image that may be empty, with these bad blocks.
+pub fn opened_units(
     alloc: Global,
+    most: usize,
     blocks: &[u32],
     image: &[u8],
     bad: &[UasBadBlock],
 ) -> Result<Vec<Unit>, UnitsFault>
+    requires { most ≤ MAX_CLIENTS }
     ensures units { IfOk result (λ units. units.items ≡ opened_units blocks.now image.now bad.now) }
     ensures some { IfOk result (λ units. 1 ≤ vec_len units) }
-    ensures most { IfOk result (λ units. vec_len units ≤ MAX_UNITS) }
-    ensures fault { units_told (units_number result) blocks.now image.now bad.now ≡ true }
+    ensures most { IfOk result (λ units. vec_len units ≤ most) }
+    ensures fault { units_told (units_number result) most blocks.now image.now bad.now ≡ true }
 {
-    if blocks.is_empty() || blocks.len() > MAX_UNITS {
+    if blocks.is_empty() || blocks.len() > most {
         return Err(UnitsFault::Count);
     }
     if !are_sizes(blocks) {
@@ -174,7 +176,7 @@ fn are_sizes(blocks: &[u32]) -> bool
 
 /// Whether an image is empty, or as long as the blocks of all units.
 fn is_image(blocks: &[u32], image: &[u8]) -> bool
-    requires { length blocks.now ≤ MAX_UNITS }
+    requires { length blocks.now ≤ MAX_CLIENTS }
     ensures { result ≡ is_image blocks.now image.now }
 {
     image.is_empty() || image.len() == bytes_of(blocks)
@@ -182,7 +184,7 @@ fn is_image(blocks: &[u32], image: &[u8]) -> bool
 
 /// The bytes of so many blocks each, together.
 fn bytes_of(blocks: &[u32]) -> usize
-    requires { length blocks.now ≤ MAX_UNITS }
+    requires { length blocks.now ≤ MAX_CLIENTS }
     ensures { result ≡ 512 * sum blocks.now }
 {
     let mut bytes = 0;
@@ -214,7 +216,7 @@ fn opened(
     image: &[u8],
     bad: &[UasBadBlock],
 ) -> Result<Vec<Unit>, AllocError>
-    requires count { length blocks.now ≤ MAX_UNITS }
+    requires count { length blocks.now ≤ MAX_CLIENTS }
     requires sizes { list_all is_size blocks.now ≡ true }
     requires image { is_image blocks.now image.now ≡ true }
     ensures units { IfOk result (λ units. units.items ≡ opened_units blocks.now image.now bad.now) }
@@ -235,7 +237,7 @@ fn opened_unit(
     bad: &[UasBadBlock],
     unit: usize,
 ) -> Result<Unit, AllocError>
-    requires count { length blocks.now ≤ MAX_UNITS }
+    requires count { length blocks.now ≤ MAX_CLIENTS }
     requires there { unit < length blocks.now }
     requires size { is_size (slice_index blocks.now unit) ≡ true }
     requires image { is_image blocks.now image.now ≡ true }
@@ -263,7 +265,7 @@ fn bad_of(alloc: Global, bad: &[UasBadBlock], unit: usize) -> Result<Vec<u32>, A
 
 /// The part of the image that is of the unit of this number.
 fn image_of<'a>(blocks: &[u32], image: &'a [u8], unit: usize) -> &'a [u8]
-    requires count { length blocks.now ≤ MAX_UNITS }
+    requires count { length blocks.now ≤ MAX_CLIENTS }
     requires there { unit < length blocks.now }
     requires whole { length image.now ≡ 512 * sum blocks.now }
     ensures { result.now ≡ image_of blocks.now image.now unit }

@@ -13,20 +13,20 @@ use Rattle.capture_run.specs.urbs.Records.{capture_of}
 use Rattle.capture_run.specs.declared.fault.CaptureFault.{CaptureFault}
 use Rattle.capture_run.specs.declared.fault.CaptureFault.TheVariants.{Run, File}
 
--- the capture of the trace of these lines on these units, of commands that moved these bytes, was added
-pub record AppendsCapture (units : List BlockMaps) (lines : List Line) (old new : Option (List ℕ)) : Type 0 where
+-- the capture of the trace of these lines on these units, with so many tags of each client, of commands that moved these bytes, was added
+pub record AppendsCapture (tags : ℕ) (units : List BlockMaps) (lines : List Line) (old new : Option (List ℕ)) : Type 0 where
   pub transfers : List (List (List ℕ))
-  pub added : Appends old new (capture_of transfers (traced_text units lines))
+  pub added : Appends old new (capture_of transfers (traced_text tags units lines))
 
 -- these are the bytes of the capture of the trace of these lines on these units, of commands that moved these bytes
-pub record IsCaptureOf (units : List BlockMaps) (lines : List Line) (bytes : Option (List ℕ)) : Type 0 where
+pub record IsCaptureOf (tags : ℕ) (units : List BlockMaps) (lines : List Line) (bytes : Option (List ℕ)) : Type 0 where
   pub transfers : List (List (List ℕ))
-  pub is : bytes ≡ Some (capture_of transfers (traced_text units lines))
+  pub is : bytes ≡ Some (capture_of transfers (traced_text tags units lines))
 
 -- likewise, of a script's lines
-abbrev pub CapturesScript : List BlockMaps → Result (List Line) ScriptFault → Option (List ℕ) → Type 0
-CapturesScript units (Ok lines) bytes = IsCaptureOf units lines bytes
-CapturesScript units (Err fault) bytes = ⊥
+abbrev pub CapturesScript : ℕ → List BlockMaps → Result (List Line) ScriptFault → Option (List ℕ) → Type 0
+CapturesScript tags units (Ok lines) bytes = IsCaptureOf tags units lines bytes
+CapturesScript tags units (Err fault) bytes = ⊥
 
 -- these are the bytes of a capture of a trace, of commands that moved these bytes
 pub record IsCapture (bytes : Option (List ℕ)) : Type 0 where
@@ -50,7 +50,7 @@ FileGivesUp can_fail (Run fault) = fault ≡ NoMemory
 FileGivesUp can_fail File = IsTrue can_fail
 
 -- a run gives up as `replay` does, or at a fault of the file, before anything is printed
-abbrev pub CaptureGivesUp : ℕ → Option (List ℕ) → Bool → Bool → Bool → Option (List ℕ) → Option (List ℕ) → CaptureFault → Type 0
-CaptureGivesUp clients left can_read_fail can_write_fail file_can_fail old new (Run fault) =
-    ReplayGivesUp clients left can_read_fail can_write_fail old new fault
-CaptureGivesUp clients left can_read_fail can_write_fail file_can_fail old new File = IsTrue file_can_fail × Keeps old new
+abbrev pub CaptureGivesUp : ℕ → ℕ → Option (List ℕ) → Bool → Bool → Bool → Option (List ℕ) → Option (List ℕ) → CaptureFault → Type 0
+CaptureGivesUp clients tags left can_read_fail can_write_fail file_can_fail old new (Run fault) =
+    ReplayGivesUp clients tags left can_read_fail can_write_fail old new fault
+CaptureGivesUp clients tags left can_read_fail can_write_fail file_can_fail old new File = IsTrue file_can_fail × Keeps old new

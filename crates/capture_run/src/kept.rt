@@ -2,7 +2,6 @@
 
 ghost use Rattle.std.specs.Prelude.{◌≡◌, [], None, false, IfOk, IfErr};
 ghost use Rattle.byte_io.specs.Disks.{AreDisks};
-ghost use Rattle.uas_profile.specs.declared.TheConstants.{TAGS};
 ghost use Rattle.uas_replay.specs.Told.{told, whole_run, zeroed_units};
 ghost use Rattle.uas_replay.specs.Runs.{StopsBy};
 
@@ -108,8 +107,8 @@ impl Keeper {
 #[tactic(auto, unfolding(uas_replay::specs::Told::told))]
 pub(crate) fn run_kept(alloc: Global, disks: Disks, lines: &[Line]) -> Result<Kept, RunFault>
     requires { AreDisks disks }
-    ensures text { IfOk result (λ kept. kept.text.items ≡ (told TAGS (zeroed_units disks.clients disks.blocks disks.bad) lines.now).0) }
-    ensures status { IfOk result (λ kept. kept.status ≡ (told TAGS (zeroed_units disks.clients disks.blocks disks.bad) lines.now).1) }
+    ensures text { IfOk result (λ kept. kept.text.items ≡ (told disks.tags (zeroed_units disks.clients disks.blocks disks.bad) lines.now).0) }
+    ensures status { IfOk result (λ kept. kept.status ≡ (told disks.tags (zeroed_units disks.clients disks.blocks disks.bad) lines.now).1) }
     ensures fault { IfErr result (StopsBy false) }
 {
     let Ok(transfers) = Transfers::new(alloc, disks.clients) else {
@@ -141,10 +140,10 @@ fn whole_run(
     lines: &[Line],
 ) -> Result<ScriptRun, RunFault>
     requires { AreDisks disks }
-    ensures run { IfOk result (λ run. run.telling ≡ whole_run TAGS (zeroed_units disks.clients disks.blocks disks.bad) lines.now) }
+    ensures run { IfOk result (λ run. run.telling ≡ whole_run disks.tags (zeroed_units disks.clients disks.blocks disks.bad) lines.now) }
     ensures fault { IfErr result (StopsBy false) }
 {
-    let Ok(mut run) = ScriptRun::new(alloc, disks.clients, disks.blocks, disks.bad) else {
+    let Ok(mut run) = ScriptRun::new(alloc, disks) else {
         return Err(RunFault::NoMemory);
     };
     run.whole(keeper, &mut (), lines)?;

@@ -1,3 +1,4 @@
+mod Owners
 mod Plain
 mod Rows
 mod Reading

@@ -1,12 +1,12 @@
 -- What is embedded reads back, and stays inside of what it stands in.
 use Rattle.std.proofs.Common.{◌≡◌, ◌∙◌, ℕ, zero, suc, ◌+◌, ◌*◌, ◌/◌, ◌%◌, ◌<◌, ◌==◌, nat_le, Bool, true, false, not, ◌&&◌, if◌then◌else◌, List, [], ◌∷◌, ◌++◌}
-use Rattle.std.proofs.Common.{slice_index, option_map, Option, Some, None, refl, ap, sym, codes, arith, append_assoc, inl, inr}
+use Rattle.std.proofs.Common.{slice_index, Some, refl, ap, sym, codes, arith, inl, inr}
 use Rattle.std.specs.List.{flat_map, list_all}
 use Rattle.std.proofs.lemmas.List.Folds.{list_all-append}
 use Rattle.std.proofs.lemmas.Bool.{and_parts, cases_lt, eqb-true}
 use Rattle.hex.specs.Hex.{IsBytes, encode_lower, encode_with, hex_digit_value, lower_digits}
 use Rattle.hex.proofs.HexLemmas.{IsDigits-lower_digits}
-use Rattle.draw_run.specs.page.Embedded.{between, digits, embedded, escape, escaped, is_plain, is_safe, letter_value, read, read_from, with_first}
+use Rattle.draw_run.specs.page.Embedded.{embedded, escaped, is_plain, is_safe, read, read_from, with_first}
 
 -- WHAT A READER MAKES OF ONE BYTE
 

@@ -12,20 +12,20 @@ use Rattle.draw_run.specs.page.Page.{page_of}
 use Rattle.draw_run.specs.declared.Form.{Form}
 use Rattle.draw_run.specs.declared.Form.TheVariants.{Picture, Page}
 
--- what is drawn of a trace of so many clients: its picture or its page
-abbrev pub drawn_of : Form → ℕ → List ℕ → List ℕ
-drawn_of Picture clients trace = picture_of clients trace
-drawn_of Page clients trace = page_of clients trace
+-- what is drawn of a trace of so many clients with so many tags each: its picture or its page
+abbrev pub drawn_of : Form → ℕ → ℕ → List ℕ → List ℕ
+drawn_of Picture clients tags trace = picture_of clients tags trace
+drawn_of Page clients tags trace = page_of clients tags trace
 
--- what is drawn of a trace, of so many clients, was added
-pub record AppendsDrawn (form : Form) (clients : ℕ) (old new : Option (List ℕ)) : Type 0 where
+-- what is drawn of a trace, of so many clients with so many tags each, was added
+pub record AppendsDrawn (form : Form) (clients tags : ℕ) (old new : Option (List ℕ)) : Type 0 where
   pub trace : List ℕ
-  pub added : Appends old new (drawn_of form clients trace)
+  pub added : Appends old new (drawn_of form clients tags trace)
 
--- what is drawn of the trace of a script's lines on these units, of so many clients, was added
-abbrev pub DrawsScript : Form → ℕ → List BlockMaps → Result (List Line) ScriptFault → Option (List ℕ) → Option (List ℕ) → Type 0
-DrawsScript form clients units (Ok lines) old new = Appends old new (drawn_of form clients (traced_text units lines))
-DrawsScript form clients units (Err fault) old new = ⊥
+-- what is drawn of the trace of a script's lines on these units, of so many clients with so many tags each, was added
+abbrev pub DrawsScript : Form → ℕ → ℕ → List BlockMaps → Result (List Line) ScriptFault → Option (List ℕ) → Option (List ℕ) → Type 0
+DrawsScript form clients tags units (Ok lines) old new = Appends old new (drawn_of form clients tags (traced_text tags units lines))
+DrawsScript form clients tags units (Err fault) old new = ⊥
 
 -- a call that writes what is drawn gives up for want of memory, which leaves nothing written, or at a fault of the writer
 abbrev pub StopsDrawing : Bool → Option (List ℕ) → Option (List ℕ) → RunFault → Type 0

@@ -20,9 +20,9 @@ use uas_trace::run_trace;
 /// The trace of a run of some thousand commands has so many bytes.
 const LONG_TRACE: usize = 4_194_304;
 
-/// The run `draw`: reads a script of 1 to 15 clients, runs it on units of 1 to 65,536 zeroed blocks, of which one may be bad, and writes
-/// the run in this form once it is done. A long run says so on `faults` once it is traced, where that is asked for. It answers the
-/// exit status that `trace` answers.
+/// The run `draw`: reads a script of 1 to 31 clients with 2 to 16 tags each, runs it on units of 1 to 65,536 zeroed blocks, of which one
+/// may be bad, and writes the run in this form once it is done. A long run says so on `faults` once it is traced, where that is asked
+/// for. It answers the exit status that `trace` answers.
 pub fn run_draw<S: Source, O: Sink, W: Write>(
     alloc: Global,
     disks: Disks,
@@ -35,16 +35,16 @@ pub fn run_draw<S: Source, O: Sink, W: Write>(
     requires { AreDisks disks }
     ensures statuses { (result ≤ 1) ⊎ ((result ≡ 3) ⊎ (result ≡ 4)) }
     ensures traced { result ≤ 1 → IfSome (S.left reader.old) (λ bytes.
-        Traces (zeroed_units disks.clients disks.blocks disks.bad) (script disks.clients bytes) result) }
-    ensures drawn { result ≤ 1 → AppendsDrawn form disks.clients (O.written writer.old) (O.written writer.new) }
+        Traces disks.tags (zeroed_units disks.clients disks.blocks disks.bad) (script disks.clients disks.tags bytes) result) }
+    ensures drawn { result ≤ 1 → AppendsDrawn form disks.clients disks.tags (O.written writer.old) (O.written writer.new) }
     // The trace that is drawn is the one of the script.
     ensures of { result ≤ 1 → IfSome (S.left reader.old) (λ bytes.
-        DrawsScript form disks.clients (zeroed_units disks.clients disks.blocks disks.bad) (script disks.clients bytes)
+        DrawsScript form disks.clients disks.tags (zeroed_units disks.clients disks.blocks disks.bad) (script disks.clients disks.tags bytes)
         (O.written writer.old) (O.written writer.new)) }
     ensures read { result ≤ 1 → IsAtEnd (S.left reader.new) }
     ensures there { result ≤ 1 → IsTrue (S.is_there reader.old) }
     ensures fault { result ≡ 3 →
-        ((IfSome (S.left reader.old) (λ bytes. IsErr (script disks.clients bytes)) ⊎ IsTrue (S.can_fail reader.old))
+        ((IfSome (S.left reader.old) (λ bytes. IsErr (script disks.clients disks.tags bytes)) ⊎ IsTrue (S.can_fail reader.old))
         × Keeps (O.written writer.old) (O.written writer.new)) ⊎ IsTrue (O.can_fail writer.old) }
     ensures memory { result ≡ 4 → Keeps (O.written writer.old) (O.written writer.new) }
     ensures quiet { may_show_progress ≡ false → result ≤ 1 → faults.new ≡ faults.old }
@@ -56,7 +56,7 @@ pub fn run_draw<S: Source, O: Sink, W: Write>(
     }
     let BytesTaken(text) = trace;
     note(text.len(), faults, may_show_progress);
-    match write_drawn(alloc, form, disks.clients as u8, &text, writer) {
+    match write_drawn(alloc, form, disks, &text, writer) {
         Ok(()) => status,
         Err(fault) => fault.tell(faults),
     }
@@ -78,25 +78,28 @@ fn note<W: Write>(bytes: usize, notes: &mut W, may_show_progress: bool)
 fn write_drawn<O: Sink>(
     alloc: Global,
     form: Form,
-    clients: u8,
+    disks: Disks,
     trace: &[u8],
     writer: &mut O,
 ) -> Result<(), RunFault>
-    ensures drawn { OnOk result (Appends (O.written writer.old) (O.written writer.new) (drawn_of form clients trace.now)) }
+    requires { AreDisks disks }
+    ensures drawn { OnOk result (Appends (O.written writer.old) (O.written writer.new) (drawn_of form disks.clients disks.tags trace.now)) }
     ensures fault { IfErr result (StopsDrawing (O.can_fail writer.old) (O.written writer.old) (O.written writer.new)) }
 {
-    let Ok(drawn) = drawn(alloc, form, clients, trace) else {
+    let Ok(drawn) = drawn(alloc, form, disks, trace) else {
         return Err(RunFault::NoMemory);
     };
     writer.write(&drawn).map_err(|fault| output_fault(fault))
 }
 
 /// What is drawn of a trace in this form.
-fn drawn(alloc: Global, form: Form, clients: u8, trace: &[u8]) -> Result<Vec<u8>, AllocError>
-    ensures { IfOk result (λ drawn. drawn.items ≡ drawn_of form clients trace.now) }
+fn drawn(alloc: Global, form: Form, disks: Disks, trace: &[u8]) -> Result<Vec<u8>, AllocError>
+    requires { AreDisks disks }
+    ensures { IfOk result (λ drawn. drawn.items ≡ drawn_of form disks.clients disks.tags trace.now) }
 {
+    let clients = disks.clients as u8;
     match form {
-        Form::Picture => picture(alloc, clients, trace),
-        Form::Page => page(alloc, clients, trace),
+        Form::Picture => picture(alloc, clients, disks.tags, trace),
+        Form::Page => page(alloc, clients, disks.tags, trace),
     }
 }

@@ -8,7 +8,7 @@
 //!
 //! What a line is, is specs/picture/Marks.antt, where it stands specs/picture/Points.antt, how it is drawn specs/picture/Drawn.antt (of the
 //! elements in specs/picture/Elements.antt), and what is around the rows specs/picture/Frame.antt; so the bytes of a picture are a function
-//! of the trace's text and the number of clients (specs/picture/Picture.antt).
+//! of the trace's text, the number of clients and the number of their tags (specs/picture/Picture.antt).
 //!
 //! It stands on the words of a text and the numbers of the profile; it knows no bus.
 
@@ -31,10 +31,10 @@ pub enum Mark {
     Handed(u8),
     /// A client takes a reply.
     Taken(u8),
-    /// A step of this tag.
-    OfTag(u16),
-    /// The retirement of this tag's TD on a pipe begins: the pipe is held.
-    Hold { pipe: u8, tag: u16 },
+    /// A step of a tag of this client.
+    OfClient(u8),
+    /// The retirement of the TD of a tag of this client on a pipe begins: the pipe is held.
+    Hold { pipe: u8, client: u8 },
     /// The host hears the oldest event that it hasn't heard.
     Heard,
     /// Another step.

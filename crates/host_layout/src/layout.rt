@@ -67,7 +67,8 @@ pub enum Area {
     OfTag(u8, TagArea),
     /// 4,096 bytes of nothing behind the data rings, for controllers that prefetch.
     EmptyPage,
-    /// The array of the scratchpads' addresses, 8 KiB (6.6).
+    /// The array of the scratchpads' addresses, 8 KiB (6.6). It begins with a page of the controller's, and so lies in one page, as
+    /// table 6-1 asks, unless pages of 4 KiB are to have more than 512 scratchpads.
     ScratchpadArray,
     Scratchpad(u16),
 }

@@ -1,2 +1,1 @@
 pub mod LeftOver
-pub mod BusBehind

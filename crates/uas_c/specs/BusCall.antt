@@ -1,5 +1,5 @@
 -- What a call of the bus's door makes of the bus, the door and the bytes.
-use Rattle.std.specs.Prelude.{ℕ, ◌-◌, ◌^◌, if◌then◌else◌, ◌==◌, nat_lt}
+use Rattle.std.specs.Prelude.{ℕ, ◌-◌, ◌^◌, Bool, ◌||◌, if◌then◌else◌, ◌==◌, nat_lt}
 use Rattle.std.specs.Prelude.{List, [], ◌∷◌, length, slice_get, Option, None, Some, option_map, Result, Ok, Err}
 use Rattle.std.specs.Option.{unwrap_or}
 use Rattle.block_unit.specs.BlockMaps.{BlockMaps}
@@ -13,7 +13,11 @@ use Rattle.scsi_cmd.specs.declared.Reply.{Reply}
 use Rattle.scsi_cmd.specs.declared.Task.{Task}
 use Rattle.uas_c.specs.ClientCall.{asked_operation, client_fault, not_ticket, pipe_numbered, task_numbered, told_of, with_buffer}
 use Rattle.c_common.specs.declared.faults.TheConstants.{BUS_CLIENT, BUS_RANGE, BUS_STEP, CLIENT_CALL, CLIENT_FUNCTION, CLIENT_LENGTH, CLIENT_TICKET}
-use Rattle.c_common.specs.declared.faults.TheConstants.{NO_MEMORY}
+use Rattle.c_common.specs.declared.faults.TheConstants.{NO_MEMORY, TAGS}
+use Rattle.c_common.specs.Units.{units_told}
+use Rattle.c_common.specs.declared.units.UasBadBlock.{UasBadBlock}
+use Rattle.uas_profile.specs.Tags.{most_clients}
+use Rattle.uas_profile.specs.declared.TheConstants.{LEAST_TAGS, MOST_TAGS}
 use Rattle.c_common.specs.Shown.{data_shown}
 use Rattle.c_common.specs.declared.shown.ShownFaults.{ShownFaults}
 use Rattle.c_common.specs.Door.{After, DoorAfter, numbered, refused, with_bytes}
@@ -22,6 +26,13 @@ use Rattle.uas_c.specs.declared.bus.BusCall.{BusCall}
 use Rattle.uas_c.specs.declared.bus.BusCall.TheVariants as calls
 use Rattle.uas_c.specs.declared.bus.UasBusDoor.{UasBusDoor}
 use Rattle.uas_c.specs.declared.client.ToldReply.{ToldReply}
+
+-- A NEW BUS
+
+-- The number of an answer is right: no such number of tags, else the fault of the units, of which there may be one for each client.
+abbrev pub bus_told : ℕ → ℕ → List ℕ → List ℕ → List UasBadBlock → Bool
+bus_told number tags counts image bad =
+    if nat_lt tags LEAST_TAGS || nat_lt MOST_TAGS tags then number == TAGS else units_told number (most_clients tags) counts image bad
 
 -- SUBMIT AND TASK
 

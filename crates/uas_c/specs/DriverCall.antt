@@ -11,7 +11,8 @@ use Rattle.uas_host.specs.State.{HostState}
 use Rattle.uas_driver.specs.declared.Taken.{Taken}
 use Rattle.uas_driver.specs.declared.Taken.TheVariants.{Matched, Engine, Noted, Stray}
 use Rattle.uas_profile.specs.declared.Pipe.{Pipe}
-use Rattle.uas_profile.specs.declared.TheConstants.{USUAL_CLIENTS}
+use Rattle.uas_profile.specs.Tags.{most_clients}
+use Rattle.uas_profile.specs.declared.TheConstants.{LEAST_TAGS, MOST_TAGS}
 use Rattle.uas_driver.specs.Calls.{After as CallAfter, context_by, event_by, give_up_by, item_by, read_by, reply_by, retire_by, submit_by, task_by, write_by}
 use Rattle.uas_driver.specs.Telling.{stated, wanted_state}
 use Rattle.uas_driver.specs.Driver.{DriverState}
@@ -23,7 +24,7 @@ use Rattle.uas_profile.specs.declared.Pipe.TheVariants as pipes
 use Rattle.uas_driver.specs.declared.Refusal.{Refusal}
 use Rattle.uas_driver.specs.declared.Refusal.TheVariants as refusals
 use Rattle.c_common.specs.declared.faults.TheConstants.{CLIENT_CALL, CLIENT_FUNCTION, CLIENT_LENGTH, CLIENT_TICKET, DRIVER_ADDRESS, DRIVER_CLIENTS}
-use Rattle.c_common.specs.declared.faults.TheConstants.{DRIVER_EVENT, DRIVER_RING, DRIVER_ROOM, DRIVER_STATE, NO_MEMORY}
+use Rattle.c_common.specs.declared.faults.TheConstants.{DRIVER_EVENT, DRIVER_RING, DRIVER_ROOM, DRIVER_STATE, NO_MEMORY, TAGS}
 use Rattle.uas_c.specs.ClientCall.{asked_operation, client_fault, not_ticket, overlaid, pipe_numbered, task_numbered, told_length, told_status}
 use Rattle.uas_c.specs.ClientCall.{told_without_sense}
 use Rattle.c_common.specs.Door.{After, DoorAfter, numbered, refused, with_bytes}
@@ -35,13 +36,16 @@ use Rattle.uas_c.specs.declared.driver.door.UasDriverDoor.{UasDriverDoor}
 
 -- A NEW DRIVER
 
--- refused where there is no client or more than 15
-abbrev pub clients_fault : ℕ → ℕ
-clients_fault clients = if clients == 0 || nat_lt USUAL_CLIENTS clients then DRIVER_CLIENTS else 0
+-- Refused where there is no such number of tags, and where there is no client or more than there are with so many tags: of 16 tags more
+-- than 15, of 8 more than 31.
+abbrev pub clients_fault : ℕ → ℕ → ℕ
+clients_fault clients tags =
+    if nat_lt tags LEAST_TAGS || nat_lt MOST_TAGS tags then TAGS
+    else (if clients == 0 || nat_lt (most_clients tags) clients then DRIVER_CLIENTS else 0)
 
 -- The number of an answer is right: the fault, or want of memory where there is none.
-abbrev pub clients_told : ℕ → ℕ → Bool
-clients_told number clients = number == clients_fault clients || (number == NO_MEMORY && clients_fault clients == 0)
+abbrev pub clients_told : ℕ → ℕ → ℕ → Bool
+clients_told number clients tags = number == clients_fault clients tags || (number == NO_MEMORY && clients_fault clients tags == 0)
 
 -- WHAT IS ANSWERED
 

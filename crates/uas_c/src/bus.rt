@@ -1,11 +1,13 @@
 //! The bus for C: host, controller and device as one machine of steps, over one call with a door.
-ghost use Rattle.std.specs.Prelude.{◌≡◌, ◌==◌, false, IfSome, option_map};
+ghost use Rattle.std.specs.Prelude.{◌≡◌, ◌==◌, ◌<◌, false, true, IfErr, IfOk, IfSome, option_map};
 ghost use Rattle.shared_machine.specs.Bus.{HasTicket};
 ghost use Rattle.shared_machine.specs.Drain.{drained};
 ghost use Rattle.shared_machine.specs.Shared.{opening};
-ghost use Rattle.uas_profile.specs.declared.TheConstants.{TAGS};
+ghost use Rattle.uas_profile.specs.Tags.{AreTags, most_clients};
 ghost use Rattle.c_common.specs.declared.faults.TheConstants.{NO_MEMORY};
-ghost use Rattle.uas_c.specs.BusCall.{after_due, after_reply, after_step, after_submit, after_task, bus_answer, bus_call_numbered};
+ghost use Rattle.c_common.specs.HandedOut.{made_number};
+ghost use Rattle.c_common.specs.Units.{opened_units, units_number, units_told};
+ghost use Rattle.uas_c.specs.BusCall.{after_due, after_reply, after_step, after_submit, after_task, bus_answer, bus_call_numbered, bus_told};
 ghost use Rattle.uas_c.specs.BusCall.{refusal_told, step_numbered, unit_of, with_drain, with_owner, with_reply};
 
 mod handle;
@@ -18,13 +20,14 @@ use block_unit::Unit;
 use bus_core::{Bus, Refusal, Step};
 use c_common::faults::{
     BUS_CLIENT, BUS_RANGE, BUS_STEP, CLIENT_CALL, CLIENT_FUNCTION, CLIENT_LENGTH, CLIENT_TICKET,
-    NO_MEMORY,
+    NO_MEMORY, TAGS,
 };
-use c_common::{OfUnits, ShownFaults, UasOperation, show};
+use c_common::{ShownFaults, UasBadBlock, UasOperation, UnitsFault, opened_units, show};
 use scsi_cmd::{Buffer, Command};
-use std::alloc::{AllocError, Global};
+use std::alloc::Global;
 use std::marker::Model;
 use uas_iu::MAX_SENSE_BYTES;
+use uas_profile::{LEAST_TAGS, MOST_TAGS, most_clients};
 
 /// What a call of the bus asks and answers. C writes `call` and what that call reads; the call writes what it answers.
 #[repr(C)]
@@ -80,12 +83,46 @@ impl Model for KeptBus {
     ghost view = { λ kept. kept.bus };
 }
 
-impl OfUnits for KeptBus {
-    ghost is_of = { λ units bus. bus ≡ opening TAGS units };
+/// A bus of so many tags of each client and of these units, as `opened_units` makes them; the error is the number of the fault.
+pub(crate) fn made(
+    alloc: Global,
+    tags: usize,
+    blocks: &[u32],
+    image: &[u8],
+    bad: &[UasBadBlock],
+) -> Result<Box<KeptBus, Global>, u8>
+    ensures made { IfOk result (λ made. made.value ≡ opening tags (opened_units blocks.now image.now bad.now)) }
+    ensures fault { bus_told (made_number result) tags blocks.now image.now bad.now ≡ true }
+    ensures number { IfErr result (λ number. 0 < number) }
+{
+    if tags < LEAST_TAGS || tags > MOST_TAGS {
+        return Err(TAGS);
+    }
+    match boxed(alloc, tags, blocks, image, bad) {
+        Ok(made) => Ok(made),
+        Err(fault) => Err(fault.number()),
+    }
+}
 
-    fn of_units(alloc: Global, units: Vec<Unit>) -> Result<KeptBus, AllocError> {
-        let bus = Bus::new(alloc, units)?;
-        Ok(KeptBus { bus, alloc })
+/// The same of a number of tags that there is.
+fn boxed(
+    alloc: Global,
+    tags: usize,
+    blocks: &[u32],
+    image: &[u8],
+    bad: &[UasBadBlock],
+) -> Result<Box<KeptBus, Global>, UnitsFault>
+    requires { AreTags tags }
+    ensures made { IfOk result (λ made. made.value ≡ opening tags (opened_units blocks.now image.now bad.now)) }
+    ensures fault { units_told (units_number result) (most_clients tags) blocks.now image.now bad.now ≡ true }
+{
+    let units = opened_units(alloc, most_clients(tags), blocks, image, bad)?;
+    let Ok(bus) = Bus::with_tags(alloc, units, tags) else {
+        return Err(UnitsFault::NoMemory);
+    };
+    match Box::new(alloc, KeptBus { bus, alloc }) {
+        Ok(made) => Ok(made),
+        Err(_) => Err(UnitsFault::NoMemory),
     }
 }
 

@@ -1,6 +1,5 @@
 //! The driver for C: host, rings and buffers without a controller, over one call with a door.
 ghost use Rattle.std.specs.Prelude.{◌≡◌, ◌<◌, true, IfErr, IfOk};
-ghost use Rattle.uas_profile.specs.declared.TheConstants.{TAGS};
 ghost use Rattle.uas_driver.specs.Driver.{IsOpening};
 ghost use Rattle.uas_c.specs.DriverCall.{after_context, after_event, after_give_up, after_item, after_left_over, after_read, after_reply, after_retire};
 ghost use Rattle.c_common.specs.HandedOut.{made_number};
@@ -19,14 +18,14 @@ use crate::driver::door::{
 use arrayvec::ArrayVec;
 use c_common::faults::{
     CLIENT_CALL, CLIENT_FUNCTION, CLIENT_LENGTH, CLIENT_TICKET, DRIVER_ADDRESS, DRIVER_CLIENTS,
-    DRIVER_EVENT, DRIVER_RING, DRIVER_STATE, NO_MEMORY,
+    DRIVER_EVENT, DRIVER_RING, DRIVER_STATE, NO_MEMORY, TAGS,
 };
 use scsi_cmd::{Buffer, Command};
 use std::alloc::Global;
 use std::marker::Model;
 use stream_array::Pipe;
 use uas_driver::Driver;
-use uas_profile::USUAL_CLIENTS;
+use uas_profile::{LEAST_TAGS, MOST_TAGS, most_clients};
 
 /// A driver, and the memory that its submissions' buffers come from.
 #[derive(Drop)]
@@ -46,16 +45,23 @@ impl Model for KeptDriver {
 /// Bytes of an item of a ring, and of a context.
 const ITEM_BYTES: usize = 16;
 
-/// A driver of so many clients; the error is the number of the fault.
-pub(crate) fn made(alloc: Global, clients: usize) -> Result<Box<KeptDriver, Global>, u8>
-    ensures made { IfOk result (λ made. IsOpening TAGS clients made.value) }
-    ensures fault { clients_told (made_number result) clients ≡ true }
+/// A driver of so many clients with so many tags each; the error is the number of the fault.
+pub(crate) fn made(
+    alloc: Global,
+    clients: usize,
+    tags: usize,
+) -> Result<Box<KeptDriver, Global>, u8>
+    ensures made { IfOk result (λ made. IsOpening tags clients made.value) }
+    ensures fault { clients_told (made_number result) clients tags ≡ true }
     ensures number { IfErr result (λ number. 0 < number) }
 {
-    if clients == 0 || clients > USUAL_CLIENTS {
+    if tags < LEAST_TAGS || tags > MOST_TAGS {
+        return Err(TAGS);
+    }
+    if clients == 0 || clients > most_clients(tags) {
         return Err(DRIVER_CLIENTS);
     }
-    let Ok(driver) = Driver::new(alloc, clients) else {
+    let Ok(driver) = Driver::with_tags(alloc, clients, tags) else {
         return Err(NO_MEMORY);
     };
     match Box::new(alloc, KeptDriver { driver, alloc }) {

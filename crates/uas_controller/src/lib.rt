@@ -40,7 +40,7 @@ use std::alloc::{AllocError, Global};
 use std::marker::Model;
 use stream_array::Lines;
 use thiserror::Error;
-use uas_profile::MAX_UNITS;
+use uas_profile::MAX_CLIENTS;
 use uas_target::Target;
 use xhci_ctl::Controller;
 
@@ -91,11 +91,11 @@ impl Model for Machine {
 }
 
 impl Machine {
-    /// A machine whose device has these logical units, 1 to 15 (`MAX_UNITS`). Rings and buffers are zeros, every endpoint runs and no
+    /// A machine whose device has these logical units, 1 to 31 (`MAX_CLIENTS`). Rings and buffers are zeros, every endpoint runs and no
     /// doorbell was rung. The error is want of memory.
     pub fn new(alloc: Global, units: Vec<Unit>) -> Result<Machine, AllocError>
         requires some { 1 ≤ vec_len units }
-        requires most { vec_len units ≤ MAX_UNITS }
+        requires most { vec_len units ≤ MAX_CLIENTS }
         ensures { IfOk result (IsOpening units.items) }
     {
         let target = Target::new(alloc, units)?;

@@ -16,22 +16,22 @@ abbrev pub Tells : ℕ → List BlockMaps → Result (List Line) ScriptFault →
 Tells tags units (Ok lines) old new status = Appends old new (told tags units lines).0 × (status ≡ (told tags units lines).1)
 Tells tags units (Err fault) old new status = ⊥
 
--- A run that reads a script for so many clients: the script's own fault, where its bytes are known; the reader's, where
+-- A run that reads a script for so many clients with so many tags each: the script's own fault, where its bytes are known; the reader's, where
 -- that can fail; want of memory.
-abbrev pub ScriptGivesUp : ℕ → Option (List ℕ) → Bool → RunFault → Type 0
-ScriptGivesUp clients left can_fail (Image fault) = ⊥
-ScriptGivesUp clients left can_fail ImageFile = ⊥
-ScriptGivesUp clients left can_fail (Script fault) = IfSome left (λ bytes. script clients bytes ≡ Err fault)
-ScriptGivesUp clients left can_fail ScriptFile = IsTrue can_fail
-ScriptGivesUp clients left can_fail NoMemory = ⊤
+abbrev pub ScriptGivesUp : ℕ → ℕ → Option (List ℕ) → Bool → RunFault → Type 0
+ScriptGivesUp clients tags left can_fail (Image fault) = ⊥
+ScriptGivesUp clients tags left can_fail ImageFile = ⊥
+ScriptGivesUp clients tags left can_fail (Script fault) = IfSome left (λ bytes. script clients tags bytes ≡ Err fault)
+ScriptGivesUp clients tags left can_fail ScriptFile = IsTrue can_fail
+ScriptGivesUp clients tags left can_fail NoMemory = ⊤
 
 -- A run that prints too: nothing was printed at a fault of the script or of its reader, nor at want of memory.
-abbrev pub ReplayGivesUp : ℕ → Option (List ℕ) → Bool → Bool → Option (List ℕ) → Option (List ℕ) → RunFault → Type 0
-ReplayGivesUp clients left can_read_fail can_write_fail old new (Image fault) = ⊥
-ReplayGivesUp clients left can_read_fail can_write_fail old new ImageFile = ⊥
-ReplayGivesUp clients left can_read_fail can_write_fail old new (Script fault) = IfSome left (λ bytes. script clients bytes ≡ Err fault) × Keeps old new
-ReplayGivesUp clients left can_read_fail can_write_fail old new ScriptFile = (IsTrue can_read_fail × Keeps old new) ⊎ IsTrue can_write_fail
-ReplayGivesUp clients left can_read_fail can_write_fail old new NoMemory = Keeps old new
+abbrev pub ReplayGivesUp : ℕ → ℕ → Option (List ℕ) → Bool → Bool → Option (List ℕ) → Option (List ℕ) → RunFault → Type 0
+ReplayGivesUp clients tags left can_read_fail can_write_fail old new (Image fault) = ⊥
+ReplayGivesUp clients tags left can_read_fail can_write_fail old new ImageFile = ⊥
+ReplayGivesUp clients tags left can_read_fail can_write_fail old new (Script fault) = IfSome left (λ bytes. script clients tags bytes ≡ Err fault) × Keeps old new
+ReplayGivesUp clients tags left can_read_fail can_write_fail old new ScriptFile = (IsTrue can_read_fail × Keeps old new) ⊎ IsTrue can_write_fail
+ReplayGivesUp clients tags left can_read_fail can_write_fail old new NoMemory = Keeps old new
 
 -- A call that writes as it goes gives up for want of memory, or at a fault of the writer, where that can fail.
 abbrev pub StopsBy : Bool → RunFault → Type 0

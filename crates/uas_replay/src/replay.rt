@@ -1,7 +1,8 @@
 //! A script's run: the bus, each client's tags, and what was told. The walk of its lines is `walk`.
 
+ghost use Rattle.byte_io.specs.Disks.{AreDisks};
 ghost use Rattle.uas_profile.specs.Tags.{AreTags};
-ghost use Rattle.uas_profile.specs.declared.TheConstants.{MAX_BLOCKS, MAX_CLIENTS, STREAMS, TAGS, USUAL_CLIENTS};
+ghost use Rattle.uas_profile.specs.declared.TheConstants.{MAX_CLIENTS};
 ghost use Rattle.shared_machine.specs.Shared.{greatest_tag};
 ghost use Rattle.std.specs.Prelude.{◌≡◌, ℕ, ◌+◌, ◌*◌, ◌≤◌, ◌<◌, ◌^◌, ◌++◌, ◌∷◌, [], Bool, List, option_to_list, length, fold, replicate, suc};
 ghost use Rattle.std.specs.Prelude.{slice_index_or, false, IfOk, OnOk, IfSome, IfNone, vec_len};
@@ -22,6 +23,7 @@ mod walk;
 use crate::printed;
 use crate::status::{COMMAND_FAILED, DONE};
 use bus_core::{Outcome, Refusal, RingBus, Step};
+use byte_io::Disks;
 pub use commands::command_of;
 use commands::took_to_host;
 use frame_store::Frames;
@@ -32,7 +34,7 @@ use std::alloc::{AllocError, Global};
 use std::marker::Model;
 use stream_array::{Lines, Pipe};
 use tag_range::{ClientRange, Refused, Tag, Ticket};
-use uas_profile::{EVENT_RING_PLACES, TAGS};
+use uas_profile::EVENT_RING_PLACES;
 use uas_script::{Line, Request};
 pub use walk::{Unwatched, Watcher};
 
@@ -125,48 +127,21 @@ impl ScriptRun {
     ghost use Rattle.uas_replay.specs.Told.{zeroed_units, step_of, is_due, drained_machine, refused_run, freed_run, handed_over};
     ghost use Rattle.uas_replay.specs.Told.{noted_run, is_brought_in, replied, idle_run};
 
-    /// The run before its first line, of 1 to 15 clients with `TAGS` tags each, on units of 1 to 65,536 zeroed blocks.
-    pub fn new(
-        alloc: Global,
-        clients: usize,
-        blocks: u32,
-        bad: Option<u32>,
-    ) -> Result<ScriptRun, AllocError>
-        requires some_clients { 1 ≤ clients }
-        requires most_clients { clients ≤ USUAL_CLIENTS }
-        requires some_blocks { 1 ≤ blocks }
-        requires most_blocks { blocks ≤ MAX_BLOCKS }
-        ensures walk { IfOk result (λ run. run ≡ opening_walk TAGS (zeroed_units clients blocks bad)) }
-        ensures rings { IfOk result (λ run. IsOpeningLines run.world.lines) }
-    {
-        ScriptRun::with_tags(alloc, clients, blocks, bad, TAGS)
-    }
-
-    /// The same of 1 to 31 clients with another number of tags each, 2 to 16, and 248 tags in all at most.
+    /// The run before its first line, on units of zeroed blocks.
     #[tactic(auto, unfolding(crate::specs::Walks::machine_of))]
-    pub fn with_tags(
-        alloc: Global,
-        clients: usize,
-        blocks: u32,
-        bad: Option<u32>,
-        tags: usize,
-    ) -> Result<ScriptRun, AllocError>
-        requires number { AreTags tags }
-        requires some_clients { 1 ≤ clients }
-        requires most_clients { clients ≤ MAX_CLIENTS }
-        requires streams { clients * tags ≤ STREAMS }
-        requires some_blocks { 1 ≤ blocks }
-        requires most_blocks { blocks ≤ MAX_BLOCKS }
-        ensures walk { IfOk result (λ run. run ≡ opening_walk tags (zeroed_units clients blocks bad)) }
+    pub fn new(alloc: Global, disks: Disks) -> Result<ScriptRun, AllocError>
+        requires { AreDisks disks }
+        ensures walk { IfOk result (λ run. run ≡ opening_walk disks.tags (zeroed_units disks.clients disks.blocks disks.bad)) }
         ensures rings { IfOk result (λ run. IsOpeningLines run.world.lines) }
     {
-        let bus = RingBus::with_tags(alloc, zeroed_units(alloc, clients, blocks, bad)?, tags)?;
+        let units = zeroed_units(alloc, disks.clients, disks.blocks, disks.bad)?;
+        let bus = RingBus::with_tags(alloc, units, disks.tags)?;
         stand(bus.lines());
         Ok(ScriptRun {
             alloc,
             bus,
-            ranges: opening_ranges(alloc, clients, tags)?,
-            brings_in: opening_notes(alloc, clients)?,
+            ranges: opening_ranges(alloc, disks.clients, disks.tags)?,
+            brings_in: opening_notes(alloc, disks.clients)?,
             text: Vec::new(alloc),
             failed: false,
         })
@@ -367,28 +342,15 @@ fn stand(lines: &Lines)
     prove!(lines.len() < EVENT_RING_PLACES);
 }
 
-/// What lines tell on zeroed units, with 2 to 16 tags of each client: the text, and 1 where it tells a check, an abort or a
-/// refusal, else 0.
+/// What lines tell on zeroed units: the text, and 1 where it tells a check, an abort or a refusal, else 0.
 #[tactic(auto, unfolding(crate::specs::Told::told))]
-pub fn told(
-    alloc: Global,
-    clients: usize,
-    blocks: u32,
-    bad: Option<u32>,
-    tags: usize,
-    lines: &[Line],
-) -> Result<(Vec<u8>, u8), AllocError>
-    requires number { AreTags tags }
-    requires some_clients { 1 ≤ clients }
-    requires most_clients { clients ≤ MAX_CLIENTS }
-    requires streams { clients * tags ≤ STREAMS }
-    requires some_blocks { 1 ≤ blocks }
-    requires most_blocks { blocks ≤ MAX_BLOCKS }
-    ensures text { IfOk result (λ given. given.0.items ≡ (told tags (zeroed_units clients blocks bad) lines.now).0) }
+pub fn told(alloc: Global, disks: Disks, lines: &[Line]) -> Result<(Vec<u8>, u8), AllocError>
+    requires { AreDisks disks }
+    ensures text { IfOk result (λ given. given.0.items ≡ (told disks.tags (zeroed_units disks.clients disks.blocks disks.bad) lines.now).0) }
     ensures status { IfOk result (λ given. given.1 ≤ 1) }
-    ensures number { IfOk result (λ given. given.1 ≡ (told tags (zeroed_units clients blocks bad) lines.now).1) }
+    ensures number { IfOk result (λ given. given.1 ≡ (told disks.tags (zeroed_units disks.clients disks.blocks disks.bad) lines.now).1) }
 {
-    let mut run = ScriptRun::with_tags(alloc, clients, blocks, bad, tags)?;
+    let mut run = ScriptRun::new(alloc, disks)?;
     let Ok(()) = run.whole(&mut Unwatched, &mut (), lines) else {
         return Err(AllocError);
     };

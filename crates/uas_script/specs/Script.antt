@@ -5,7 +5,7 @@ use Rattle.std.specs.List.{list_all}
 use Rattle.std.specs.Str.{bytes_eq}
 use Rattle.std.specs.declared.vec.Vec.{Vec}
 use Rattle.std.specs.declared.alloc.Global.{Global}
-use Rattle.uas_profile.specs.declared.TheConstants.{GREATEST_TAG}
+use Rattle.uas_profile.specs.Tags.{most_clients}
 use Rattle.scsi_cmd.specs.declared.Op.{Op}
 use Rattle.scsi_cmd.specs.declared.Op.TheVariants.{TestUnitReady, Inquiry, ReadCapacity, Read, Write, Sync, Read16, Write16, ReadCapacity16}
 use Rattle.scsi_cmd.specs.declared.Task.TheVariants.{Abort, Reset, Query}
@@ -45,9 +45,13 @@ fua_at words place = fua_or_none (slice_get words place)
 abbrev pub client_at : ℕ → List (List ℕ) → ℕ → Option ℕ
 client_at clients words place = number_at words place 0 (clients - 1)
 
--- tags are 1 to 240
-abbrev pub tag_at : List (List ℕ) → ℕ → Option ℕ
-tag_at words place = number_at words place 1 GREATEST_TAG
+-- The greatest tag that clients of so many tags can have: that of the last of the most clients. Worked: 240 of 16 tags, 248 of 8, 243 of 9.
+abbrev pub greatest_tag : ℕ → ℕ
+greatest_tag tags = tags * most_clients tags
+
+-- tags are 1 to that one
+abbrev pub tag_at : ℕ → List (List ℕ) → ℕ → Option ℕ
+tag_at tags words place = number_at words place 1 (greatest_tag tags)
 
 -- pipes with streams are 2 to 4
 abbrev pub pipe_at : List (List ℕ) → ℕ → Option Pipe
@@ -105,44 +109,57 @@ request_has QueryName count = count == 3
 abbrev pub zeroed : ℕ → Op → Line
 zeroed client op = Submit client (record { op = op; fill = 0 })
 
--- what the words ask for of a client; none where one is no number or out of range
-abbrev pub request_of : ℕ → RequestName → List (List ℕ) → Option Line
-request_of client TurName words = Some (zeroed client TestUnitReady)
-request_of client InquiryName words = option_map (λ allocation. zeroed client (Inquiry allocation)) (count_at words 2)
-request_of client CapacityName words = Some (zeroed client ReadCapacity)
-request_of client ReadName words =
+-- READ and WRITE of 10 and of 16 bytes; none where a word is no number or out of range
+abbrev pub read_of : ℕ → List (List ℕ) → Option Line
+read_of client words =
     option_and_then (λ lba. option_and_then (λ count. option_map (λ fua. zeroed client (Read lba count fua))
     (fua_at words 4)) (count_at words 3)) (lba_at words 2)
-request_of client WriteName words =
+
+abbrev pub write_of : ℕ → List (List ℕ) → Option Line
+write_of client words =
     option_and_then (λ lba. option_and_then (λ count. option_and_then (λ fill. option_map (λ fua.
     Submit client (record { op = Write lba count fua; fill = fill }))
     (fua_at words 5)) (byte_at words 4)) (count_at words 3)) (lba_at words 2)
-request_of client SyncName words =
-    option_and_then (λ lba. option_map (λ count. zeroed client (Sync lba count)) (count_at words 3)) (lba_at words 2)
-request_of client Read16Name words =
+
+abbrev pub long_read_of : ℕ → List (List ℕ) → Option Line
+long_read_of client words =
     option_and_then (λ lba. option_and_then (λ count. option_map (λ fua. zeroed client (Read16 lba count fua))
     (fua_at words 4)) (count_at words 3)) (long_lba_at words 2)
-request_of client Write16Name words =
+
+abbrev pub long_write_of : ℕ → List (List ℕ) → Option Line
+long_write_of client words =
     option_and_then (λ lba. option_and_then (λ count. option_and_then (λ fill. option_map (λ fua.
     Submit client (record { op = Write16 lba count fua; fill = fill }))
     (fua_at words 5)) (byte_at words 4)) (count_at words 3)) (long_lba_at words 2)
-request_of client Capacity16Name words = option_map (λ allocation. zeroed client (ReadCapacity16 allocation)) (count_at words 2)
-request_of client AbortName words = option_map (λ tag. Task client (Abort tag)) (tag_at words 2)
-request_of client ResetName words = Some (Task client Reset)
-request_of client QueryName words = option_map (λ tag. Task client (Query tag)) (tag_at words 2)
 
-abbrev pub submission_of : ℕ → RequestName → List (List ℕ) → Option Line
-submission_of clients name words = option_and_then (λ client. request_of client name words) (client_at clients words 0)
+-- what the words ask for of a client; none where one is no number or out of range
+abbrev pub request_of : ℕ → ℕ → RequestName → List (List ℕ) → Option Line
+request_of tags client TurName words = Some (zeroed client TestUnitReady)
+request_of tags client InquiryName words = option_map (λ allocation. zeroed client (Inquiry allocation)) (count_at words 2)
+request_of tags client CapacityName words = Some (zeroed client ReadCapacity)
+request_of tags client ReadName words = read_of client words
+request_of tags client WriteName words = write_of client words
+request_of tags client SyncName words =
+    option_and_then (λ lba. option_map (λ count. zeroed client (Sync lba count)) (count_at words 3)) (lba_at words 2)
+request_of tags client Read16Name words = long_read_of client words
+request_of tags client Write16Name words = long_write_of client words
+request_of tags client Capacity16Name words = option_map (λ allocation. zeroed client (ReadCapacity16 allocation)) (count_at words 2)
+request_of tags client AbortName words = option_map (λ tag. Task client (Abort tag)) (tag_at tags words 2)
+request_of tags client ResetName words = Some (Task client Reset)
+request_of tags client QueryName words = option_map (λ tag. Task client (Query tag)) (tag_at tags words 2)
 
-abbrev pub named_submission : ℕ → List (List ℕ) → Option RequestName → Result Line LineFault
-named_submission clients words None = Err UnknownWord
-named_submission clients words (Some name) =
-    if request_has name (length words) then ok_or (submission_of clients name words) NumberOutOfRange
+abbrev pub submission_of : ℕ → ℕ → RequestName → List (List ℕ) → Option Line
+submission_of clients tags name words = option_and_then (λ client. request_of tags client name words) (client_at clients words 0)
+
+abbrev pub named_submission : ℕ → ℕ → List (List ℕ) → Option RequestName → Result Line LineFault
+named_submission clients tags words None = Err UnknownWord
+named_submission clients tags words (Some name) =
+    if request_has name (length words) then ok_or (submission_of clients tags name words) NumberOutOfRange
     else Err WrongNumberOfWords
 
 -- a line whose first word is a number
-abbrev pub submission : ℕ → List (List ℕ) → Result Line LineFault
-submission clients words = named_submission clients words (option_and_then request_named (slice_get words 1))
+abbrev pub submission : ℕ → ℕ → List (List ℕ) → Result Line LineFault
+submission clients tags words = named_submission clients tags words (option_and_then request_named (slice_get words 1))
 
 -- STEPS: `command`, `engine`, `event`, `data TAG`, `status TAG`, `retire PIPE TAG`, `take C`, `drain`
 
@@ -169,21 +186,21 @@ step_has RetireName = 3
 step_has TakeName = 2
 step_has DrainName = 1
 
-abbrev pub step_of : ℕ → StepName → List (List ℕ) → Option Line
-step_of clients CommandName words = Some CommandPipe
-step_of clients EngineName words = Some Engine
-step_of clients EventName words = Some Event
-step_of clients DataName words = option_map Data (tag_at words 1)
-step_of clients StatusName words = option_map Status (tag_at words 1)
-step_of clients RetireName words = option_and_then (λ pipe. option_map (Retire pipe) (tag_at words 2)) (pipe_at words 1)
-step_of clients TakeName words = option_map Take (client_at clients words 1)
-step_of clients DrainName words = Some Drain
+abbrev pub step_of : ℕ → ℕ → StepName → List (List ℕ) → Option Line
+step_of clients tags CommandName words = Some CommandPipe
+step_of clients tags EngineName words = Some Engine
+step_of clients tags EventName words = Some Event
+step_of clients tags DataName words = option_map Data (tag_at tags words 1)
+step_of clients tags StatusName words = option_map Status (tag_at tags words 1)
+step_of clients tags RetireName words = option_and_then (λ pipe. option_map (Retire pipe) (tag_at tags words 2)) (pipe_at words 1)
+step_of clients tags TakeName words = option_map Take (client_at clients words 1)
+step_of clients tags DrainName words = Some Drain
 
 -- a line whose first word isn't a number
-abbrev pub named_step : ℕ → List (List ℕ) → Option StepName → Result Line LineFault
-named_step clients words None = Err UnknownWord
-named_step clients words (Some name) =
-    if length words == step_has name then ok_or (step_of clients name words) NumberOutOfRange
+abbrev pub named_step : ℕ → ℕ → List (List ℕ) → Option StepName → Result Line LineFault
+named_step clients tags words None = Err UnknownWord
+named_step clients tags words (Some name) =
+    if length words == step_has name then ok_or (step_of clients tags name words) NumberOutOfRange
     else Err WrongNumberOfWords
 
 -- LINES
@@ -192,14 +209,14 @@ abbrev pub some_line : Result Line LineFault → Result (Option Line) LineFault
 some_line (Ok line) = Ok (Some line)
 some_line (Err fault) = Err fault
 
-abbrev pub line_with_first : ℕ → List (List ℕ) → Option (List ℕ) → Result (Option Line) LineFault
-line_with_first clients words None = Ok None
-line_with_first clients words (Some first) =
-    some_line (if is_number first then submission clients words else named_step clients words (step_named first))
+abbrev pub line_with_first : ℕ → ℕ → List (List ℕ) → Option (List ℕ) → Result (Option Line) LineFault
+line_with_first clients tags words None = Ok None
+line_with_first clients tags words (Some first) =
+    some_line (if is_number first then submission clients tags words else named_step clients tags words (step_named first))
 
 -- what the words of a line ask for: nothing where there are none
-abbrev pub line_of_words : ℕ → List (List ℕ) → Result (Option Line) LineFault
-line_of_words clients words = line_with_first clients words (slice_get words 0)
+abbrev pub line_of_words : ℕ → ℕ → List (List ℕ) → Result (Option Line) LineFault
+line_of_words clients tags words = line_with_first clients tags words (slice_get words 0)
 
 abbrev pub is_ascii : List ℕ → Bool
 is_ascii bytes = list_all (λ byte. nat_lt byte 128) bytes
@@ -209,27 +226,27 @@ abbrev pub is_comment : List ℕ → Bool
 is_comment bytes = slice_index bytes 0 == 35
 
 -- what a line asks for, or the first of its faults
-unfoldable pub line_of : ℕ → List ℕ → Result (Option Line) LineFault
-line_of clients bytes =
+unfoldable pub line_of : ℕ → ℕ → List ℕ → Result (Option Line) LineFault
+line_of clients tags bytes =
     if not (is_ascii bytes) then Err NotAscii
     else (if is_comment bytes then Ok None
-    else line_of_words clients (words bytes))
+    else line_of_words clients tags (words bytes))
 
 -- SCRIPTS
 
 -- The lines from this number on, after those that were read before, or the first fault.
-unfoldable pub lines_after : ℕ → List Line → ℕ → List (List ℕ) → Result (List Line) ScriptFault
-lines_after clients before number [] = Ok before
-lines_after clients before number (bytes ∷ rest) =
-    go_on (λ lines. lines_after clients lines (number + 1) rest) (line_of clients bytes)
+unfoldable pub lines_after : ℕ → ℕ → List Line → ℕ → List (List ℕ) → Result (List Line) ScriptFault
+lines_after clients tags before number [] = Ok before
+lines_after clients tags before number (bytes ∷ rest) =
+    go_on (λ lines. lines_after clients tags lines (number + 1) rest) (line_of clients tags bytes)
   where
     go_on : (List Line → Result (List Line) ScriptFault) → Result (Option Line) LineFault → Result (List Line) ScriptFault
     go_on after (Ok line) = after (before ++ option_to_list line)
     go_on after (Err fault) = Err (FaultyLine number fault)
 
--- A script of at most 1,048,576 bytes: its lines, or its first fault.
-unfoldable pub script : ℕ → List ℕ → Result (List Line) ScriptFault
-script clients bytes = if nat_lt 1048576 (length bytes) then Err TooLong else lines_after clients [] 1 (pieces bytes)
+-- A script of at most 1,048,576 bytes, of so many clients and so many tags of each: its lines, or its first fault.
+unfoldable pub script : ℕ → ℕ → List ℕ → Result (List Line) ScriptFault
+script clients tags bytes = if nat_lt 1048576 (length bytes) then Err TooLong else lines_after clients tags [] 1 (pieces bytes)
 
 -- a result whose `Ok` holds a vector, as one whose `Ok` holds the list of its items
 abbrev pub listed : {T E : Type 0} → Result (Vec T Global) E → Result (List T) E

@@ -2,18 +2,17 @@
 
 ghost use Rattle.std.specs.Prelude.{◌≡◌, ℕ, ◌≤◌, ◌<◌, map, IfSome, length};
 ghost use Rattle.std.specs.Str.{bytes_eq};
-ghost use Rattle.uas_script.specs.Script.{number_at, fua_at, client_at, tag_at, pipe_at, lba_at, long_lba_at, count_at, byte_at, request_named};
-ghost use Rattle.uas_script.specs.Script.{request_has, zeroed, request_of, submission_of, submission, step_named, step_has, step_of};
+ghost use Rattle.uas_profile.specs.Tags.{AreTags};
+ghost use Rattle.uas_profile.specs.declared.TheConstants.{MAX_CLIENTS, STREAMS};
+ghost use Rattle.uas_script.specs.Script.{number_at, fua_at, client_at, greatest_tag, tag_at, pipe_at, lba_at, long_lba_at, count_at, byte_at, request_named};
+ghost use Rattle.uas_script.specs.Script.{request_has, zeroed, read_of, write_of, long_read_of, long_write_of, request_of, submission_of, submission, step_named, step_has, step_of};
 ghost use Rattle.uas_script.specs.Script.{named_step, line_of_words};
 
 use crate::{Line, LineFault, Request, RequestName, StepName};
 use byte_io::{is_number, number_in};
 use scsi_cmd::{Op, Task};
 use stream_array::Pipe;
-use uas_profile::{GREATEST_TAG, USUAL_CLIENTS};
-
-/// The greatest tag.
-const MAX_TAG: u64 = GREATEST_TAG as u64;
+use uas_profile::most_clients;
 
 fn is_word(word: &[u8], name: &str) -> bool
     ensures { result ≡ bytes_eq word.now name.now }
@@ -31,8 +30,8 @@ fn number_at(words: &[&[u8]], place: usize, least: u64, most: u64) -> Option<u64
 
 /// The word at a place, as the number of one of so many clients.
 fn client_at(clients: usize, words: &[&[u8]], place: usize) -> Option<usize>
-    requires few { clients ≤ USUAL_CLIENTS }
     requires some { 0 < clients }
+    requires few { clients ≤ MAX_CLIENTS }
     ensures { result ≡ client_at clients (map (λ word. word.now) words.now) place }
 {
     let client = number_at(words, place, 0, clients as u64 - 1)?;
@@ -40,11 +39,21 @@ fn client_at(clients: usize, words: &[&[u8]], place: usize) -> Option<usize>
 }
 
 /// The word at a place, as a tag.
-fn tag_at(words: &[&[u8]], place: usize) -> Option<u16>
-    ensures { result ≡ tag_at (map (λ word. word.now) words.now) place }
+fn tag_at(tags: usize, words: &[&[u8]], place: usize) -> Option<u16>
+    requires { AreTags tags }
+    ensures { result ≡ tag_at tags (map (λ word. word.now) words.now) place }
 {
-    let tag = number_at(words, place, 1, MAX_TAG)?;
+    let tag = number_at(words, place, 1, greatest_tag(tags))?;
     Some(tag as u16)
+}
+
+/// The greatest tag that clients of so many tags can have.
+fn greatest_tag(tags: usize) -> u64
+    requires { AreTags tags }
+    ensures tag { result ≡ greatest_tag tags }
+    ensures most { result ≤ STREAMS }
+{
+    (tags * most_clients(tags)) as u64
 }
 
 /// The word at a place, as the number of a pipe with streams.
@@ -153,8 +162,9 @@ impl RequestName {
 }
 
 /// What the words ask for of a client, where each number is in its range.
-fn request_of(client: usize, name: RequestName, words: &[&[u8]]) -> Option<Line>
-    ensures { result ≡ request_of client name (map (λ word. word.now) words.now) }
+fn request_of(tags: usize, client: usize, name: RequestName, words: &[&[u8]]) -> Option<Line>
+    requires { AreTags tags }
+    ensures { result ≡ request_of tags client name (map (λ word. word.now) words.now) }
 {
     match name {
         RequestName::Tur => Some(zeroed(client, Op::TestUnitReady)),
@@ -177,7 +187,7 @@ fn request_of(client: usize, name: RequestName, words: &[&[u8]]) -> Option<Line>
             Some(zeroed(client, Op::ReadCapacity16 { allocation }))
         }
         RequestName::Abort => {
-            let tag = tag_at(words, 2)?;
+            let tag = tag_at(tags, words, 2)?;
             let task = Task::Abort { tag };
             Some(Line::Task { client, task })
         }
@@ -186,7 +196,7 @@ fn request_of(client: usize, name: RequestName, words: &[&[u8]]) -> Option<Line>
             task: Task::Reset,
         }),
         RequestName::Query => {
-            let tag = tag_at(words, 2)?;
+            let tag = tag_at(tags, words, 2)?;
             let task = Task::Query { tag };
             Some(Line::Task { client, task })
         }
@@ -194,7 +204,7 @@ fn request_of(client: usize, name: RequestName, words: &[&[u8]]) -> Option<Line>
 }
 
 fn read_request(client: usize, words: &[&[u8]]) -> Option<Line>
-    ensures { result ≡ request_of client RequestName.Read (map (λ word. word.now) words.now) }
+    ensures { result ≡ read_of client (map (λ word. word.now) words.now) }
 {
     let lba = lba_at(words, 2)?;
     let count = count_at(words, 3)?;
@@ -203,7 +213,7 @@ fn read_request(client: usize, words: &[&[u8]]) -> Option<Line>
 }
 
 fn write_request(client: usize, words: &[&[u8]]) -> Option<Line>
-    ensures { result ≡ request_of client RequestName.Write (map (λ word. word.now) words.now) }
+    ensures { result ≡ write_of client (map (λ word. word.now) words.now) }
 {
     let lba = lba_at(words, 2)?;
     let count = count_at(words, 3)?;
@@ -217,7 +227,7 @@ fn write_request(client: usize, words: &[&[u8]]) -> Option<Line>
 }
 
 fn long_read_request(client: usize, words: &[&[u8]]) -> Option<Line>
-    ensures { result ≡ request_of client RequestName.Read16 (map (λ word. word.now) words.now) }
+    ensures { result ≡ long_read_of client (map (λ word. word.now) words.now) }
 {
     let lba = long_lba_at(words, 2)?;
     let count = u32::from(count_at(words, 3)?);
@@ -226,7 +236,7 @@ fn long_read_request(client: usize, words: &[&[u8]]) -> Option<Line>
 }
 
 fn long_write_request(client: usize, words: &[&[u8]]) -> Option<Line>
-    ensures { result ≡ request_of client RequestName.Write16 (map (λ word. word.now) words.now) }
+    ensures { result ≡ long_write_of client (map (λ word. word.now) words.now) }
 {
     let lba = long_lba_at(words, 2)?;
     let count = u32::from(count_at(words, 3)?);
@@ -250,10 +260,11 @@ fn zeroed(client: usize, op: Op) -> Line
 }
 
 /// What a line asks for whose first word is a number.
-fn submission(clients: usize, words: &[&[u8]]) -> Result<Line, LineFault>
-    requires few { clients ≤ USUAL_CLIENTS }
+fn submission(clients: usize, tags: usize, words: &[&[u8]]) -> Result<Line, LineFault>
+    requires number { AreTags tags }
     requires some { 0 < clients }
-    ensures { result ≡ submission clients (map (λ word. word.now) words.now) }
+    requires few { clients ≤ MAX_CLIENTS }
+    ensures { result ≡ submission clients tags (map (λ word. word.now) words.now) }
 {
     let Some(word) = words.get(1) else {
         return Err(LineFault::UnknownWord);
@@ -262,16 +273,17 @@ fn submission(clients: usize, words: &[&[u8]]) -> Result<Line, LineFault>
     if !name.request_has(words.len()) {
         return Err(LineFault::WrongNumberOfWords);
     }
-    submission_of(clients, name, words).ok_or(LineFault::NumberOutOfRange)
+    submission_of(clients, tags, name, words).ok_or(LineFault::NumberOutOfRange)
 }
 
-fn submission_of(clients: usize, name: RequestName, words: &[&[u8]]) -> Option<Line>
-    requires few { clients ≤ USUAL_CLIENTS }
+fn submission_of(clients: usize, tags: usize, name: RequestName, words: &[&[u8]]) -> Option<Line>
+    requires number { AreTags tags }
     requires some { 0 < clients }
-    ensures { result ≡ submission_of clients name (map (λ word. word.now) words.now) }
+    requires few { clients ≤ MAX_CLIENTS }
+    ensures { result ≡ submission_of clients tags name (map (λ word. word.now) words.now) }
 {
     let client = client_at(clients, words, 0)?;
-    request_of(client, name, words)
+    request_of(tags, client, name, words)
 }
 
 /// The step of this name.
@@ -313,48 +325,55 @@ impl StepName {
 }
 
 /// What a line asks for whose first word is a name.
-fn named_step(clients: usize, first: &[u8], words: &[&[u8]]) -> Result<Line, LineFault>
-    requires few { clients ≤ USUAL_CLIENTS }
+fn named_step(clients: usize, tags: usize, first: &[u8], words: &[&[u8]]) -> Result<Line, LineFault>
+    requires number { AreTags tags }
     requires some { 0 < clients }
-    ensures { result ≡ named_step clients (map (λ word. word.now) words.now) (step_named first.now) }
+    requires few { clients ≤ MAX_CLIENTS }
+    ensures { result ≡ named_step clients tags (map (λ word. word.now) words.now) (step_named first.now) }
 {
     let name = step_named(first).ok_or(LineFault::UnknownWord)?;
     if words.len() != name.words() {
         return Err(LineFault::WrongNumberOfWords);
     }
-    step_of(clients, name, words).ok_or(LineFault::NumberOutOfRange)
+    step_of(clients, tags, name, words).ok_or(LineFault::NumberOutOfRange)
 }
 
-fn step_of(clients: usize, name: StepName, words: &[&[u8]]) -> Option<Line>
-    requires few { clients ≤ USUAL_CLIENTS }
+fn step_of(clients: usize, tags: usize, name: StepName, words: &[&[u8]]) -> Option<Line>
+    requires number { AreTags tags }
     requires some { 0 < clients }
-    ensures { result ≡ step_of clients name (map (λ word. word.now) words.now) }
+    requires few { clients ≤ MAX_CLIENTS }
+    ensures { result ≡ step_of clients tags name (map (λ word. word.now) words.now) }
 {
     match name {
         StepName::Command => Some(Line::CommandPipe),
         StepName::Engine => Some(Line::Engine),
         StepName::Event => Some(Line::Event),
-        StepName::Data => Some(Line::Data(tag_at(words, 1)?)),
-        StepName::Status => Some(Line::Status(tag_at(words, 1)?)),
-        StepName::Retire => Some(Line::Retire(pipe_at(words, 1)?, tag_at(words, 2)?)),
+        StepName::Data => Some(Line::Data(tag_at(tags, words, 1)?)),
+        StepName::Status => Some(Line::Status(tag_at(tags, words, 1)?)),
+        StepName::Retire => Some(Line::Retire(pipe_at(words, 1)?, tag_at(tags, words, 2)?)),
         StepName::Take => Some(Line::Take(client_at(clients, words, 1)?)),
         StepName::Drain => Some(Line::Drain),
     }
 }
 
 /// What the words of a line ask for: nothing where there are none.
-pub fn line_of_words(clients: usize, words: &[&[u8]]) -> Result<Option<Line>, LineFault>
-    requires few { clients ≤ USUAL_CLIENTS }
+pub fn line_of_words(
+    clients: usize,
+    tags: usize,
+    words: &[&[u8]],
+) -> Result<Option<Line>, LineFault>
+    requires number { AreTags tags }
     requires some { 0 < clients }
-    ensures { result ≡ line_of_words clients (map (λ word. word.now) words.now) }
+    requires few { clients ≤ MAX_CLIENTS }
+    ensures { result ≡ line_of_words clients tags (map (λ word. word.now) words.now) }
 {
     let Some(first) = words.get(0) else {
         return Ok(None);
     };
     let line = if is_number(first) {
-        submission(clients, words)?
+        submission(clients, tags, words)?
     } else {
-        named_step(clients, first, words)?
+        named_step(clients, tags, first, words)?
     };
     Ok(Some(line))
 }

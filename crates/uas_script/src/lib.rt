@@ -8,7 +8,8 @@
 //! names of operations and pipes, and knows no bus.
 #![tactic(auto)]
 
-ghost use Rattle.uas_profile.specs.declared.TheConstants.{USUAL_CLIENTS};
+ghost use Rattle.uas_profile.specs.Tags.{AreTags};
+ghost use Rattle.uas_profile.specs.declared.TheConstants.{MAX_CLIENTS};
 ghost use Rattle.std.specs.Prelude.{◌≡◌, ℕ, ◌+◌, ◌-◌, ◌<◌, ◌≤◌, [], ◌++◌, map, IfOk, OnOk, option_to_list, length};
 ghost use Rattle.uas_script.specs.Script.{script, line_of, lines_after, listed, is_ascii, is_comment};
 
@@ -108,37 +109,41 @@ pub enum StepName {
     Drain,
 }
 
-/// Reads a script for so many clients, 1 to 15: its lines, or its first fault.
+/// Reads a script for 1 to 31 clients with 2 to 16 tags each: its lines, or its first fault.
 #[tactic(auto, unfolding(crate::specs::Script::script))]
 pub fn parse_script(
     alloc: Global,
     clients: usize,
+    tags: usize,
     text: &[u8],
 ) -> Result<Result<Vec<Line>, ScriptFault>, AllocError>
-    requires few { clients ≤ USUAL_CLIENTS }
+    requires number { AreTags tags }
     requires some { 0 < clients }
-    ensures { IfOk result (λ read. listed read ≡ script clients text.now) }
+    requires few { clients ≤ MAX_CLIENTS }
+    ensures { IfOk result (λ read. listed read ≡ script clients tags text.now) }
 {
     if text.len() > MAX_SCRIPT_BYTES {
         return Ok(Err(ScriptFault::TooLong));
     }
     let pieces = byte_io::pieces(alloc, text)?;
-    lines_of(alloc, clients, &pieces)
+    lines_of(alloc, clients, tags, &pieces)
 }
 
 /// Reads the pieces of a script.
 fn lines_of(
     alloc: Global,
     clients: usize,
+    tags: usize,
     pieces: &[&[u8]],
 ) -> Result<Result<Vec<Line>, ScriptFault>, AllocError>
-    requires few { clients ≤ USUAL_CLIENTS }
+    requires number { AreTags tags }
     requires some { 0 < clients }
-    ensures { IfOk result (λ read. listed read ≡ lines_after clients [] 1 (map (λ piece. piece.now) pieces.now)) }
+    requires few { clients ≤ MAX_CLIENTS }
+    ensures { IfOk result (λ read. listed read ≡ lines_after clients tags [] 1 (map (λ piece. piece.now) pieces.now)) }
 {
     let mut lines = Vec::new(alloc);
     for (index, piece) in pieces.iter().enumerate() {
-        match parse_line(alloc, clients, piece)? {
+        match parse_line(alloc, clients, tags, piece)? {
             Ok(line) => push_some(&mut lines, line)?,
             Err(fault) => {
                 let number = index + 1;
@@ -164,11 +169,13 @@ fn push_some(lines: &mut Vec<Line>, line: Option<Line>) -> Result<(), AllocError
 fn parse_line(
     alloc: Global,
     clients: usize,
+    tags: usize,
     line: &[u8],
 ) -> Result<Result<Option<Line>, LineFault>, AllocError>
-    requires few { clients ≤ USUAL_CLIENTS }
+    requires number { AreTags tags }
     requires some { 0 < clients }
-    ensures { IfOk result (λ read. read ≡ line_of clients line.now) }
+    requires few { clients ≤ MAX_CLIENTS }
+    ensures { IfOk result (λ read. read ≡ line_of clients tags line.now) }
 {
     if !is_ascii(line) {
         return Ok(Err(LineFault::NotAscii));
@@ -177,7 +184,7 @@ fn parse_line(
         return Ok(Ok(None));
     }
     let words = byte_io::words(alloc, line)?;
-    Ok(grammar::line_of_words(clients, &words))
+    Ok(grammar::line_of_words(clients, tags, &words))
 }
 
 fn is_ascii(line: &[u8]) -> bool

@@ -2,7 +2,8 @@
 -- a device's calls.
 use Rattle.std.proofs.Common.{◌≡◌, ℕ, ◌+◌, ◌<◌, Bool, true, false, cond, List, length, Option, Some, None, IfSome, Result, Ok, Err}
 use Rattle.std.proofs.Common.{refl, sym, ◌∙◌}
-use Rattle.std.specs.Prelude.{is_some, nat_lt, ◌==◌, option_and_then, option_map, slice_index}
+use Rattle.std.proofs.lemmas.Bool.{false≢true}
+use Rattle.std.specs.Prelude.{is_some, IsSome, nat_lt, ◌==◌, ◌&&◌, option_and_then, option_map, slice_index}
 use Rattle.std.specs.Option.{option_map_or}
 use Rattle.scsi_cmd.specs.declared.Sense.{Sense}
 use Rattle.host_commands.specs.declared.Attention.{Attention}
@@ -33,7 +34,7 @@ use Rattle.uas_tasks.specs.declared.Wants.TheVariants.{Absent, Asks, Waits, Ends
 use Rattle.uas_tasks.specs.declared.slot.Out.{Out}
 use Rattle.uas_tasks.specs.Machine.{Machine, begun, begun_as, is_held, reported_as, slot_of, wanted}
 use Rattle.uas_tasks.specs.Slots.{SlotState, after_answer, after_outcome, answered_slot, asked_slot, blocks_synchronized, chunk_blocks, chunk_bytes, done_by, ended_good, first_stage}
-use Rattle.uas_tasks.specs.Slots.{gave_slot, gave_task, is_command_of, job_task, moved_on, next_chunk, out_of, request_of, slot_wants, spared_slot, stage_wants}
+use Rattle.uas_tasks.specs.Slots.{done_slot, gave_slot, gave_task, is_command_of, is_done, is_read, job_task, moved_on, next_chunk, out_of, passed_out, passing_out, request_of, slot_wants, spared_slot, stage_wants}
 use Rattle.uas_tasks.specs.Slots.{started, started_none, started_none_work, started_work, task_waits, task_wants, took_slot, took_task, waiting, with_task}
 use Rattle.uas_tasks.specs.Soundness.{IsAnswer, IsTaskWithin, IsWithin}
 use Rattle.uas_tasks.specs.Stale.{stale_unit, unit_written}
@@ -313,6 +314,22 @@ none-either false unit is = is
 
 pub answered-stale : (slot : SlotState) (out : Out) (outcome : Outcome) (new : List ℕ) → stale_unit (answered_slot slot out outcome new) ≡ None
 answered-stale slot out outcome new = none-either (waits (answered_slot slot out outcome new).task) None refl
+
+-- a Read's bytes passed: nothing was stale, and nothing is
+waits_if : (b c d : Bool) (len : ℕ) → IsSome (cond (b && c && d) (Some len) None) → b ≡ true
+waits_if true c d len some = refl
+waits_if false c d len some = absurd (false≢true some)
+
+pub passed-keeps : (many : ℕ) (slot : SlotState) (out : Out) → IsSome (passing_out slot out) → IsWithin many slot → Keeps many slot (passed_out slot out)
+passed-keeps many slot out some was =
+    let waits_is : waits slot.task ≡ true = waits_if (waits slot.task) (is_read out.request) (is_done Done) out.len some in
+    let none : stale_unit slot ≡ None = rw waits_is refl in
+    let within : IsWithin many (done_slot slot) = record { task = after_answer-within many Done slot.chunk slot.task was.task; written = tt } in
+    let gave = gave-keeps many (done_slot slot) out.len within in
+    record {
+      within = λ before. gave.within within;
+      stale = gave.stale ∙ none-either (waits (done_slot slot).task) None refl ∙ sym none;
+    }
 
 -- A TASK IS GONE
 

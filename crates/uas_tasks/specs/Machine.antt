@@ -35,7 +35,7 @@ use Rattle.uas_tasks.specs.declared.Task.TheVariants.{Ended, Held}
 use Rattle.uas_tasks.specs.declared.Wants.{Wants}
 use Rattle.uas_tasks.specs.declared.Wants.TheVariants.{Absent, Asks, Waits, Gives, Takes, Ends}
 use Rattle.uas_tasks.specs.declared.slot.Out.{Out}
-use Rattle.uas_tasks.specs.Slots.{SlotState, answered_slot, asked_slot, fresh_slot, gave_slot, has_command, is_tag, is_wrong_length, next_bytes, slot_wants}
+use Rattle.uas_tasks.specs.Slots.{SlotState, answered_slot, asked_slot, fresh_slot, gave_slot, has_command, is_tag, is_wrong_length, next_bytes, passed_out, passing_out, slot_wants}
 use Rattle.uas_tasks.specs.Slots.{spared_slot, started, started_none, task_answer, took_slot, with_task}
 use Rattle.uas_tasks.specs.Stale.{held_by, is_stale, stale_unit}
 
@@ -313,6 +313,18 @@ answered_out machine tag outcome new (Some out) =
 
 abbrev pub answered : Machine → ℕ → Outcome → List ℕ → Machine × Result (Unit {0}) AnswerFault
 answered machine number outcome new = answered_out machine (number % 256) outcome new (out_of_number machine number)
+
+-- How many bytes the Read of a number brings, while it is out and a task waits for them. They may pass: it is done, and they go to the host
+-- at once, all of them. Worked, on tag 1 as above: 257 brings 4096, and once these have passed, 513 is asked.
+abbrev pub passing : Machine → ℕ → Option ℕ
+passing machine number = option_and_then (passing_out (slot_of machine (number % 256))) (out_of_number machine number)
+
+abbrev pub passed_by : Machine → ℕ → Option Out → Machine
+passed_by machine tag None = machine
+passed_by machine tag (Some out) = with_slot machine tag (passed_out (slot_of machine tag) out)
+
+abbrev pub passed : Machine → ℕ → Machine
+passed machine number = passed_by machine (number % 256) (out_of_number machine number)
 
 -- the number of the first stale request of these slots, the first of which is the tag's; None where there is none
 abbrev pub stale_from : ℕ → List SlotState → Option ℕ

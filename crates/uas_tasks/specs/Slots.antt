@@ -267,6 +267,20 @@ task_bytes given bytes (Held unit code) = []
 abbrev pub next_bytes : SlotState → ℕ → List ℕ
 next_bytes slot moved = take moved (option_map_or (task_bytes slot.given slot.bytes) slot.task [])
 
+-- A READ WHOSE BYTES GO TO THE HOST AT ONCE
+
+-- how many bytes a Read that is out brings to a task that waits for them
+abbrev pub passing_out : SlotState → Out → Option ℕ
+passing_out slot out = if brings_bytes slot out Done then Some out.len else None
+
+-- it is done, and nothing was put into the chunk buffer
+abbrev pub done_slot : SlotState → SlotState
+done_slot slot = record slot { task = option_map (after_answer Done slot.chunk) slot.task; out = None }
+
+-- and its bytes were given, all of them
+abbrev pub passed_out : SlotState → Out → SlotState
+passed_out slot out = gave_slot (done_slot slot) out.len
+
 -- BYTES FROM THE HOST
 
 abbrev pub took_task : ℕ → ℕ → Task → Task

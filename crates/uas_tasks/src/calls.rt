@@ -1,11 +1,11 @@
 //! The calls on a tag's task and on requests.
-ghost use Rattle.std.specs.Prelude.{◌≡◌, ◌*◌, ◌≤◌, IfOk, MatchOption, Some, false, length, map, replicate};
+ghost use Rattle.std.specs.Prelude.{◌≡◌, ◌*◌, ◌≤◌, IfOk, IsSome, MatchOption, Some, false, length, map, replicate};
 ghost use Rattle.std.specs.List.{list_any};
 ghost use Rattle.std.specs.Option.{option_copied};
 ghost use Rattle.uas_profile.specs.declared.TheConstants.{GREATEST_TAG, MAX_UNITS};
 ghost use Rattle.uas_tasks.specs.Machine.{answered, attention_on, bytes_out, gave, given, greatest_block, is_long, next_asked, next_by, next_of, no_slot, opening};
-ghost use Rattle.uas_tasks.specs.Machine.{out_of_number, quiet, request_out, slot_of, slot_under, took, wanted, with_slot, without_task};
-ghost use Rattle.uas_tasks.specs.Slots.{answered_slot, fresh_slot, is_wrong_length};
+ghost use Rattle.uas_tasks.specs.Machine.{out_of_number, passed, passing, quiet, request_out, slot_of, slot_under, took, wanted, with_slot, without_task};
+ghost use Rattle.uas_tasks.specs.Slots.{answered_slot, fresh_slot, is_wrong_length, passed_out, passing_out};
 ghost use Rattle.uas_tasks.specs.Soundness.{MayGive, MayTake};
 
 use crate::slot::{Out, Slot};
@@ -161,6 +161,33 @@ impl Tasks {
         }
         self.answer(tag, &out, outcome, bytes);
         Ok(())
+    }
+
+    /// How many bytes the Read of a number brings, while it is out and a task waits for them.
+    pub fn passing(&self, number: u64) -> Option<usize>
+        ensures { result ≡ passing self.now number }
+    {
+        let out = self.out_of_number(number)?;
+        self.slot((number % TAG_PLACES) as u16)?.passing(&out)
+    }
+
+    /// The Read of a number is done, and its bytes were given to the host, all of them: it is as [`Tasks::answered`], and [`Tasks::give`]
+    /// after it, but that nothing is copied.
+    pub fn pass(&mut self, number: u64)
+        requires { IsSome (passing self.old number) }
+        ensures { self.new ≡ passed self.old number }
+    {
+        if let Some(out) = self.out_of_number(number) {
+            self.pass_on((number % TAG_PLACES) as u16, &out);
+        }
+    }
+
+    fn pass_on(&mut self, tag: u16, out: &Out)
+        requires out { (slot_under self.old.slots tag).out ≡ Some out.now }
+        requires passes { IsSome (passing_out (slot_under self.old.slots tag) out.now) }
+        ensures { self.new ≡ with_slot self.old tag (passed_out (slot_of self.old tag) out.now) }
+    {
+        self.slots[usize::from(tag) - 1].pass(out);
     }
 
     fn is_wrong_length(&self, tag: u16, out: &Out, outcome: Outcome, size: usize) -> bool

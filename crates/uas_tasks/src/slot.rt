@@ -1,10 +1,10 @@
 //! What the device has for one tag: its task, the request that is out, and the chunk buffer.
-ghost use Rattle.std.specs.Prelude.{◌≡◌, ◌≤◌, if◌then◌else◌, IfOk, IfSome, Some, false, length, option_and_then, take, true};
+ghost use Rattle.std.specs.Prelude.{◌≡◌, ◌≤◌, if◌then◌else◌, IfOk, IfSome, None, Some, false, length, option_and_then, take, true};
 ghost use Rattle.scsi_cmd.specs.declared.Sense.{Sense};
 ghost use Rattle.scsi_cmd.specs.Buffers.{with_bytes_at};
 ghost use Rattle.host_commands.specs.Data.{IsOfDevice, given_bytes};
 ghost use Rattle.uas_tasks.specs.Slots.{SlotState, answered_slot, asked_slot, brings_bytes, filled, fresh_slot, gave_slot, giving_slot};
-ghost use Rattle.uas_tasks.specs.Slots.{is_wrong_length, next_bytes, slot_wants, took_slot, with_task};
+ghost use Rattle.uas_tasks.specs.Slots.{is_wrong_length, next_bytes, passed_out, passing_out, slot_wants, took_slot, with_task};
 ghost use Rattle.uas_tasks.specs.Soundness.{FitsRoom, IsSoundTask, MayGive, MayTake};
 ghost use Rattle.uas_tasks.specs.Stale.{held_by, stale_unit, stale_without, writes_out};
 ghost use Rattle.uas_tasks.specs.declared.Wants.{Wants};
@@ -282,6 +282,36 @@ impl Slot {
             }
             _ => unreachable!(),
         }
+    }
+
+    /// How many bytes the Read that is out brings to a task that waits for them.
+    pub(crate) fn passing(&self, out: &Out) -> Option<usize>
+        ensures { result ≡ passing_out self.now out.now }
+    {
+        if self.brings_bytes(out, Outcome::Done) {
+            Some(out.len)
+        } else {
+            None
+        }
+    }
+
+    /// That Read is done, and its bytes were given, all of them.
+    pub(crate) fn pass(&mut self, out: &Out)
+        ensures slot { self.new ≡ passed_out self.old out.now }
+    {
+        let done = after_answer(Outcome::Done, self.chunk, self.task);
+        self.set_done(done);
+        self.task = gave_task(self.chunk, self.given.len(), out.len, self.task);
+    }
+
+    /// No request is out any more, and its task goes on so.
+    fn set_done(&mut self, task: Option<Task>)
+        requires sound { IfSome task (IsSoundTask self.old.chunk (length self.old.given)) }
+        requires fits { IfSome task (FitsRoom self.old.chunk (length self.old.bytes)) }
+        ensures { self.new ≡ record self.old { task = task; out = None } }
+    {
+        self.task = task;
+        self.out = None;
     }
 
     /// Takes the next bytes.

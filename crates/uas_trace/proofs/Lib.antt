@@ -1,5 +1,6 @@
 mod Stands
 mod StepTexts
+mod TaskTags
 mod Tries
 mod Units
 mod Whole

@@ -3,7 +3,6 @@ use Rattle.std.proofs.Common.{◌≡◌, ◌∙◌, ℕ, List, [], ◌++◌, Opt
 use Rattle.std.specs.Prelude.{IsSome}
 use Rattle.std.specs.Io.KnownBytes.{Appends}
 use Rattle.block_unit.specs.BlockMaps.{BlockMaps}
-use Rattle.uas_profile.specs.declared.TheConstants.{TAGS}
 use Rattle.uas_script.specs.declared.Line.{Line}
 use Rattle.uas_replay.specs.Told.{drained_run, opening_run, told_line}
 use Rattle.uas_replay.specs.Moments.{moments_of, whole_moments}
@@ -41,17 +40,17 @@ all_added : (moments : List Moment) (old new : Walk) (first after : Option (List
 all_added moments old new None after shows = tt
 all_added moments old new (Some bytes) after shows = (shows.known refl).shown
 
-pub traces_all : (units : List BlockMaps) (lines : List Line) (old new : Walk) (first between after : Option (List ℕ)) (waiting : List ℕ)
-    → old ≡ opening_walk TAGS units → new.telling ≡ drained_run (fold told_line old.telling lines)
+pub traces_all : (tags : ℕ) (units : List BlockMaps) (lines : List Line) (old new : Walk) (first between after : Option (List ℕ)) (waiting : List ℕ)
+    → old ≡ opening_walk tags units → new.telling ≡ drained_run (fold told_line old.telling lines)
     → Shows step_text (whole_moments old.telling lines) old new (with_waiting first []) (with_waiting between waiting) → Appends between after waiting
-    → TracesAll units lines first after
+    → TracesAll tags units lines first after
 unfolding traced_text
-traces_all units lines old new first between after waiting opening told shown rest =
-    let all : Shows step_text (whole_moments (opening_run TAGS units) lines) (opening_walk TAGS units) new first after =
+traces_all tags units lines old new first between after waiting opening told shown rest =
+    let all : Shows step_text (whole_moments (opening_run tags units) lines) (opening_walk tags units) new first after =
     subst (λ (w : Walk). Shows step_text (whole_moments w.telling lines) w new first after) opening
     (written_all (whole_moments old.telling lines) old new first between after waiting shown rest) in
     record {
-      added = all_added (moments_of TAGS units lines) (opening_walk TAGS units) new first after all;
+      added = all_added (moments_of tags units lines) (opening_walk tags units) new first after all;
       told = λ known.
           ap (λ (w : Walk). w.telling) (all.known known).leads ∙ told ∙ ap (λ (w : Walk). drained_run (fold told_line w.telling lines)) opening;
     }

@@ -2,7 +2,6 @@
 use Rattle.std.specs.Prelude.{◌≡◌, ℕ, List, Option, IsSome, Result, Ok, Err}
 use Rattle.std.specs.Io.KnownBytes.{Appends}
 use Rattle.block_unit.specs.BlockMaps.{BlockMaps}
-use Rattle.uas_profile.specs.declared.TheConstants.{TAGS}
 use Rattle.shared_machine.specs.declared.Step.{Step}
 use Rattle.shared_machine.specs.declared.Outcome.{Outcome}
 use Rattle.bus_core.specs.World.{World}
@@ -18,22 +17,23 @@ use Rattle.uas_trace.specs.Written.{seen_before, with_writes}
 abbrev pub outcome_in : World → Step → Outcome
 outcome_in world step = (step_of (machine_of world) step).1
 
--- The text of a step: its line, and what it wrote, read off the world after it beside the world before it.
+-- The text of a step: its line, and what it wrote, read off the world after it beside the world before it, which knows how many
+-- tags each client has.
 unfoldable pub step_text : World → Step → List ℕ
 step_text world step =
     let after = world_then world step in
-    with_writes (step_line step) (seen_before world.lines step) after.lines after.frames (outcome_in world step)
+    with_writes (step_line step) (seen_before (machine_of world).tags world.lines step) after.lines after.frames (outcome_in world step)
 
--- The whole text of a run of lines on these units, over new rings: the script's moments in their order, each step by its text and
--- behind it what the run told by it. It is a function of the units and the lines, with TAGS tags of each client.
-unfoldable pub traced_text : List BlockMaps → List Line → List ℕ
-traced_text units lines = shown_along step_text (opening_walk TAGS units) (moments_of TAGS units lines)
+-- The whole text of a run of lines on these units, with so many tags of each client, over new rings: the script's moments in their
+-- order, each step by its text and behind it what the run told by it. It is a function of the number of tags, the units and the lines.
+unfoldable pub traced_text : ℕ → List BlockMaps → List Line → List ℕ
+traced_text tags units lines = shown_along step_text (opening_walk tags units) (moments_of tags units lines)
 
 -- All that a run of lines prints is that text, and the moments that it shows have told what the lines tell.
-pub record TracesAll (units : List BlockMaps) (lines : List Line) (old new : Option (List ℕ)) : Type 0 where
-  pub added : Appends old new (traced_text units lines)
-  pub told : IsSome old → (walked (opening_walk TAGS units) (moments_of TAGS units lines)).telling ≡ whole_run TAGS units lines
+pub record TracesAll (tags : ℕ) (units : List BlockMaps) (lines : List Line) (old new : Option (List ℕ)) : Type 0 where
+  pub added : Appends old new (traced_text tags units lines)
+  pub told : IsSome old → (walked (opening_walk tags units) (moments_of tags units lines)).telling ≡ whole_run tags units lines
 
-abbrev pub TracesScript : List BlockMaps → Result (List Line) ScriptFault → Option (List ℕ) → Option (List ℕ) → Type 0
-TracesScript units (Ok lines) old new = TracesAll units lines old new
-TracesScript units (Err fault) old new = ⊥
+abbrev pub TracesScript : ℕ → List BlockMaps → Result (List Line) ScriptFault → Option (List ℕ) → Option (List ℕ) → Type 0
+TracesScript tags units (Ok lines) old new = TracesAll tags units lines old new
+TracesScript tags units (Err fault) old new = ⊥

@@ -10,7 +10,6 @@ use Rattle.scsi_cmd.specs.declared.Op.TheVariants.{TestUnitReady, Inquiry, ReadC
 use Rattle.scsi_cmd.specs.declared.Task.{Task}
 use Rattle.scsi_cmd.specs.declared.Task.TheVariants.{Abort, Reset, Query}
 use Rattle.uas_profile.specs.declared.Pipe.{Pipe}
-use Rattle.uas_profile.specs.declared.TheConstants.{TAGS}
 use Rattle.uas_profile.specs.Pipes.{number_of}
 use Rattle.shared_machine.specs.Shared.{Shared, due}
 use Rattle.shared_machine.specs.declared.Step.{Step}
@@ -107,15 +106,15 @@ AreNotDue machine kind tag next = (other : ℕ) → tag < other → other < next
 
 -- RUNS
 
--- A run of a script that was traced: the exit status is that of the lines' own run.
-abbrev pub Traces : List BlockMaps → Result (List Line) ScriptFault → ℕ → Type 0
-Traces units (Ok lines) status = status ≡ (told TAGS units lines).1
-Traces units (Err fault) status = ⊥
+-- A run of a script that was traced, with so many tags of each client: the exit status is that of the lines' own run.
+abbrev pub Traces : ℕ → List BlockMaps → Result (List Line) ScriptFault → ℕ → Type 0
+Traces tags units (Ok lines) status = status ≡ (told tags units lines).1
+Traces tags units (Err fault) status = ⊥
 
 -- A run of a script that is traced and gives up: nothing was printed at a fault of the script or of its reader.
-abbrev pub TraceGivesUp : ℕ → Option (List ℕ) → Bool → Bool → Option (List ℕ) → Option (List ℕ) → RunFault → Type 0
-TraceGivesUp clients left can_read_fail can_write_fail old new (Image fault) = ⊥
-TraceGivesUp clients left can_read_fail can_write_fail old new ImageFile = ⊥
-TraceGivesUp clients left can_read_fail can_write_fail old new (Script fault) = IfSome left (λ bytes. script clients bytes ≡ Err fault) × Keeps old new
-TraceGivesUp clients left can_read_fail can_write_fail old new ScriptFile = (IsTrue can_read_fail × Keeps old new) ⊎ IsTrue can_write_fail
-TraceGivesUp clients left can_read_fail can_write_fail old new NoMemory = Unit {0}
+abbrev pub TraceGivesUp : ℕ → ℕ → Option (List ℕ) → Bool → Bool → Option (List ℕ) → Option (List ℕ) → RunFault → Type 0
+TraceGivesUp clients tags left can_read_fail can_write_fail old new (Image fault) = ⊥
+TraceGivesUp clients tags left can_read_fail can_write_fail old new ImageFile = ⊥
+TraceGivesUp clients tags left can_read_fail can_write_fail old new (Script fault) = IfSome left (λ bytes. script clients tags bytes ≡ Err fault) × Keeps old new
+TraceGivesUp clients tags left can_read_fail can_write_fail old new ScriptFile = (IsTrue can_read_fail × Keeps old new) ⊎ IsTrue can_write_fail
+TraceGivesUp clients tags left can_read_fail can_write_fail old new NoMemory = Unit {0}

@@ -1,5 +1,5 @@
 -- What a step wrote, read where it stands: on the rings, in the buffers and in the stream contexts.
-use Rattle.std.specs.Prelude.{◌≡◌, ℕ, zero, suc, ◌+◌, ◌-◌, ◌*◌, ◌%◌, ◌==◌, nat_lt, ◌&&◌, Bool, false, if◌then◌else◌, List, [], ◌++◌, length, take, codes, fold}
+use Rattle.std.specs.Prelude.{ℕ, zero, suc, ◌+◌, ◌-◌, ◌*◌, ◌%◌, ◌==◌, nat_lt, ◌&&◌, Bool, false, if◌then◌else◌, List, [], ◌++◌, length, take, codes, fold}
 use Rattle.std.specs.Prelude.{Option, Some, None, slice_index_or, is_none}
 use Rattle.std.specs.Option.{option_map_or}
 use Rattle.xhci_trb.specs.declared.Trb.{Trb}
@@ -14,7 +14,7 @@ use Rattle.frame_store.specs.declared.TagBuffers.{TagBuffers}
 use Rattle.uas_profile.specs.declared.TheConstants.{STATUS_BYTES}
 use Rattle.frame_store.specs.Buffers.{bytes_of, front_of as front_of_buffer}
 use Rattle.frame_store.specs.Places.{address_of}
-use Rattle.uas_profile.specs.declared.TheConstants.{TAGS}
+use Rattle.uas_profile.specs.Tags.{most_clients, tag_of, task_slot}
 use Rattle.uas_profile.specs.declared.Pipe.{Pipe}
 use Rattle.uas_profile.specs.declared.Pipe.TheVariants as pipe
 use Rattle.uas_profile.specs.declared.TheConstants.{ENGINE_RING, ENGINE_RING_PLACES, EVENT_RING, EVENT_RING_PLACES, STREAM_ENTRIES}
@@ -27,7 +27,6 @@ use Rattle.xhci_ctl.specs.Doorbells.{pipe_at}
 use Rattle.shared_machine.specs.declared.Step.{Step}
 use Rattle.shared_machine.specs.declared.Step.TheVariants as step
 use Rattle.shared_machine.specs.declared.Outcome.{Outcome}
-use Rattle.uas_profile.specs.declared.TheConstants.{USUAL_CLIENTS}
 use Rattle.uas_trace.specs.declared.put_ring.PutRing.{PutRing}
 use Rattle.uas_trace.specs.declared.put_ring.PutRing.TheVariants as put
 use Rattle.uas_trace.specs.declared.writes.Before.{Before}
@@ -114,27 +113,27 @@ ends_of lines tag = record {
 abbrev pub front_on : LinesState → Pipe → ℕ → Option (ℕ × Trb)
 front_on lines on tag = known_front_of (places_of on) (ring_of lines on tag)
 
--- a client's tag for task management is the last of its own
-abbrev pub task_tag : ℕ → ℕ
-task_tag client = TAGS * client + TAGS
+-- A client's tag for task management, the last of its own. Worked: client 30's of 8 tags is 248, and client 2's of 16 tags is 48.
+abbrev pub task_tag : ℕ → ℕ → ℕ
+task_tag tags client = tag_of tags (record { client = client; slot = task_slot tags })
 
--- what a step can write: the ends and the fronts of the rings that it works on
-abbrev pub seen_writes : LinesState → Step → Writes
-seen_writes lines (step.Submit client tag ticket command) =
+-- What a step can write, where each client has so many tags: the ends and the fronts of the rings that it works on.
+abbrev pub seen_writes : ℕ → LinesState → Step → Writes
+seen_writes tags lines (step.Submit client tag ticket command) =
     if has_stream tag then writes.CommandUnit tag (ends_of lines tag) else writes.Nothing
-seen_writes lines (step.Task client ticket task) =
-    if nat_lt client USUAL_CLIENTS then writes.TaskUnit (task_tag client) (ends_of lines (task_tag client)) else writes.Nothing
-seen_writes lines step.CommandPipe = writes.Nothing
-seen_writes lines (step.Data tag) =
+seen_writes tags lines (step.Task client ticket task) =
+    if nat_lt client (most_clients tags) then writes.TaskUnit (task_tag tags client) (ends_of lines (task_tag tags client)) else writes.Nothing
+seen_writes tags lines step.CommandPipe = writes.Nothing
+seen_writes tags lines (step.Data tag) =
     if has_stream tag then writes.Chunk tag (front_on lines pipe.DataIn tag) (front_on lines pipe.DataOut tag) else writes.Nothing
-seen_writes lines (step.Status tag) = if has_stream tag then writes.StatusUnit tag else writes.Nothing
-seen_writes lines step.Engine = writes.Context (known_front_of ENGINE_RING_PLACES lines.engine)
-seen_writes lines step.Event = writes.EngineCommand (end_of ENGINE_RING_PLACES lines.engine)
-seen_writes lines (step.Retire pipe tag) = writes.EngineCommand (end_of ENGINE_RING_PLACES lines.engine)
-seen_writes lines (step.Take client) = writes.Nothing
+seen_writes tags lines (step.Status tag) = if has_stream tag then writes.StatusUnit tag else writes.Nothing
+seen_writes tags lines step.Engine = writes.Context (known_front_of ENGINE_RING_PLACES lines.engine)
+seen_writes tags lines step.Event = writes.EngineCommand (end_of ENGINE_RING_PLACES lines.engine)
+seen_writes tags lines (step.Retire pipe tag) = writes.EngineCommand (end_of ENGINE_RING_PLACES lines.engine)
+seen_writes tags lines (step.Take client) = writes.Nothing
 
-abbrev pub seen_before : LinesState → Step → Before
-seen_before lines step = record { writes = seen_writes lines step; events = length lines.events.pending }
+abbrev pub seen_before : ℕ → LinesState → Step → Before
+seen_before tags lines step = record { writes = seen_writes tags lines step; events = length lines.events.pending }
 
 -- the place of the event that was posted since, if one was: the newest
 abbrev pub posted_at : Before → LinesState → Option ℕ

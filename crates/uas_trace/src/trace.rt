@@ -4,7 +4,7 @@
 //! come of. A drain is run by single tries in the order of the bus's own. What a step wrote is read off the bus after it, and
 //! goes to the writer behind what was told before, in large pieces: no text of the whole is kept but the lines of `replay`.
 
-ghost use Rattle.uas_profile.specs.declared.TheConstants.{MAX_BLOCKS, TAGS, USUAL_CLIENTS};
+ghost use Rattle.byte_io.specs.Disks.{AreDisks};
 ghost use Rattle.std.specs.Prelude.{◌≡◌, ◌*◌, ◌≤◌, ◌<◌, ◌^◌, Ok, [], fold, map, length, suc, IfOk, OnOk, IfErr, IfSome, IfNone};
 ghost use Rattle.std.specs.Io.KnownBytes.{Appends};
 ghost use Rattle.shared_machine.specs.Bus.{HasTicket};
@@ -20,7 +20,7 @@ ghost use Rattle.uas_replay.specs.Moments.{drain_moments, round_moments, tried_m
 use crate::lines::push_step;
 use crate::writes::Before;
 use bus_core::{Outcome, Step};
-use byte_io::Sink;
+use byte_io::{Disks, Sink};
 use std::alloc::{AllocError, Global};
 use stream_array::Pipe;
 use uas_replay::{COMMAND_FAILED, DONE, RunFault, ScriptRun, Watcher, output_fault};
@@ -125,7 +125,7 @@ impl Tracer {
     {
         self.text.clear();
         push_step(&mut self.text, &step)?;
-        let before = Before::of(run.rings(), &step);
+        let before = Before::of(run.tags(), run.rings(), &step);
         let outcome = run.act(step);
         let rings = run.rings();
         let posted = before.posted(rings, self.posted);
@@ -294,22 +294,17 @@ fn write_waiting<O: Sink>(waiting: &mut Vec<u8>, writer: &mut O) -> Result<(), R
 #[tactic(auto, unfolding(uas_replay::specs::Told::told))]
 pub fn trace<O: Sink>(
     alloc: Global,
-    clients: usize,
-    blocks: u32,
-    bad: Option<u32>,
+    disks: Disks,
     writer: &mut O,
     lines: &[Line],
 ) -> Result<u8, RunFault>
-    requires some_clients { 1 ≤ clients }
-    requires most_clients { clients ≤ USUAL_CLIENTS }
-    requires some_blocks { 1 ≤ blocks }
-    requires most_blocks { blocks ≤ MAX_BLOCKS }
-    ensures number { IfOk result (λ status. status ≡ (told TAGS (zeroed_units clients blocks bad) lines.now).1) }
-    ensures text { OnOk result (TracesAll (zeroed_units clients blocks bad) lines.now (O.written writer.old) (O.written writer.new)) }
+    requires { AreDisks disks }
+    ensures number { IfOk result (λ status. status ≡ (told disks.tags (zeroed_units disks.clients disks.blocks disks.bad) lines.now).1) }
+    ensures text { OnOk result (TracesAll disks.tags (zeroed_units disks.clients disks.blocks disks.bad) lines.now (O.written writer.old) (O.written writer.new)) }
     ensures status { IfOk result (λ status. status ≤ 1) }
     ensures fault { IfErr result (StopsBy (O.can_fail writer.old)) }
 {
-    let Ok(mut run) = ScriptRun::new(alloc, clients, blocks, bad) else {
+    let Ok(mut run) = ScriptRun::new(alloc, disks) else {
         return Err(RunFault::NoMemory);
     };
     let mut tracer = Tracer::new(alloc);

@@ -11,7 +11,7 @@ ghost use Rattle.uas_profile.specs.Pipes.{HasStreams};
 ghost use Rattle.uas_trace.specs.Written.{chunk_lines, ends_of, is_at, moved_line, moved_on, own_lines, posted_at, residual_in, seen_before};
 ghost use Rattle.uas_trace.specs.Written.{seen_writes, status_len, taken_line, task_tag, tds_lines, unit_line, with_writes};
 ghost use Rattle.stream_array.specs.Rings.{IsLines};
-ghost use Rattle.uas_profile.specs.declared.TheConstants.{USUAL_CLIENTS};
+ghost use Rattle.uas_profile.specs.Tags.{AreTags, most_clients};
 ghost use Rattle.xhci_ctl.specs.Doorbells.{pipe_at};
 
 use crate::events::{event_at, newest_event, push_event};
@@ -24,7 +24,7 @@ use stream_array::{Lines, Pipe};
 use uas_iu::TASK_BYTES;
 use uas_profile::{
     COMMAND_BYTES, DATA_IN_ENDPOINT, DATA_OUT_ENDPOINT, STATUS_BYTES, STATUS_ENDPOINT, STREAMS,
-    TAGS, USUAL_CLIENTS,
+    most_clients, tag_of, task_slot,
 };
 use xhci_trb::Trb;
 
@@ -80,13 +80,14 @@ pub struct Before {
 }
 
 impl Before {
-    /// What is seen of the rings before a step.
-    pub fn of(lines: &Lines, step: &Step) -> Before
-        ensures { result ≡ seen_before lines.now step.now }
+    /// What is seen of the rings before a step, where each client has so many tags.
+    pub fn of(tags: usize, lines: &Lines, step: &Step) -> Before
+        requires { AreTags tags }
+        ensures { result ≡ seen_before tags lines.now step.now }
     {
         let events = lines.len();
         Before {
-            writes: Writes::seen(lines, step),
+            writes: Writes::seen(tags, lines, step),
             events,
         }
     }
@@ -131,17 +132,18 @@ impl Before {
 
 impl Writes {
     /// What a step may write on these rings.
-    fn seen(lines: &Lines, step: &Step) -> Writes
-        requires { IsLines lines.now }
-        ensures { result ≡ seen_writes lines.now step.now }
+    fn seen(tags: usize, lines: &Lines, step: &Step) -> Writes
+        requires number { AreTags tags }
+        requires lines { IsLines lines.now }
+        ensures { result ≡ seen_writes tags lines.now step.now }
     {
         match step {
             Step::Submit { tag, .. } if is_stream(*tag) => Writes::CommandUnit {
                 tag: *tag,
                 ends: Ends::of(lines, *tag),
             },
-            Step::Task { client, .. } if *client < USUAL_CLIENTS => {
-                let tag = task_tag(*client);
+            Step::Task { client, .. } if *client < most_clients(tags) => {
+                let tag = task_tag(tags, *client);
                 Writes::TaskUnit {
                     tag,
                     ends: Ends::of(lines, tag),
@@ -238,13 +240,16 @@ fn is_stream(tag: u16) -> bool
 }
 
 /// A client's tag for task management, the last of its own.
-fn task_tag(client: usize) -> u16
-    requires { client < USUAL_CLIENTS }
-    ensures tag { result ≡ task_tag client }
+#[tactic(auto, using(crate::proofs::TaskTags::last_within))]
+fn task_tag(tags: usize, client: usize) -> u16
+    requires number { AreTags tags }
+    requires client { client < most_clients tags }
+    ensures tag { result ≡ task_tag tags client }
     ensures some { 0 < result }
     ensures most { result ≤ STREAMS }
 {
-    (TAGS * client + TAGS) as u16
+    let slot = task_slot(tags);
+    tag_of(tags, uas_profile::Place { client, slot })
 }
 
 /// Adds the line of the stream context that a command to the controller moved, if it is one that does.

@@ -10,4 +10,5 @@ mod PlainFiles
 mod PlainMakes
 mod PlainPages
 mod PlainTraces
+mod PlainWork
 mod PlainLines

@@ -103,10 +103,10 @@ number_read k least most id f r fits none value =
     ∙ one_number (λ bs x. ParsesUnsigned k 10 bs x × ExplainsUnsignedError 10 bs x × HasUnsignedDigitsIfOk bs x) k least most _ r (λ u x g. g.0) fits none value
 
 -- and of an option, by its rows
-pub option_read : (most : ℕ) (id : List ℕ) (f : Found) (r : Result (Option ℕ) _) → most < 2 ^ 32 → (one_text f id ≡ None → r ≡ Ok None)
+pub option_read : (least most : ℕ) (id : List ℕ) (f : Found) (r : Result (Option ℕ) _) → most < 2 ^ 32 → (one_text f id ≡ None → r ≡ Ok None)
     → ((t : List ℕ) → one_text f id ≡ Some t
     → TriesOne (λ bs x. ParsesUnsigned 32 10 bs x × ExplainsUnsignedError 10 bs x × HasUnsignedDigitsIfOk bs x) t r)
-    → optional_number 0 most (one_of id (rows_of f)) ≡ option_and_then (optional_within 0 most) (result_ok r)
-option_read most id f r fits none value =
-    ap (optional_number 0 most) (sym (one_text-rows f id))
-    ∙ tried_number (λ bs x. ParsesUnsigned 32 10 bs x × ExplainsUnsignedError 10 bs x × HasUnsignedDigitsIfOk bs x) 32 0 most _ r (λ u x g. g.0) fits none value
+    → optional_number least most (one_of id (rows_of f)) ≡ option_and_then (optional_within least most) (result_ok r)
+option_read least most id f r fits none value =
+    ap (optional_number least most) (sym (one_text-rows f id))
+    ∙ tried_number (λ bs x. ParsesUnsigned 32 10 bs x × ExplainsUnsignedError 10 bs x × HasUnsignedDigitsIfOk bs x) 32 least most _ r (λ u x g. g.0) fits none value

@@ -11,7 +11,7 @@ use Rattle.clap.specs.declared.builder.value_parser.Reading.{Reading}
 use Rattle.clap.specs.declared.builder.value_parser.Reading.TheVariants.{WithoutMinus}
 use Rattle.clap.specs.declared.parser.matches.ValueSource.{ValueSource}
 use Rattle.clap.specs.declared.parser.matches.ValueSource.TheVariants.{CommandLine}
-use Rattle.uas_profile.specs.declared.TheConstants.{USUAL_CLIENTS}
+use Rattle.uas_profile.specs.declared.TheConstants.{TAGS, USUAL_CLIENTS}
 use Rattle.byte_io.specs.Words.{number_in}
 use Rattle.uas_words.specs.CommandLine.{bad_of, blocks_of, clients_of}
 use Rattle.uas_words.proofs.Levels.{level_nothing}
@@ -56,7 +56,7 @@ ends s words w is p q r t = level_nothing s words p
     (ap (λ (v : Walk). defaults_fault (settled s.rules v.held).rows s.rules) is ∙ r)
     (ap (λ (v : Walk). check_fault s (finished s.rules v.held) false) is ∙ t)
 
-pub clients_in : (d : ℕ) (ds : Text) (rest : List Row) → (d == 45) ≡ false → (d == 43) ≡ false → clients_of (clients_row (d ∷ ds) ∷ rest) ≡ number_in 1 USUAL_CLIENTS (d ∷ ds)
+pub clients_in : (d : ℕ) (ds : Text) (rest : List Row) → (d == 45) ≡ false → (d == 43) ≡ false → clients_of TAGS (clients_row (d ∷ ds) ∷ rest) ≡ number_in 1 USUAL_CLIENTS (d ∷ ds)
 clients_in d ds rest hyphen plus = simp hyphen (simp plus)
 
 pub blocks_in : (c : Text) (e : ℕ) (es : Text) (rest : List Row) → (e == 45) ≡ false → (e == 43) ≡ false

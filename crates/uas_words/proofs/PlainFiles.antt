@@ -12,14 +12,14 @@ use Rattle.clap.specs.declared.builder.value_parser.Reading.TheVariants.{AsWritt
 use Rattle.clap.specs.declared.parser.matches.ValueSource.TheVariants.{CommandLine}
 use Rattle.std.specs.Option.{option_map_or}
 use Rattle.std.specs.Prelude.{find}
-use Rattle.uas_profile.specs.declared.TheConstants.{USUAL_CLIENTS}
+use Rattle.uas_profile.specs.declared.TheConstants.{MAX_CLIENTS, TAGS, USUAL_CLIENTS}
 use Rattle.byte_io.specs.Words.{number_in}
 use Rattle.uas_words.specs.CommandLine.{AsksCapture, AsksPlainly, asked_for, asked_in, audit, hex_number, bad_of, blocks_of, capture}
-use Rattle.uas_words.specs.CommandLine.{capture_of, clients_of, file_of, program_app}
+use Rattle.uas_words.specs.CommandLine.{capture_of, clients_of, file_of, program_app, tags_of}
 use Rattle.uas_words.proofs.Levels.{Enters}
 use Rattle.uas_words.proofs.HexWords.{hex_begins}
 use Rattle.uas_words.proofs.Places.{bad_in, bad_row, before_bad, behind_bad, blocks_in, blocks_row, clients_in, clients_row, ends, found, on, pending}
-use Rattle.uas_words.proofs.PlainNumbers.{IsIn, not-true, number_is_in}
+use Rattle.uas_words.proofs.PlainNumbers.{IsIn, clients_are_in, not-true, number_is_in}
 use Rattle.uas_words.proofs.WalkSteps.{fault-bad, fault-end, fault-plain, fault-value, standing, walked-bad, walked-plain, walked-value}
 
 -- AUDIT LOG, and --head HEX behind it
@@ -83,9 +83,10 @@ capture_level : (words : List Text)
 capture_level words = refl
 
 -- what is found for a capture, part by part, asks for it
-captured_by : (clients blocks : ℕ) (file : Text) (bad : Option ℕ) (rows : List Row) → clients_of rows ≡ Some clients → blocks_of rows ≡ Some blocks
-    → file_of rows ≡ Some file → bad_of rows ≡ Some bad → capture_of rows ≡ Some (capture clients blocks file bad)
-captured_by clients blocks file bad rows p q f r = rw (f, p, q, r) refl
+captured_by : (clients tags blocks : ℕ) (file : Text) (bad : Option ℕ) (rows : List Row) → clients_of TAGS rows ≡ Some clients
+    → blocks_of rows ≡ Some blocks → file_of rows ≡ Some file → bad_of rows ≡ Some bad → tags_of rows ≡ Some TAGS → tags ≡ TAGS
+    → capture_of rows ≡ Some (capture clients tags blocks file bad)
+captured_by clients tags blocks file bad rows p q f r u t = rw (f, u, p, q, r, t) refl
 
 abbrev three : Text → Text → Text → List Text
 three c b file = c ∷ b ∷ file ∷ []
@@ -155,7 +156,7 @@ asks words w rows is found =
 
 -- NOTHING IS REFUSED
 
-no_clients : (d : ℕ) (ds : Text) → IsIn 1 USUAL_CLIENTS d ds → settle_fault capture_shape.rules capture_shape.args_override_self (behind_clients (d ∷ ds)).held ≡ []
+no_clients : (d : ℕ) (ds : Text) → IsIn 1 MAX_CLIENTS d ds → settle_fault capture_shape.rules capture_shape.args_override_self (behind_clients (d ∷ ds)).held ≡ []
 no_clients d ds m = simp (m.hyphen, m.plus, m.some, m.first, m.rest, m.fits, m.low, m.high)
 
 no_blocks : (c : Text) (e : ℕ) (es : Text) → IsIn 1 65536 e es → settle_fault capture_shape.rules capture_shape.args_override_self (behind_blocks c (e ∷ es)).held ≡ []
@@ -169,7 +170,7 @@ from_clients : (d : ℕ) (ds : Text) (rest : List Text) → (d == 45) ≡ false
     → walk_fault capture_shape [] (walk_from nothing_held) ((d ∷ ds) ∷ rest) ≡ walk_fault capture_shape [] (behind_clients (d ∷ ds)) rest
 from_clients d ds rest hyphen = fault-plain d ds hyphen capture_shape nothing_held 1 rest
 
-from_blocks : (d : ℕ) (ds : Text) (e : ℕ) (es : Text) (rest : List Text) → IsIn 1 USUAL_CLIENTS d ds → (e == 45) ≡ false
+from_blocks : (d : ℕ) (ds : Text) (e : ℕ) (es : Text) (rest : List Text) → IsIn 1 MAX_CLIENTS d ds → (e == 45) ≡ false
     → walk_fault capture_shape [] (behind_clients (d ∷ ds)) ((e ∷ es) ∷ rest) ≡ walk_fault capture_shape [] (behind_blocks (d ∷ ds) (e ∷ es)) rest
 from_blocks d ds e es rest m hyphen = fault-plain e es hyphen capture_shape (behind_clients (d ∷ ds)).held 2 rest
     ∙ on (settle_fault capture_shape.rules capture_shape.args_override_self (behind_clients (d ∷ ds)).held)
@@ -196,7 +197,7 @@ five_defaults : (c b file l : Text) → defaults_fault (settled capture_shape.ru
 unfolding defaults_fault
 five_defaults c b file l = refl
 
-three_faults : (d : ℕ) (ds : Text) (e : ℕ) (es : Text) (f : ℕ) (fs : Text) → IsIn 1 USUAL_CLIENTS d ds → IsIn 1 65536 e es → (f == 45) ≡ false
+three_faults : (d : ℕ) (ds : Text) (e : ℕ) (es : Text) (f : ℕ) (fs : Text) → IsIn 1 MAX_CLIENTS d ds → IsIn 1 65536 e es → (f == 45) ≡ false
     → level_fault capture_shape [] nothing_held (three (d ∷ ds) (e ∷ es) (f ∷ fs)) false [] ≡ []
 three_faults d ds e es f fs m n plain =
     ends capture_shape (three (d ∷ ds) (e ∷ es) (f ∷ fs)) (behind_file (d ∷ ds) (e ∷ es) (f ∷ fs)) (three_end d ds e es f fs m.hyphen n.hyphen plain)
@@ -204,7 +205,7 @@ three_faults d ds e es f fs m n plain =
     ∙ (from_file (d ∷ ds) e es f fs [] n plain ∙ fault-end capture_shape (behind_file (d ∷ ds) (e ∷ es) (f ∷ fs)))))
     refl (three_defaults (d ∷ ds) (e ∷ es) (f ∷ fs)) refl
 
-five_faults : (d : ℕ) (ds : Text) (e : ℕ) (es : Text) (f : ℕ) (fs : Text) (g : ℕ) (gs : Text) → IsIn 1 USUAL_CLIENTS d ds → IsIn 1 65536 e es
+five_faults : (d : ℕ) (ds : Text) (e : ℕ) (es : Text) (f : ℕ) (fs : Text) (g : ℕ) (gs : Text) → IsIn 1 MAX_CLIENTS d ds → IsIn 1 65536 e es
     → (f == 45) ≡ false → IsIn 0 65535 g gs → level_fault capture_shape [] nothing_held (five (d ∷ ds) (e ∷ es) (f ∷ fs) (g ∷ gs)) false [] ≡ []
 five_faults d ds e es f fs g gs m n plain o =
     ends capture_shape (five (d ∷ ds) (e ∷ es) (f ∷ fs) (g ∷ gs)) (behind_bad (captured (d ∷ ds) (e ∷ es) (f ∷ fs)) (g ∷ gs) 4)
@@ -215,26 +216,26 @@ five_faults d ds e es f fs g gs m n plain o =
     (no_bad (d ∷ ds) (e ∷ es) (f ∷ fs) g gs o) (five_defaults (d ∷ ds) (e ∷ es) (f ∷ fs) (g ∷ gs)) refl
 
 -- its plain words ask for the capture, and are not refused
-pub capture_asked : (clients blocks : ℕ) (file : Text) (bad : Option ℕ) (words : List Text) → AsksCapture clients blocks file bad words
-    → (asked_for words ≡ Some (capture clients blocks file bad)) × (fault_of program_app words ≡ [])
-capture_asked clients blocks [] None words plain = absurd (true≢false (sym plain.4))
-capture_asked clients blocks [] (Some bad) words plain = absurd (true≢false (sym plain.5))
-capture_asked clients blocks (f ∷ fs) None words plain =
-    let m = number_is_in 1 USUAL_CLIENTS clients plain.1 (omega arith) plain.5 in
+pub capture_asked : (clients tags blocks : ℕ) (file : Text) (bad : Option ℕ) (words : List Text) → AsksCapture clients tags blocks file bad words
+    → (asked_for words ≡ Some (capture clients tags blocks file bad)) × (fault_of program_app words ≡ [])
+capture_asked clients tags blocks [] None words plain = absurd (true≢false (sym plain.4))
+capture_asked clients tags blocks [] (Some bad) words plain = absurd (true≢false (sym plain.5))
+capture_asked clients tags blocks (f ∷ fs) None words plain =
+    let m = clients_are_in clients plain.1 plain.5 in
     let n = number_is_in 1 65536 blocks plain.2 (omega arith) plain.6 in
     let hyphen : (f == 45) ≡ false = not-true (f == 45) plain.4 in
     let is : words ≡ plain.0 ∷ codes "capture" ∷ three (m.0 ∷ m.1) (n.0 ∷ n.1) (f ∷ fs) =
     plain.3 ∙ ap₂ (λ (a b : Text). plain.0 ∷ codes "capture" ∷ a ∷ b ∷ (f ∷ fs) ∷ []) m.2 n.2 in (
       ap asked_for is ∙ ((capture_enters.0 (m.0 ∷ m.1) (n.0 ∷ n.1) (f ∷ fs) plain.0).0 ∙ (asks (three (m.0 ∷ m.1) (n.0 ∷ n.1) (f ∷ fs)) (behind_file (m.0 ∷ m.1) (n.0 ∷ n.1) (f ∷ fs)) (captured (m.0 ∷ m.1) (n.0 ∷ n.1) (f ∷ fs)) (three_end m.0 m.1 n.0 n.1 f fs m.3.hyphen n.3.hyphen hyphen) (three_found (m.0 ∷ m.1) (n.0 ∷ n.1) (f ∷ fs))
-          ∙ captured_by clients blocks (f ∷ fs) None (captured (m.0 ∷ m.1) (n.0 ∷ n.1) (f ∷ fs))
+          ∙ captured_by clients tags blocks (f ∷ fs) None (captured (m.0 ∷ m.1) (n.0 ∷ n.1) (f ∷ fs))
           (clients_in m.0 m.1 (blocks_row (n.0 ∷ n.1) ∷ file_row (f ∷ fs) ∷ []) m.3.hyphen m.3.plus ∙ (ap (number_in 1 USUAL_CLIENTS) (sym m.2) ∙ plain.5))
           (blocks_in (m.0 ∷ m.1) n.0 n.1 (file_row (f ∷ fs) ∷ []) n.3.hyphen n.3.plus ∙ (ap (number_in 1 65536) (sym n.2) ∙ plain.6))
-          refl refl)),
+          refl refl refl plain.7)),
       ap (fault_of program_app) is ∙ ((capture_enters.0 (m.0 ∷ m.1) (n.0 ∷ n.1) (f ∷ fs) plain.0).1
           ∙ ap (λ (k : Kinds). or_else k []) (capture_level (three (m.0 ∷ m.1) (n.0 ∷ n.1) (f ∷ fs)) ∙ three_faults m.0 m.1 n.0 n.1 f fs m.3 n.3 hyphen)),
     )
-capture_asked clients blocks (f ∷ fs) (Some bad) words plain =
-    let m = number_is_in 1 USUAL_CLIENTS clients plain.1 (omega arith) plain.6 in
+capture_asked clients tags blocks (f ∷ fs) (Some bad) words plain =
+    let m = clients_are_in clients plain.1 plain.6 in
     let n = number_is_in 1 65536 blocks plain.2 (omega arith) plain.7 in
     let o = number_is_in 0 65535 bad plain.3 (omega arith) plain.8 in
     let hyphen : (f == 45) ≡ false = not-true (f == 45) plain.5 in
@@ -245,11 +246,11 @@ capture_asked clients blocks (f ∷ fs) (Some bad) words plain =
     ap (option_map (λ k. Some k)) (ap (number_in 0 65535) (sym o.2) ∙ plain.8) in (
       ap asked_for is ∙ ((capture_enters.1 (m.0 ∷ m.1) (n.0 ∷ n.1) (f ∷ fs) (codes "--bad") (o.0 ∷ o.1) plain.0).0
           ∙ (asks (five (m.0 ∷ m.1) (n.0 ∷ n.1) (f ∷ fs) (o.0 ∷ o.1)) (behind_bad (captured (m.0 ∷ m.1) (n.0 ∷ n.1) (f ∷ fs)) (o.0 ∷ o.1) 4) (clients_row (m.0 ∷ m.1) ∷ blocks_row (n.0 ∷ n.1) ∷ file_row (f ∷ fs) ∷ bad_row (o.0 ∷ o.1) ∷ []) (five_end m.0 m.1 n.0 n.1 f fs o.0 o.1 m.3.hyphen n.3.hyphen hyphen o.3.hyphen) (five_found (m.0 ∷ m.1) (n.0 ∷ n.1) (f ∷ fs) (o.0 ∷ o.1))
-          ∙ captured_by clients blocks (f ∷ fs) (Some bad) (clients_row (m.0 ∷ m.1) ∷ blocks_row (n.0 ∷ n.1) ∷ file_row (f ∷ fs) ∷ bad_row (o.0 ∷ o.1) ∷ [])
+          ∙ captured_by clients tags blocks (f ∷ fs) (Some bad) (clients_row (m.0 ∷ m.1) ∷ blocks_row (n.0 ∷ n.1) ∷ file_row (f ∷ fs) ∷ bad_row (o.0 ∷ o.1) ∷ [])
           (clients_in m.0 m.1 (blocks_row (n.0 ∷ n.1) ∷ file_row (f ∷ fs) ∷ bad_row (o.0 ∷ o.1) ∷ []) m.3.hyphen m.3.plus ∙ (ap (number_in 1 USUAL_CLIENTS) (sym m.2) ∙ plain.6))
           (blocks_in (m.0 ∷ m.1) n.0 n.1 (file_row (f ∷ fs) ∷ bad_row (o.0 ∷ o.1) ∷ []) n.3.hyphen n.3.plus ∙ (ap (number_in 1 65536) (sym n.2) ∙ plain.7))
           refl
-          (bad_in o.0 o.1 [] o.3.hyphen o.3.plus ∙ third))),
+          (bad_in o.0 o.1 [] o.3.hyphen o.3.plus ∙ third) refl plain.9)),
       ap (fault_of program_app) is ∙ ((capture_enters.1 (m.0 ∷ m.1) (n.0 ∷ n.1) (f ∷ fs) (codes "--bad") (o.0 ∷ o.1) plain.0).1
           ∙ ap (λ (k : Kinds). or_else k []) (capture_level (five (m.0 ∷ m.1) (n.0 ∷ n.1) (f ∷ fs) (o.0 ∷ o.1)) ∙ five_faults m.0 m.1 n.0 n.1 f fs o.0 o.1 m.3 n.3 hyphen o.3)),
     )

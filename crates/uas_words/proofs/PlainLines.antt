@@ -12,17 +12,17 @@ use Rattle.clap.specs.Simple.{Shape, built, entered, label_of}
 use Rattle.clap.specs.Walk.{answers_to, finished, nothing_held, settled, walk, walk_from}
 use Rattle.std.specs.Option.{option_map_or}
 use Rattle.std.specs.Prelude.{find}
-use Rattle.uas_profile.specs.declared.TheConstants.{USUAL_CLIENTS}
 use Rattle.uas_words.specs.declared.Run.{Run}
 use Rattle.byte_io.specs.Words.{number_in}
-use Rattle.uas_words.specs.CommandLine.{Asked, AsksPlainly, AsksWork, asked_by, asked_for, asked_in, extent_from, program_app, refusals}
-use Rattle.uas_words.specs.CommandLine.{audit, capture, decode, draw, dump, fill, info, keep, make, page, replay, trace, work, worked}
+use Rattle.uas_words.specs.CommandLine.{Asked, AsksPlainly, asked_by, asked_for, asked_in, extent_from, program_app, refusals}
+use Rattle.uas_words.specs.CommandLine.{audit, capture, decode, draw, dump, fill, info, keep, make, page, replay, trace, work}
 use Rattle.uas_words.proofs.Levels.{Enters, level_nothing}
 use Rattle.uas_words.proofs.PlainFiles.{audit_asked, capture_asked}
-use Rattle.uas_words.proofs.PlainScripts.{replay_is_script, script_asked}
+use Rattle.uas_words.proofs.PlainScripts.{replay_asked}
 use Rattle.uas_words.proofs.PlainMakes.{make_asked}
 use Rattle.uas_words.proofs.PlainPages.{draw_asked, page_asked}
 use Rattle.uas_words.proofs.PlainTraces.{trace_asked}
+use Rattle.uas_words.proofs.PlainWork.{work_asked}
 use Rattle.uas_words.proofs.PlainNumbers.{IsIn, not-true, number_is_in}
 use Rattle.uas_words.proofs.CommandLineFacts.{nothing_refused}
 use Rattle.uas_words.proofs.WalkSteps.{fault-end, fault-plain, walked-plain}
@@ -47,81 +47,9 @@ dump_enters : (a b c : Text) → Enters (codes "dump") (a ∷ b ∷ c ∷ [])
 unfolding asked_for clap_on_literals
 dump_enters a b c p = (refl, refl)
 
-work_enters : (a b : Text) → Enters (codes "work") (a ∷ b ∷ [])
-unfolding asked_for clap_on_literals
-work_enters a b p = (refl, refl)
-
-logged_enters : (a b c : Text) → Enters (codes "work") (a ∷ b ∷ c ∷ [])
-unfolding asked_for clap_on_literals
-logged_enters a b c p = (refl, refl)
-
 fill_enters : (a b c d : Text) → Enters (codes "fill") (a ∷ b ∷ c ∷ d ∷ [])
 unfolding asked_for clap_on_literals
 fill_enters a b c d p = (refl, refl)
-
--- what the numbers of clients that work ask for
-abbrev worked_by_numbers : Option ℕ → Option ℕ → Option Text → Option Asked
-worked_by_numbers clients rounds log = option_and_then (λ c. option_and_then (λ r. worked c r log None) rounds) clients
-
-work_rows : (d : ℕ) (ds : Text) (e : ℕ) (es : Text) → (d == 45) ≡ false → (d == 43) ≡ false → (e == 45) ≡ false → (e == 43) ≡ false
-    → asked_in (entered (built program_app) (Some (codes "work", (d ∷ ds) ∷ (e ∷ es) ∷ [])))
-    ≡ worked_by_numbers (number_in 1 USUAL_CLIENTS (d ∷ ds)) (number_in 1 1000 (e ∷ es)) None
-work_rows d ds e es hyphen plus hyphen' plus' =
-    simp (walked-plain d ds hyphen, walked-plain e es hyphen') (simp hyphen (simp plus (simp hyphen' (simp plus'))))
-
-work_faults : (d : ℕ) (ds : Text) (e : ℕ) (es : Text) → IsIn 1 USUAL_CLIENTS d ds → IsIn 1 1000 e es
-    → entered_fault (built program_app) (Some (codes "work", (d ∷ ds) ∷ (e ∷ es) ∷ [])) ≡ []
-unfolding defaults_fault
-work_faults d ds e es m n =
-    simp (walked-plain d ds m.hyphen, walked-plain e es n.hyphen)
-    (simp (fault-plain d ds m.hyphen, fault-plain e es n.hyphen, fault-end)
-    (simp (m.hyphen, m.plus, m.some, m.first, m.rest, m.fits, m.low, m.high) (simp (n.hyphen, n.plus, n.some, n.first, n.rest, n.fits, n.low, n.high))))
-
-logged_rows : (d : ℕ) (ds : Text) (e : ℕ) (es : Text) (f : ℕ) (fs : Text) → (d == 45) ≡ false → (d == 43) ≡ false → (e == 45) ≡ false → (e == 43) ≡ false
-    → (f == 45) ≡ false → asked_in (entered (built program_app) (Some (codes "work", (d ∷ ds) ∷ (e ∷ es) ∷ (f ∷ fs) ∷ [])))
-    ≡ worked_by_numbers (number_in 1 USUAL_CLIENTS (d ∷ ds)) (number_in 1 1000 (e ∷ es)) (Some (f ∷ fs))
-logged_rows d ds e es f fs hyphen plus hyphen' plus' plain =
-    simp (walked-plain d ds hyphen, walked-plain e es hyphen', walked-plain f fs plain) (simp (hyphen, plus) (simp (hyphen', plus')))
-
--- the subcommand `work`, built
-abbrev work_shape : Shape
-work_shape = option_map_or (λ s. s) (find (λ s. answers_to (codes "work") (label_of s)) (built program_app).subs) (built program_app).top
-
-work_level : (words : List Text) → entered_fault (built program_app) (Some (codes "work", words)) ≡ level_fault work_shape [] nothing_held words false []
-work_level words = refl
-
-abbrev logged_words : (d : ℕ) (ds : Text) (e : ℕ) (es : Text) (f : ℕ) (fs : Text) → List Text
-logged_words d ds e es f fs = (d ∷ ds) ∷ (e ∷ es) ∷ (f ∷ fs) ∷ []
-
-logged_walk : (d : ℕ) (ds : Text) (e : ℕ) (es : Text) (f : ℕ) (fs : Text) → IsIn 1 USUAL_CLIENTS d ds → IsIn 1 1000 e es → (f == 45) ≡ false
-    → walk_fault work_shape [] (walk_from nothing_held) (logged_words d ds e es f fs) ≡ []
-logged_walk d ds e es f fs m n plain =
-    simp (fault-plain d ds m.hyphen) (simp (fault-plain e es n.hyphen) (simp (fault-plain f fs plain) (simp fault-end
-    (simp (m.hyphen, m.plus, m.some, m.first, m.rest, m.fits, m.low, m.high) (simp (n.hyphen, n.plus, n.some, n.first, n.rest, n.fits, n.low, n.high))))))
-
-logged_last : (d : ℕ) (ds : Text) (e : ℕ) (es : Text) (f : ℕ) (fs : Text) → (d == 45) ≡ false → (e == 45) ≡ false → (f == 45) ≡ false
-    → settle_fault work_shape.rules work_shape.args_override_self (walk work_shape.rules [] nothing_held (logged_words d ds e es f fs)).held ≡ []
-logged_last d ds e es f fs hyphen hyphen' plain = simp (walked-plain d ds hyphen, walked-plain e es hyphen', walked-plain f fs plain)
-
-logged_defaults : (d : ℕ) (ds : Text) (e : ℕ) (es : Text) (f : ℕ) (fs : Text) → (d == 45) ≡ false → (e == 45) ≡ false → (f == 45) ≡ false
-    → defaults_fault (settled work_shape.rules (walk work_shape.rules [] nothing_held (logged_words d ds e es f fs)).held).rows work_shape.rules ≡ []
-unfolding defaults_fault
-logged_defaults d ds e es f fs hyphen hyphen' plain = simp (walked-plain d ds hyphen, walked-plain e es hyphen', walked-plain f fs plain)
-
-logged_given : (d : ℕ) (ds : Text) (e : ℕ) (es : Text) (f : ℕ) (fs : Text) → (d == 45) ≡ false → (e == 45) ≡ false → (f == 45) ≡ false
-    → check_fault work_shape (finished work_shape.rules (walk work_shape.rules [] nothing_held (logged_words d ds e es f fs)).held) false ≡ []
-logged_given d ds e es f fs hyphen hyphen' plain = simp (walked-plain d ds hyphen, walked-plain e es hyphen', walked-plain f fs plain)
-
-logged_faults : (d : ℕ) (ds : Text) (e : ℕ) (es : Text) (f : ℕ) (fs : Text) → IsIn 1 USUAL_CLIENTS d ds → IsIn 1 1000 e es → (f == 45) ≡ false
-    → entered_fault (built program_app) (Some (codes "work", logged_words d ds e es f fs)) ≡ []
-logged_faults d ds e es f fs m n plain =
-    work_level (logged_words d ds e es f fs) ∙ level_nothing work_shape (logged_words d ds e es f fs) (logged_walk d ds e es f fs m n plain)
-    (logged_last d ds e es f fs m.hyphen n.hyphen plain) (logged_defaults d ds e es f fs m.hyphen n.hyphen plain)
-    (logged_given d ds e es f fs m.hyphen n.hyphen plain)
-
-worked_asks : (clients rounds : ℕ) (log : Option Text) (a b : Option ℕ) → a ≡ Some clients → b ≡ Some rounds
-    → worked_by_numbers a b log ≡ Some (work clients rounds log)
-worked_asks clients rounds log a b p q = rw (p, q) refl
 
 -- what is asked for of an extent, by its two numbers
 extent-dumped : (file : Text) (lba count : Option ℕ)
@@ -202,38 +130,12 @@ fill_faults d ds e es f fs h hs plain m n o =
     (fill_last d ds e es f fs h hs plain m.hyphen n.hyphen o)
     (fill_defaults d ds e es f fs h hs plain m.hyphen n.hyphen o.hyphen) (fill_given d ds e es f fs h hs plain m.hyphen n.hyphen o.hyphen)
 
--- the plain words of clients that work ask for that, and are not refused
-work_asked : (clients rounds : ℕ) (log : Option Text) (words : List Text) → AsksWork clients rounds log words
-    → (asked_for words ≡ Some (work clients rounds log)) × (fault_of program_app words ≡ [])
-work_asked clients rounds None words plain =
-    let m = number_is_in 1 USUAL_CLIENTS clients plain.1 (omega arith) plain.4 in
-    let n = number_is_in 1 1000 rounds plain.2 (omega arith) plain.5 in
-    let is : words ≡ plain.0 ∷ codes "work" ∷ (m.0 ∷ m.1) ∷ (n.0 ∷ n.1) ∷ [] =
-    plain.3 ∙ ap₂ (λ (a b : Text). plain.0 ∷ codes "work" ∷ a ∷ b ∷ []) m.2 n.2 in (
-      ap asked_for is ∙ ((work_enters (m.0 ∷ m.1) (n.0 ∷ n.1) plain.0).0 ∙ (work_rows m.0 m.1 n.0 n.1 m.3.hyphen m.3.plus n.3.hyphen n.3.plus
-          ∙ worked_asks clients rounds None _ _ (ap (number_in 1 USUAL_CLIENTS) (sym m.2) ∙ plain.4) (ap (number_in 1 1000) (sym n.2) ∙ plain.5))),
-      ap (fault_of program_app) is ∙ ((work_enters (m.0 ∷ m.1) (n.0 ∷ n.1) plain.0).1 ∙ ap (λ (k : Kinds). or_else k []) (work_faults m.0 m.1 n.0 n.1 m.3 n.3)),
-    )
-work_asked clients rounds (Some []) words plain = absurd (true≢false (sym plain.4))
-work_asked clients rounds (Some (d ∷ ds)) words plain =
-    let m = number_is_in 1 USUAL_CLIENTS clients plain.1 (omega arith) plain.5 in
-    let n = number_is_in 1 1000 rounds plain.2 (omega arith) plain.6 in
-    let hyphen : (d == 45) ≡ false = not-true (d == 45) plain.4 in
-    let is : words ≡ plain.0 ∷ codes "work" ∷ (m.0 ∷ m.1) ∷ (n.0 ∷ n.1) ∷ (d ∷ ds) ∷ [] =
-    plain.3 ∙ ap₂ (λ (a b : Text). plain.0 ∷ codes "work" ∷ a ∷ b ∷ (d ∷ ds) ∷ []) m.2 n.2 in (
-      ap asked_for is ∙ ((logged_enters (m.0 ∷ m.1) (n.0 ∷ n.1) (d ∷ ds) plain.0).0
-          ∙ (logged_rows m.0 m.1 n.0 n.1 d ds m.3.hyphen m.3.plus n.3.hyphen n.3.plus hyphen
-          ∙ worked_asks clients rounds (Some (d ∷ ds)) _ _ (ap (number_in 1 USUAL_CLIENTS) (sym m.2) ∙ plain.5) (ap (number_in 1 1000) (sym n.2) ∙ plain.6))),
-      ap (fault_of program_app) is ∙ ((logged_enters (m.0 ∷ m.1) (n.0 ∷ n.1) (d ∷ ds) plain.0).1
-          ∙ ap (λ (k : Kinds). or_else k []) (logged_faults m.0 m.1 n.0 n.1 d ds m.3 n.3 hyphen)),
-    )
-
 -- the program asks for what its words plainly ask for, and refuses nothing
 pub plain_asks : (asked : Asked) (words : List Text) → AsksPlainly asked words → (asked_for words ≡ Some asked) × (fault_of program_app words ≡ [])
-plain_asks (replay clients blocks bad) words plain = script_asked (codes "replay") replay replay_is_script clients blocks bad words plain
-plain_asks (trace clients blocks bad) words plain = trace_asked clients blocks bad words plain
-plain_asks (work clients rounds log) words plain = work_asked clients rounds log words plain
-plain_asks (keep clients rounds log every) words plain = absurd plain
+plain_asks (replay clients tags blocks bad) words plain = replay_asked clients tags blocks bad words plain
+plain_asks (trace clients tags blocks bad) words plain = trace_asked clients tags blocks bad words plain
+plain_asks (work clients tags rounds log) words plain = work_asked clients tags rounds log words plain
+plain_asks (keep clients tags rounds log every) words plain = absurd plain
 plain_asks decode words plain = (ap asked_for plain.1 ∙ decode_asks plain.0, ap (fault_of program_app) plain.1 ∙ decode_passes plain.0)
 plain_asks (make file blocks true) words plain = absurd plain
 plain_asks (make file blocks false) words plain = make_asked file blocks words plain
@@ -281,9 +183,9 @@ plain_asks (fill (d ∷ ds) lba count byte) words plain =
           ∙ ap (λ (k : Kinds). or_else k []) (fill_faults d ds m.0 m.1 n.0 n.1 o.0 o.1 hyphen m.3 n.3 o.3)),
     )
 plain_asks (audit log head) words plain = audit_asked log head words plain
-plain_asks (draw clients blocks bad) words plain = draw_asked clients blocks bad words plain
-plain_asks (page clients blocks bad) words plain = page_asked clients blocks bad words plain
-plain_asks (capture clients blocks file bad) words plain = capture_asked clients blocks file bad words plain
+plain_asks (draw clients tags blocks bad) words plain = draw_asked clients tags blocks bad words plain
+plain_asks (page clients tags blocks bad) words plain = page_asked clients tags blocks bad words plain
+plain_asks (capture clients tags blocks file bad) words plain = capture_asked clients tags blocks file bad words plain
 
 -- a run that is plainly asked for is given, but for want of memory
 pub plainly_given : (words : List Text) (r : Result Run Error) → IfOk r (λ run. asked_for words ≡ Some (asked_by run)) → FailsBy (refusals words) r

@@ -7,6 +7,7 @@ use Rattle.std.specs.Str.Parse.{AllDigits, digits_value}
 use Rattle.std.proofs.lemmas.Bool.{leb-true, le-leb, ne_eqb}
 use Rattle.std.proofs.lemmas.Str.Parse.{digit_from_value}
 use Rattle.clap.specs.Words.{Text}
+use Rattle.uas_profile.specs.declared.TheConstants.{MAX_CLIENTS, USUAL_CLIENTS}
 use Rattle.byte_io.specs.Words.{is_number, number_in, value_of}
 use Rattle.uas_words.proofs.NumberWords.{numeral-is_number, numerals}
 
@@ -65,3 +66,12 @@ number_is_in least most n [] small is =
     let none : number_in least most [] ≡ None = refl in
     cc
 number_is_in least most n (d ∷ ds) small is = (d, ds, refl, in_range least most n d ds small (number_in-Some least most n (d ∷ ds) is))
+
+-- clients of the usual number of tags are in the range that the words' parser takes
+pub clients_are_in : (n : ℕ) (text : Text) → number_in 1 USUAL_CLIENTS text ≡ Some n → (d : ℕ) × (ds : Text) × (text ≡ d ∷ ds) × IsIn 1 MAX_CLIENTS d ds
+clients_are_in n [] is =
+    let none : number_in 1 USUAL_CLIENTS [] ≡ None = refl in
+    cc
+clients_are_in n (d ∷ ds) is =
+    let h = number_in-Some 1 USUAL_CLIENTS n (d ∷ ds) is in
+    (d, ds, refl, in_range 1 MAX_CLIENTS n d ds (omega arith) (h.0, h.1, omega (arith, h.2)))

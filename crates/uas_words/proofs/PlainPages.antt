@@ -13,12 +13,12 @@ use Rattle.clap.specs.declared.builder.value_parser.Reading.TheVariants.{AsWritt
 use Rattle.clap.specs.declared.parser.matches.ValueSource.TheVariants.{CommandLine, DefaultValue}
 use Rattle.std.specs.Option.{option_map_or}
 use Rattle.std.specs.Prelude.{find}
-use Rattle.uas_profile.specs.declared.TheConstants.{USUAL_CLIENTS}
+use Rattle.uas_profile.specs.declared.TheConstants.{MAX_CLIENTS, TAGS, USUAL_CLIENTS}
 use Rattle.byte_io.specs.Words.{number_in}
-use Rattle.uas_words.specs.CommandLine.{AsksPage, AsksScript, asked_for, asked_in, bad_of, blocks_of, clients_of, draw, draw_of, has_page, page, program_app}
+use Rattle.uas_words.specs.CommandLine.{AsksPage, AsksScript, asked_for, asked_in, bad_of, blocks_of, clients_of, draw, draw_of, has_page, page, program_app, tags_of}
 use Rattle.uas_words.proofs.Levels.{Enters}
 use Rattle.uas_words.proofs.Places.{bad_in, bad_row, before_bad, behind_bad, blocks_in, blocks_row, clients_in, clients_row, ends, found, on, pending}
-use Rattle.uas_words.proofs.PlainNumbers.{IsIn, number_is_in}
+use Rattle.uas_words.proofs.PlainNumbers.{IsIn, clients_are_in, number_is_in}
 use Rattle.uas_words.proofs.WalkSteps.{fault-bad, fault-end, fault-page, fault-plain, fault-value, standing, walked-bad, walked-page, walked-plain, walked-value}
 
 -- the subcommand `draw`, built
@@ -79,7 +79,7 @@ both : (d : ℕ) (ds : Text) (e : ℕ) (es : Text) → (d == 45) ≡ false → (
 both d ds e es hyphen hyphen' = ap (λ (w : Walk). walked draw_shape.rules [] w (e ∷ es)) (to_clients d ds hyphen) ∙ to_blocks (d ∷ ds) e es hyphen'
 
 -- a word of these that is refused is none
-no_clients : (d : ℕ) (ds : Text) → IsIn 1 USUAL_CLIENTS d ds → settle_fault draw_shape.rules draw_shape.args_override_self (behind_clients (d ∷ ds)).held ≡ []
+no_clients : (d : ℕ) (ds : Text) → IsIn 1 MAX_CLIENTS d ds → settle_fault draw_shape.rules draw_shape.args_override_self (behind_clients (d ∷ ds)).held ≡ []
 no_clients d ds m = simp (m.hyphen, m.plus, m.some, m.first, m.rest, m.fits, m.low, m.high)
 
 no_blocks : (c : Text) (e : ℕ) (es : Text) → IsIn 1 65536 e es → settle_fault draw_shape.rules draw_shape.args_override_self (behind_blocks c (e ∷ es)).held ≡ []
@@ -97,7 +97,7 @@ from_clients : (d : ℕ) (ds : Text) (rest : List Text) → (d == 45) ≡ false
     → walk_fault draw_shape [] (walk_from nothing_held) ((d ∷ ds) ∷ rest) ≡ walk_fault draw_shape [] (behind_clients (d ∷ ds)) rest
 from_clients d ds rest hyphen = fault-plain d ds hyphen draw_shape nothing_held 1 rest
 
-from_blocks : (d : ℕ) (ds : Text) (e : ℕ) (es : Text) (rest : List Text) → IsIn 1 USUAL_CLIENTS d ds → (e == 45) ≡ false
+from_blocks : (d : ℕ) (ds : Text) (e : ℕ) (es : Text) (rest : List Text) → IsIn 1 MAX_CLIENTS d ds → (e == 45) ≡ false
     → walk_fault draw_shape [] (behind_clients (d ∷ ds)) ((e ∷ es) ∷ rest) ≡ walk_fault draw_shape [] (behind_blocks (d ∷ ds) (e ∷ es)) rest
 from_blocks d ds e es rest m hyphen = fault-plain e es hyphen draw_shape (behind_clients (d ∷ ds)).held 2 rest
     ∙ on (settle_fault draw_shape.rules draw_shape.args_override_self (behind_clients (d ∷ ds)).held)
@@ -129,13 +129,13 @@ asks : (words : List Text) (w : Walk) (rows : List Row) → walk draw_shape.rule
 asks words w rows is found = draw_asks words ∙ (ap (λ (v : Walk). draw_of (finished draw_shape.rules v.held)) is ∙ ap draw_of found)
 
 -- what is found, part by part, asks for a picture or for a page
-picture_by : (clients blocks : ℕ) (bad : Option ℕ) (rows : List Row) → clients_of rows ≡ Some clients → blocks_of rows ≡ Some blocks
-    → bad_of rows ≡ Some bad → has_page rows ≡ false → draw_of rows ≡ Some (draw clients blocks bad)
-picture_by clients blocks bad rows p q r s = rw (s, p, q, r) refl
+picture_by : (clients tags blocks : ℕ) (bad : Option ℕ) (rows : List Row) → clients_of TAGS rows ≡ Some clients → blocks_of rows ≡ Some blocks
+    → bad_of rows ≡ Some bad → has_page rows ≡ false → tags_of rows ≡ Some TAGS → tags ≡ TAGS → draw_of rows ≡ Some (draw clients tags blocks bad)
+picture_by clients tags blocks bad rows p q r s u t = rw (s, u, p, q, r, t) refl
 
-page_by : (clients blocks : ℕ) (bad : Option ℕ) (rows : List Row) → clients_of rows ≡ Some clients → blocks_of rows ≡ Some blocks
-    → bad_of rows ≡ Some bad → has_page rows ≡ true → draw_of rows ≡ Some (page clients blocks bad)
-page_by clients blocks bad rows p q r s = rw (s, p, q, r) refl
+page_by : (clients tags blocks : ℕ) (bad : Option ℕ) (rows : List Row) → clients_of TAGS rows ≡ Some clients → blocks_of rows ≡ Some blocks
+    → bad_of rows ≡ Some bad → has_page rows ≡ true → tags_of rows ≡ Some TAGS → tags ≡ TAGS → draw_of rows ≡ Some (page clients tags blocks bad)
+page_by clients tags blocks bad rows p q r s u t = rw (s, u, p, q, r, t) refl
 
 -- THE FOUR FORMS: where each ends, what is found there, and that nothing is refused
 
@@ -207,13 +207,13 @@ bad_page_defaults : (c b l : Text) → defaults_fault (settled draw_shape.rules 
 unfolding defaults_fault
 bad_page_defaults c b l = refl
 
-picture_faults : (d : ℕ) (ds : Text) (e : ℕ) (es : Text) → IsIn 1 USUAL_CLIENTS d ds → IsIn 1 65536 e es
+picture_faults : (d : ℕ) (ds : Text) (e : ℕ) (es : Text) → IsIn 1 MAX_CLIENTS d ds → IsIn 1 65536 e es
     → level_fault draw_shape [] nothing_held (picture_words (d ∷ ds) (e ∷ es)) false [] ≡ []
 picture_faults d ds e es m n = ends draw_shape (picture_words (d ∷ ds) (e ∷ es)) (behind_blocks (d ∷ ds) (e ∷ es)) (picture_end d ds e es m.hyphen n.hyphen)
     (from_clients d ds ((e ∷ es) ∷ []) m.hyphen ∙ (from_blocks d ds e es [] m n.hyphen ∙ fault-end draw_shape (behind_blocks (d ∷ ds) (e ∷ es))))
     (no_blocks (d ∷ ds) e es n) (picture_defaults (d ∷ ds) (e ∷ es)) refl
 
-bad_picture_faults : (d : ℕ) (ds : Text) (e : ℕ) (es : Text) (f : ℕ) (fs : Text) → IsIn 1 USUAL_CLIENTS d ds → IsIn 1 65536 e es → IsIn 0 65535 f fs
+bad_picture_faults : (d : ℕ) (ds : Text) (e : ℕ) (es : Text) (f : ℕ) (fs : Text) → IsIn 1 MAX_CLIENTS d ds → IsIn 1 65536 e es → IsIn 0 65535 f fs
     → level_fault draw_shape [] nothing_held (bad_picture_words (d ∷ ds) (e ∷ es) (f ∷ fs)) false [] ≡ []
 bad_picture_faults d ds e es f fs m n o =
     ends draw_shape (bad_picture_words (d ∷ ds) (e ∷ es) (f ∷ fs)) (behind_bad (numbers (d ∷ ds) (e ∷ es)) (f ∷ fs) 3) (bad_picture_end d ds e es f fs m.hyphen n.hyphen o.hyphen)
@@ -221,14 +221,14 @@ bad_picture_faults d ds e es f fs m n o =
     ∙ (from_bad (d ∷ ds) e es ((f ∷ fs) ∷ []) n ∙ from_lba (numbers (d ∷ ds) (e ∷ es)) f fs o.hyphen)))
     (no_bad (d ∷ ds) (e ∷ es) f fs o) (bad_picture_defaults (d ∷ ds) (e ∷ es) (f ∷ fs)) refl
 
-page_faults : (d : ℕ) (ds : Text) (e : ℕ) (es : Text) → IsIn 1 USUAL_CLIENTS d ds → IsIn 1 65536 e es
+page_faults : (d : ℕ) (ds : Text) (e : ℕ) (es : Text) → IsIn 1 MAX_CLIENTS d ds → IsIn 1 65536 e es
     → level_fault draw_shape [] nothing_held (page_words (d ∷ ds) (e ∷ es)) false [] ≡ []
 page_faults d ds e es m n = ends draw_shape (page_words (d ∷ ds) (e ∷ es)) (behind_page (d ∷ ds) (e ∷ es)) (page_end d ds e es m.hyphen n.hyphen)
     (from_clients d ds ((e ∷ es) ∷ codes "--page" ∷ []) m.hyphen ∙ (from_blocks d ds e es (codes "--page" ∷ []) m n.hyphen
     ∙ (from_page (d ∷ ds) e es [] n ∙ fault-end draw_shape (behind_page (d ∷ ds) (e ∷ es)))))
     refl (page_defaults (d ∷ ds) (e ∷ es)) refl
 
-bad_page_faults : (d : ℕ) (ds : Text) (e : ℕ) (es : Text) (f : ℕ) (fs : Text) → IsIn 1 USUAL_CLIENTS d ds → IsIn 1 65536 e es → IsIn 0 65535 f fs
+bad_page_faults : (d : ℕ) (ds : Text) (e : ℕ) (es : Text) (f : ℕ) (fs : Text) → IsIn 1 MAX_CLIENTS d ds → IsIn 1 65536 e es → IsIn 0 65535 f fs
     → level_fault draw_shape [] nothing_held (bad_page_words (d ∷ ds) (e ∷ es) (f ∷ fs)) false [] ≡ []
 bad_page_faults d ds e es f fs m n o =
     ends draw_shape (bad_page_words (d ∷ ds) (e ∷ es) (f ∷ fs)) (behind_bad (paged (d ∷ ds) (e ∷ es)) (f ∷ fs) 3) (bad_page_end d ds e es f fs m.hyphen n.hyphen o.hyphen)
@@ -240,23 +240,23 @@ bad_page_faults d ds e es f fs m n o =
 -- WHAT THEY ASK FOR
 
 -- the plain words of a picture ask for it, and are not refused
-pub draw_asked : (clients blocks : ℕ) (bad : Option ℕ) (words : List Text) → AsksScript (codes "draw") clients blocks bad words
-    → (asked_for words ≡ Some (draw clients blocks bad)) × (fault_of program_app words ≡ [])
-draw_asked clients blocks None words plain =
-    let m = number_is_in 1 USUAL_CLIENTS clients plain.1 (omega arith) plain.4 in
+pub draw_asked : (clients tags blocks : ℕ) (bad : Option ℕ) (words : List Text) → AsksScript (codes "draw") clients tags blocks bad words
+    → (asked_for words ≡ Some (draw clients tags blocks bad)) × (fault_of program_app words ≡ [])
+draw_asked clients tags blocks None words plain =
+    let m = clients_are_in clients plain.1 plain.4 in
     let n = number_is_in 1 65536 blocks plain.2 (omega arith) plain.5 in
     let is : words ≡ plain.0 ∷ codes "draw" ∷ picture_words (m.0 ∷ m.1) (n.0 ∷ n.1) =
     plain.3 ∙ ap₂ (λ (a b : Text). plain.0 ∷ codes "draw" ∷ a ∷ b ∷ []) m.2 n.2 in (
       ap asked_for is ∙ ((draw_enters.0 (m.0 ∷ m.1) (n.0 ∷ n.1) plain.0).0 ∙ (asks (picture_words (m.0 ∷ m.1) (n.0 ∷ n.1)) (behind_blocks (m.0 ∷ m.1) (n.0 ∷ n.1)) (clients_row (m.0 ∷ m.1) ∷ blocks_row (n.0 ∷ n.1) ∷ no_page_row ∷ []) (picture_end m.0 m.1 n.0 n.1 m.3.hyphen n.3.hyphen) (picture_found (m.0 ∷ m.1) (n.0 ∷ n.1))
-          ∙ picture_by clients blocks None (clients_row (m.0 ∷ m.1) ∷ blocks_row (n.0 ∷ n.1) ∷ no_page_row ∷ [])
+          ∙ picture_by clients tags blocks None (clients_row (m.0 ∷ m.1) ∷ blocks_row (n.0 ∷ n.1) ∷ no_page_row ∷ [])
           (clients_in m.0 m.1 (blocks_row (n.0 ∷ n.1) ∷ no_page_row ∷ []) m.3.hyphen m.3.plus ∙ (ap (number_in 1 USUAL_CLIENTS) (sym m.2) ∙ plain.4))
           (blocks_in (m.0 ∷ m.1) n.0 n.1 (no_page_row ∷ []) n.3.hyphen n.3.plus ∙ (ap (number_in 1 65536) (sym n.2) ∙ plain.5))
-          refl refl)),
+          refl refl refl plain.6)),
       ap (fault_of program_app) is ∙ ((draw_enters.0 (m.0 ∷ m.1) (n.0 ∷ n.1) plain.0).1
           ∙ ap (λ (k : Kinds). or_else k []) (draw_level (picture_words (m.0 ∷ m.1) (n.0 ∷ n.1)) ∙ picture_faults m.0 m.1 n.0 n.1 m.3 n.3)),
     )
-draw_asked clients blocks (Some bad) words plain =
-    let m = number_is_in 1 USUAL_CLIENTS clients plain.1 (omega arith) plain.5 in
+draw_asked clients tags blocks (Some bad) words plain =
+    let m = clients_are_in clients plain.1 plain.5 in
     let n = number_is_in 1 65536 blocks plain.2 (omega arith) plain.6 in
     let o = number_is_in 0 65535 bad plain.3 (omega arith) plain.7 in
     let is : words ≡ plain.0 ∷ codes "draw" ∷ bad_picture_words (m.0 ∷ m.1) (n.0 ∷ n.1) (o.0 ∷ o.1) =
@@ -265,32 +265,32 @@ draw_asked clients blocks (Some bad) words plain =
     let third : option_map (λ k. Some k) (number_in 0 65535 (o.0 ∷ o.1)) ≡ Some (Some bad) =
     ap (option_map (λ k. Some k)) (ap (number_in 0 65535) (sym o.2) ∙ plain.7) in (
       ap asked_for is ∙ ((draw_enters.2 (m.0 ∷ m.1) (n.0 ∷ n.1) (codes "--bad") (o.0 ∷ o.1) plain.0).0 ∙ (asks (bad_picture_words (m.0 ∷ m.1) (n.0 ∷ n.1) (o.0 ∷ o.1)) (behind_bad (numbers (m.0 ∷ m.1) (n.0 ∷ n.1)) (o.0 ∷ o.1) 3) (clients_row (m.0 ∷ m.1) ∷ blocks_row (n.0 ∷ n.1) ∷ bad_row (o.0 ∷ o.1) ∷ no_page_row ∷ []) (bad_picture_end m.0 m.1 n.0 n.1 o.0 o.1 m.3.hyphen n.3.hyphen o.3.hyphen) (bad_picture_found (m.0 ∷ m.1) (n.0 ∷ n.1) (o.0 ∷ o.1))
-          ∙ picture_by clients blocks (Some bad) (clients_row (m.0 ∷ m.1) ∷ blocks_row (n.0 ∷ n.1) ∷ bad_row (o.0 ∷ o.1) ∷ no_page_row ∷ [])
+          ∙ picture_by clients tags blocks (Some bad) (clients_row (m.0 ∷ m.1) ∷ blocks_row (n.0 ∷ n.1) ∷ bad_row (o.0 ∷ o.1) ∷ no_page_row ∷ [])
           (clients_in m.0 m.1 (blocks_row (n.0 ∷ n.1) ∷ bad_row (o.0 ∷ o.1) ∷ no_page_row ∷ []) m.3.hyphen m.3.plus ∙ (ap (number_in 1 USUAL_CLIENTS) (sym m.2) ∙ plain.5))
           (blocks_in (m.0 ∷ m.1) n.0 n.1 (bad_row (o.0 ∷ o.1) ∷ no_page_row ∷ []) n.3.hyphen n.3.plus ∙ (ap (number_in 1 65536) (sym n.2) ∙ plain.6))
-          (bad_in o.0 o.1 (no_page_row ∷ []) o.3.hyphen o.3.plus ∙ third) refl)),
+          (bad_in o.0 o.1 (no_page_row ∷ []) o.3.hyphen o.3.plus ∙ third) refl refl plain.8)),
       ap (fault_of program_app) is ∙ ((draw_enters.2 (m.0 ∷ m.1) (n.0 ∷ n.1) (codes "--bad") (o.0 ∷ o.1) plain.0).1
           ∙ ap (λ (k : Kinds). or_else k []) (draw_level (bad_picture_words (m.0 ∷ m.1) (n.0 ∷ n.1) (o.0 ∷ o.1)) ∙ bad_picture_faults m.0 m.1 n.0 n.1 o.0 o.1 m.3 n.3 o.3)),
     )
 
 -- and so do those of a page
-pub page_asked : (clients blocks : ℕ) (bad : Option ℕ) (words : List Text) → AsksPage clients blocks bad words
-    → (asked_for words ≡ Some (page clients blocks bad)) × (fault_of program_app words ≡ [])
-page_asked clients blocks None words plain =
-    let m = number_is_in 1 USUAL_CLIENTS clients plain.1 (omega arith) plain.4 in
+pub page_asked : (clients tags blocks : ℕ) (bad : Option ℕ) (words : List Text) → AsksPage clients tags blocks bad words
+    → (asked_for words ≡ Some (page clients tags blocks bad)) × (fault_of program_app words ≡ [])
+page_asked clients tags blocks None words plain =
+    let m = clients_are_in clients plain.1 plain.4 in
     let n = number_is_in 1 65536 blocks plain.2 (omega arith) plain.5 in
     let is : words ≡ plain.0 ∷ codes "draw" ∷ page_words (m.0 ∷ m.1) (n.0 ∷ n.1) =
     plain.3 ∙ ap₂ (λ (a b : Text). plain.0 ∷ codes "draw" ∷ a ∷ b ∷ codes "--page" ∷ []) m.2 n.2 in (
       ap asked_for is ∙ ((draw_enters.1 (m.0 ∷ m.1) (n.0 ∷ n.1) (codes "--page") plain.0).0 ∙ (asks (page_words (m.0 ∷ m.1) (n.0 ∷ n.1)) (behind_page (m.0 ∷ m.1) (n.0 ∷ n.1)) (paged (m.0 ∷ m.1) (n.0 ∷ n.1)) (page_end m.0 m.1 n.0 n.1 m.3.hyphen n.3.hyphen) (page_found (m.0 ∷ m.1) (n.0 ∷ n.1))
-          ∙ page_by clients blocks None (paged (m.0 ∷ m.1) (n.0 ∷ n.1))
+          ∙ page_by clients tags blocks None (paged (m.0 ∷ m.1) (n.0 ∷ n.1))
           (clients_in m.0 m.1 (blocks_row (n.0 ∷ n.1) ∷ page_row ∷ []) m.3.hyphen m.3.plus ∙ (ap (number_in 1 USUAL_CLIENTS) (sym m.2) ∙ plain.4))
           (blocks_in (m.0 ∷ m.1) n.0 n.1 (page_row ∷ []) n.3.hyphen n.3.plus ∙ (ap (number_in 1 65536) (sym n.2) ∙ plain.5))
-          refl refl)),
+          refl refl refl plain.6)),
       ap (fault_of program_app) is ∙ ((draw_enters.1 (m.0 ∷ m.1) (n.0 ∷ n.1) (codes "--page") plain.0).1
           ∙ ap (λ (k : Kinds). or_else k []) (draw_level (page_words (m.0 ∷ m.1) (n.0 ∷ n.1)) ∙ page_faults m.0 m.1 n.0 n.1 m.3 n.3)),
     )
-page_asked clients blocks (Some bad) words plain =
-    let m = number_is_in 1 USUAL_CLIENTS clients plain.1 (omega arith) plain.5 in
+page_asked clients tags blocks (Some bad) words plain =
+    let m = clients_are_in clients plain.1 plain.5 in
     let n = number_is_in 1 65536 blocks plain.2 (omega arith) plain.6 in
     let o = number_is_in 0 65535 bad plain.3 (omega arith) plain.7 in
     let is : words ≡ plain.0 ∷ codes "draw" ∷ bad_page_words (m.0 ∷ m.1) (n.0 ∷ n.1) (o.0 ∷ o.1) =
@@ -299,10 +299,10 @@ page_asked clients blocks (Some bad) words plain =
     let third : option_map (λ k. Some k) (number_in 0 65535 (o.0 ∷ o.1)) ≡ Some (Some bad) =
     ap (option_map (λ k. Some k)) (ap (number_in 0 65535) (sym o.2) ∙ plain.7) in (
       ap asked_for is ∙ ((draw_enters.3 (m.0 ∷ m.1) (n.0 ∷ n.1) (codes "--page") (codes "--bad") (o.0 ∷ o.1) plain.0).0 ∙ (asks (bad_page_words (m.0 ∷ m.1) (n.0 ∷ n.1) (o.0 ∷ o.1)) (behind_bad (paged (m.0 ∷ m.1) (n.0 ∷ n.1)) (o.0 ∷ o.1) 3) (clients_row (m.0 ∷ m.1) ∷ blocks_row (n.0 ∷ n.1) ∷ page_row ∷ bad_row (o.0 ∷ o.1) ∷ []) (bad_page_end m.0 m.1 n.0 n.1 o.0 o.1 m.3.hyphen n.3.hyphen o.3.hyphen) (bad_page_found (m.0 ∷ m.1) (n.0 ∷ n.1) (o.0 ∷ o.1))
-          ∙ page_by clients blocks (Some bad) (clients_row (m.0 ∷ m.1) ∷ blocks_row (n.0 ∷ n.1) ∷ page_row ∷ bad_row (o.0 ∷ o.1) ∷ [])
+          ∙ page_by clients tags blocks (Some bad) (clients_row (m.0 ∷ m.1) ∷ blocks_row (n.0 ∷ n.1) ∷ page_row ∷ bad_row (o.0 ∷ o.1) ∷ [])
           (clients_in m.0 m.1 (blocks_row (n.0 ∷ n.1) ∷ page_row ∷ bad_row (o.0 ∷ o.1) ∷ []) m.3.hyphen m.3.plus ∙ (ap (number_in 1 USUAL_CLIENTS) (sym m.2) ∙ plain.5))
           (blocks_in (m.0 ∷ m.1) n.0 n.1 (page_row ∷ bad_row (o.0 ∷ o.1) ∷ []) n.3.hyphen n.3.plus ∙ (ap (number_in 1 65536) (sym n.2) ∙ plain.6))
-          (bad_in o.0 o.1 [] o.3.hyphen o.3.plus ∙ third) refl)),
+          (bad_in o.0 o.1 [] o.3.hyphen o.3.plus ∙ third) refl refl plain.8)),
       ap (fault_of program_app) is ∙ ((draw_enters.3 (m.0 ∷ m.1) (n.0 ∷ n.1) (codes "--page") (codes "--bad") (o.0 ∷ o.1) plain.0).1
           ∙ ap (λ (k : Kinds). or_else k []) (draw_level (bad_page_words (m.0 ∷ m.1) (n.0 ∷ n.1) (o.0 ∷ o.1)) ∙ bad_page_faults m.0 m.1 n.0 n.1 o.0 o.1 m.3 n.3 o.3)),
     )

@@ -10,12 +10,12 @@ use Rattle.clap.specs.Simple.{Shape, built, entered, label_of}
 use Rattle.clap.specs.Walk.{Walk, answers_to, finished, nothing_held, rows_after, settled, walk, walk_from, walked}
 use Rattle.std.specs.Option.{option_map_or}
 use Rattle.std.specs.Prelude.{find}
-use Rattle.uas_profile.specs.declared.TheConstants.{USUAL_CLIENTS}
+use Rattle.uas_profile.specs.declared.TheConstants.{MAX_CLIENTS, TAGS, USUAL_CLIENTS}
 use Rattle.byte_io.specs.Words.{number_in}
-use Rattle.uas_words.specs.CommandLine.{AsksScript, asked_for, asked_in, bad_of, blocks_of, clients_of, has_when, program_app, trace, trace_of}
+use Rattle.uas_words.specs.CommandLine.{AsksScript, asked_for, asked_in, bad_of, blocks_of, clients_of, has_when, program_app, tags_of, trace, trace_of}
 use Rattle.uas_words.proofs.Levels.{Enters}
 use Rattle.uas_words.proofs.Places.{bad_in, bad_row, before_bad, behind_bad, blocks_in, blocks_row, clients_in, clients_row, ends, on, pending}
-use Rattle.uas_words.proofs.PlainNumbers.{IsIn, number_is_in}
+use Rattle.uas_words.proofs.PlainNumbers.{IsIn, clients_are_in, number_is_in}
 use Rattle.uas_words.proofs.WalkSteps.{fault-bad, fault-end, fault-plain, fault-value, standing, walked-bad, walked-plain, walked-value}
 
 -- the subcommand `trace`, built
@@ -33,9 +33,9 @@ trace_level : (words : List Text) → entered_fault (built program_app) (Some (c
 trace_level words = refl
 
 -- what is found, part by part, asks for a trace
-traced_by : (clients blocks : ℕ) (bad : Option ℕ) (rows : List Row) → clients_of rows ≡ Some clients → blocks_of rows ≡ Some blocks
-    → bad_of rows ≡ Some bad → has_when rows ≡ true → trace_of rows ≡ Some (trace clients blocks bad)
-traced_by clients blocks bad rows p q r s = rw (s, p, q, r) refl
+traced_by : (clients tags blocks : ℕ) (bad : Option ℕ) (rows : List Row) → clients_of TAGS rows ≡ Some clients → blocks_of rows ≡ Some blocks
+    → bad_of rows ≡ Some bad → has_when rows ≡ true → tags_of rows ≡ Some TAGS → tags ≡ TAGS → trace_of rows ≡ Some (trace clients tags blocks bad)
+traced_by clients tags blocks bad rows p q r s u t = rw (s, u, p, q, r, t) refl
 
 -- WHERE THE WALK STANDS
 
@@ -91,7 +91,7 @@ asks words w rows is found = trace_asks words ∙ (ap (λ (v : Walk). trace_of (
 
 -- NOTHING IS REFUSED
 
-no_clients : (d : ℕ) (ds : Text) → IsIn 1 USUAL_CLIENTS d ds → settle_fault trace_shape.rules trace_shape.args_override_self (behind_clients (d ∷ ds)).held ≡ []
+no_clients : (d : ℕ) (ds : Text) → IsIn 1 MAX_CLIENTS d ds → settle_fault trace_shape.rules trace_shape.args_override_self (behind_clients (d ∷ ds)).held ≡ []
 no_clients d ds m = simp (m.hyphen, m.plus, m.some, m.first, m.rest, m.fits, m.low, m.high)
 
 no_blocks : (c : Text) (e : ℕ) (es : Text) → IsIn 1 65536 e es → settle_fault trace_shape.rules trace_shape.args_override_self (behind_blocks c (e ∷ es)).held ≡ []
@@ -105,7 +105,7 @@ from_clients : (d : ℕ) (ds : Text) (rest : List Text) → (d == 45) ≡ false
     → walk_fault trace_shape [] (walk_from nothing_held) ((d ∷ ds) ∷ rest) ≡ walk_fault trace_shape [] (behind_clients (d ∷ ds)) rest
 from_clients d ds rest hyphen = fault-plain d ds hyphen trace_shape nothing_held 1 rest
 
-from_blocks : (d : ℕ) (ds : Text) (e : ℕ) (es : Text) (rest : List Text) → IsIn 1 USUAL_CLIENTS d ds → (e == 45) ≡ false
+from_blocks : (d : ℕ) (ds : Text) (e : ℕ) (es : Text) (rest : List Text) → IsIn 1 MAX_CLIENTS d ds → (e == 45) ≡ false
     → walk_fault trace_shape [] (behind_clients (d ∷ ds)) ((e ∷ es) ∷ rest) ≡ walk_fault trace_shape [] (behind_blocks (d ∷ ds) (e ∷ es)) rest
 from_blocks d ds e es rest m hyphen = fault-plain e es hyphen trace_shape (behind_clients (d ∷ ds)).held 2 rest
     ∙ on (settle_fault trace_shape.rules trace_shape.args_override_self (behind_clients (d ∷ ds)).held)
@@ -128,13 +128,13 @@ bad_defaults : (c b l : Text) → defaults_fault (settled trace_shape.rules (beh
 unfolding defaults_fault
 bad_defaults c b l = refl
 
-plain_faults : (d : ℕ) (ds : Text) (e : ℕ) (es : Text) → IsIn 1 USUAL_CLIENTS d ds → IsIn 1 65536 e es
+plain_faults : (d : ℕ) (ds : Text) (e : ℕ) (es : Text) → IsIn 1 MAX_CLIENTS d ds → IsIn 1 65536 e es
     → level_fault trace_shape [] nothing_held (plain_words (d ∷ ds) (e ∷ es)) false [] ≡ []
 plain_faults d ds e es m n = ends trace_shape (plain_words (d ∷ ds) (e ∷ es)) (behind_blocks (d ∷ ds) (e ∷ es)) (plain_end d ds e es m.hyphen n.hyphen)
     (from_clients d ds ((e ∷ es) ∷ []) m.hyphen ∙ (from_blocks d ds e es [] m n.hyphen ∙ fault-end trace_shape (behind_blocks (d ∷ ds) (e ∷ es))))
     (no_blocks (d ∷ ds) e es n) (plain_defaults (d ∷ ds) (e ∷ es)) refl
 
-bad_faults : (d : ℕ) (ds : Text) (e : ℕ) (es : Text) (f : ℕ) (fs : Text) → IsIn 1 USUAL_CLIENTS d ds → IsIn 1 65536 e es → IsIn 0 65535 f fs
+bad_faults : (d : ℕ) (ds : Text) (e : ℕ) (es : Text) (f : ℕ) (fs : Text) → IsIn 1 MAX_CLIENTS d ds → IsIn 1 65536 e es → IsIn 0 65535 f fs
     → level_fault trace_shape [] nothing_held (bad_words (d ∷ ds) (e ∷ es) (f ∷ fs)) false [] ≡ []
 bad_faults d ds e es f fs m n o =
     ends trace_shape (bad_words (d ∷ ds) (e ∷ es) (f ∷ fs)) (behind_bad (numbers (d ∷ ds) (e ∷ es)) (f ∷ fs) 3) (bad_end d ds e es f fs m.hyphen n.hyphen o.hyphen)
@@ -145,23 +145,23 @@ bad_faults d ds e es f fs m n o =
 -- WHAT THEY ASK FOR
 
 -- the plain words of a trace ask for it, and are not refused
-pub trace_asked : (clients blocks : ℕ) (bad : Option ℕ) (words : List Text) → AsksScript (codes "trace") clients blocks bad words
-    → (asked_for words ≡ Some (trace clients blocks bad)) × (fault_of program_app words ≡ [])
-trace_asked clients blocks None words plain =
-    let m = number_is_in 1 USUAL_CLIENTS clients plain.1 (omega arith) plain.4 in
+pub trace_asked : (clients tags blocks : ℕ) (bad : Option ℕ) (words : List Text) → AsksScript (codes "trace") clients tags blocks bad words
+    → (asked_for words ≡ Some (trace clients tags blocks bad)) × (fault_of program_app words ≡ [])
+trace_asked clients tags blocks None words plain =
+    let m = clients_are_in clients plain.1 plain.4 in
     let n = number_is_in 1 65536 blocks plain.2 (omega arith) plain.5 in
     let is : words ≡ plain.0 ∷ codes "trace" ∷ plain_words (m.0 ∷ m.1) (n.0 ∷ n.1) =
     plain.3 ∙ ap₂ (λ (a b : Text). plain.0 ∷ codes "trace" ∷ a ∷ b ∷ []) m.2 n.2 in (
       ap asked_for is ∙ ((trace_enters.0 (m.0 ∷ m.1) (n.0 ∷ n.1) plain.0).0 ∙ (asks (plain_words (m.0 ∷ m.1) (n.0 ∷ n.1)) (behind_blocks (m.0 ∷ m.1) (n.0 ∷ n.1)) (numbers (m.0 ∷ m.1) (n.0 ∷ n.1)) (plain_end m.0 m.1 n.0 n.1 m.3.hyphen n.3.hyphen) (plain_found (m.0 ∷ m.1) (n.0 ∷ n.1))
-          ∙ traced_by clients blocks None (numbers (m.0 ∷ m.1) (n.0 ∷ n.1))
+          ∙ traced_by clients tags blocks None (numbers (m.0 ∷ m.1) (n.0 ∷ n.1))
           (clients_in m.0 m.1 (blocks_row (n.0 ∷ n.1) ∷ []) m.3.hyphen m.3.plus ∙ (ap (number_in 1 USUAL_CLIENTS) (sym m.2) ∙ plain.4))
           (blocks_in (m.0 ∷ m.1) n.0 n.1 ([]) n.3.hyphen n.3.plus ∙ (ap (number_in 1 65536) (sym n.2) ∙ plain.5))
-          refl refl)),
+          refl refl refl plain.6)),
       ap (fault_of program_app) is ∙ ((trace_enters.0 (m.0 ∷ m.1) (n.0 ∷ n.1) plain.0).1
           ∙ ap (λ (k : Kinds). or_else k []) (trace_level (plain_words (m.0 ∷ m.1) (n.0 ∷ n.1)) ∙ plain_faults m.0 m.1 n.0 n.1 m.3 n.3)),
     )
-trace_asked clients blocks (Some bad) words plain =
-    let m = number_is_in 1 USUAL_CLIENTS clients plain.1 (omega arith) plain.5 in
+trace_asked clients tags blocks (Some bad) words plain =
+    let m = clients_are_in clients plain.1 plain.5 in
     let n = number_is_in 1 65536 blocks plain.2 (omega arith) plain.6 in
     let o = number_is_in 0 65535 bad plain.3 (omega arith) plain.7 in
     let is : words ≡ plain.0 ∷ codes "trace" ∷ bad_words (m.0 ∷ m.1) (n.0 ∷ n.1) (o.0 ∷ o.1) =
@@ -170,10 +170,10 @@ trace_asked clients blocks (Some bad) words plain =
     let third : option_map (λ k. Some k) (number_in 0 65535 (o.0 ∷ o.1)) ≡ Some (Some bad) =
     ap (option_map (λ k. Some k)) (ap (number_in 0 65535) (sym o.2) ∙ plain.7) in (
       ap asked_for is ∙ ((trace_enters.1 (m.0 ∷ m.1) (n.0 ∷ n.1) (codes "--bad") (o.0 ∷ o.1) plain.0).0 ∙ (asks (bad_words (m.0 ∷ m.1) (n.0 ∷ n.1) (o.0 ∷ o.1)) (behind_bad (numbers (m.0 ∷ m.1) (n.0 ∷ n.1)) (o.0 ∷ o.1) 3) (clients_row (m.0 ∷ m.1) ∷ blocks_row (n.0 ∷ n.1) ∷ bad_row (o.0 ∷ o.1) ∷ []) (bad_end m.0 m.1 n.0 n.1 o.0 o.1 m.3.hyphen n.3.hyphen o.3.hyphen) (bad_found (m.0 ∷ m.1) (n.0 ∷ n.1) (o.0 ∷ o.1))
-          ∙ traced_by clients blocks (Some bad) (clients_row (m.0 ∷ m.1) ∷ blocks_row (n.0 ∷ n.1) ∷ bad_row (o.0 ∷ o.1) ∷ [])
+          ∙ traced_by clients tags blocks (Some bad) (clients_row (m.0 ∷ m.1) ∷ blocks_row (n.0 ∷ n.1) ∷ bad_row (o.0 ∷ o.1) ∷ [])
           (clients_in m.0 m.1 (blocks_row (n.0 ∷ n.1) ∷ bad_row (o.0 ∷ o.1) ∷ []) m.3.hyphen m.3.plus ∙ (ap (number_in 1 USUAL_CLIENTS) (sym m.2) ∙ plain.5))
           (blocks_in (m.0 ∷ m.1) n.0 n.1 (bad_row (o.0 ∷ o.1) ∷ []) n.3.hyphen n.3.plus ∙ (ap (number_in 1 65536) (sym n.2) ∙ plain.6))
-          (bad_in o.0 o.1 [] o.3.hyphen o.3.plus ∙ third) refl)),
+          (bad_in o.0 o.1 [] o.3.hyphen o.3.plus ∙ third) refl refl plain.8)),
       ap (fault_of program_app) is ∙ ((trace_enters.1 (m.0 ∷ m.1) (n.0 ∷ n.1) (codes "--bad") (o.0 ∷ o.1) plain.0).1
           ∙ ap (λ (k : Kinds). or_else k []) (trace_level (bad_words (m.0 ∷ m.1) (n.0 ∷ n.1) (o.0 ∷ o.1)) ∙ bad_faults m.0 m.1 n.0 n.1 o.0 o.1 m.3 n.3 o.3)),
     )

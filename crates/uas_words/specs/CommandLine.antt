@@ -12,47 +12,48 @@ use Rattle.clap.specs.declared.builder.ArgAction.TheVariants.{Set, SetTrue}
 use Rattle.clap.specs.declared.builder.value_parser.ValueParser.TheVariants as parser
 use Rattle.clap.specs.declared.error.kind.ErrorKind.{ErrorKind}
 use Rattle.clap.specs.declared.error.kind.ErrorKind.TheVariants.{DisplayHelp, DisplayVersion, OutOfMemory, ValueValidation}
-use Rattle.uas_profile.specs.declared.TheConstants.{MAX_BLOCKS, USUAL_CLIENTS, MOST_BLOCKS_MOVED}
+use Rattle.uas_profile.specs.Tags.{most_clients}
+use Rattle.uas_profile.specs.declared.TheConstants.{LEAST_TAGS, MAX_BLOCKS, MAX_CLIENTS, MOST_BLOCKS_MOVED, MOST_TAGS, TAGS, USUAL_CLIENTS}
 use Rattle.byte_io.specs.declared.disks.Extent.{Extent}
 use Rattle.uas_words.specs.declared.Run.{Run}
 use Rattle.uas_words.specs.declared.Run.TheVariants.{Replay, Trace, Work, Keep, Decode, Make, Info, Dump, Fill, Audit, Draw, Page, Capture}
 use Rattle.byte_io.specs.Words.{number_in}
 
--- What is asked for, with a file's name as its text: to run a script of so many clients and blocks, and of the block that is bad in
--- every unit, if one is; to run one and show its steps; to let so many clients work for so many rounds, and to save their log in a
+-- What is asked for, with a file's name as its text: to run a script of so many clients, tags of each and blocks, and of the block that is
+-- bad in every unit, if one is; to run one and show its steps; to let so many clients with so many tags each work for so many rounds, and to save their log in a
 -- file, if one is named, or to keep it there while it grows, synced after so many steps; to tell what lines of bytes say; to make an image of so many
 -- blocks, in place of a file that is there or not, to tell the size of one, to print its
 -- blocks from a number on, so many of them, or to fill them with a byte; to audit a saved log, and to find there a checksum, if one is named; to draw a
 -- script's run as a picture, or as a page; to write it to a file as a capture.
 pub data Asked : Type 0 where
-  replay : ℕ → ℕ → Option ℕ → Asked
-  trace : ℕ → ℕ → Option ℕ → Asked
-  work : ℕ → ℕ → Option Text → Asked
-  keep : ℕ → ℕ → Text → ℕ → Asked
+  replay : ℕ → ℕ → ℕ → Option ℕ → Asked
+  trace : ℕ → ℕ → ℕ → Option ℕ → Asked
+  work : ℕ → ℕ → ℕ → Option Text → Asked
+  keep : ℕ → ℕ → ℕ → Text → ℕ → Asked
   decode : Asked
   make : Text → ℕ → Bool → Asked
   info : Text → Asked
   dump : Text → ℕ → ℕ → Asked
   fill : Text → ℕ → ℕ → ℕ → Asked
   audit : Text → Option ℕ → Asked
-  draw : ℕ → ℕ → Option ℕ → Asked
-  page : ℕ → ℕ → Option ℕ → Asked
-  capture : ℕ → ℕ → Text → Option ℕ → Asked
+  draw : ℕ → ℕ → ℕ → Option ℕ → Asked
+  page : ℕ → ℕ → ℕ → Option ℕ → Asked
+  capture : ℕ → ℕ → ℕ → Text → Option ℕ → Asked
 
 abbrev pub asked_by : Run → Asked
-asked_by (Replay disks) = replay disks.clients disks.blocks disks.bad
-asked_by (Trace disks) = trace disks.clients disks.blocks disks.bad
-asked_by (Work clients rounds log) = work clients rounds (option_map (λ name. name.now) log)
-asked_by (Keep clients rounds log every) = keep clients rounds log.now every
+asked_by (Replay disks) = replay disks.clients disks.tags disks.blocks disks.bad
+asked_by (Trace disks) = trace disks.clients disks.tags disks.blocks disks.bad
+asked_by (Work clients tags rounds log) = work clients tags rounds (option_map (λ name. name.now) log)
+asked_by (Keep clients tags rounds log every) = keep clients tags rounds log.now every
 asked_by Decode = decode
 asked_by (Make file blocks replaces) = make file.now blocks replaces
 asked_by (Info file) = info file.now
 asked_by (Dump file extent) = dump file.now extent.lba extent.count
 asked_by (Fill file extent byte) = fill file.now extent.lba extent.count byte
 asked_by (Audit log head) = audit log.now head
-asked_by (Draw disks) = draw disks.clients disks.blocks disks.bad
-asked_by (Page disks) = page disks.clients disks.blocks disks.bad
-asked_by (Capture disks file) = capture disks.clients disks.blocks file.now disks.bad
+asked_by (Draw disks) = draw disks.clients disks.tags disks.blocks disks.bad
+asked_by (Page disks) = page disks.clients disks.tags disks.blocks disks.bad
+asked_by (Capture disks file) = capture disks.clients disks.tags disks.blocks file.now disks.bad
 
 -- ---- the arguments of a subcommand, by what was found for it
 
@@ -60,9 +61,17 @@ asked_by (Capture disks file) = capture disks.clients disks.blocks file.now disk
 abbrev pub number_of : ℕ → ℕ → Text → Option ℕ
 number_of least most word = number_in least most (without_leading_plus word)
 
--- CLIENTS is a number from 1 to 15
-abbrev pub clients_of : List Row → Option ℕ
-clients_of rows = option_and_then (number_of 1 USUAL_CLIENTS) (one_of (codes "CLIENTS") rows)
+-- `--tags N` may stand or not, and N is a number from 2 to 16; 16 is the usual one
+abbrev pub usual_tags : Option Text → Option ℕ
+usual_tags None = Some TAGS
+usual_tags (Some word) = number_of LEAST_TAGS MOST_TAGS word
+
+abbrev pub tags_of : List Row → Option ℕ
+tags_of rows = usual_tags (one_of (codes "tags") rows)
+
+-- CLIENTS is a number from 1 to the most clients of so many tags; of 16 tags 15, of 8 tags 31
+abbrev pub clients_of : ℕ → List Row → Option ℕ
+clients_of tags rows = option_and_then (number_of 1 (most_clients tags)) (one_of (codes "CLIENTS") rows)
 
 -- BLOCKS is a number from 1 to 65,536
 abbrev pub blocks_of : List Row → Option ℕ
@@ -109,10 +118,11 @@ byte_of rows = option_and_then (number_of 0 255) (one_of (codes "BYTE") rows)
 abbrev pub file_of : List Row → Option Text
 file_of rows = first_of (codes "FILE") rows
 
--- CLIENTS BLOCKS [--bad LBA]
-abbrev pub script_of : (ℕ → ℕ → Option ℕ → Asked) → List Row → Option Asked
+-- CLIENTS BLOCKS [--bad LBA] [--tags N]
+abbrev pub script_of : (ℕ → ℕ → ℕ → Option ℕ → Asked) → List Row → Option Asked
 script_of run rows =
-    option_and_then (λ clients. option_and_then (λ blocks. option_map (run clients blocks) (bad_of rows)) (blocks_of rows)) (clients_of rows)
+    option_and_then (λ tags. option_and_then (λ clients. option_and_then (λ blocks. option_map (run clients tags blocks) (bad_of rows))
+    (blocks_of rows)) (clients_of tags rows)) (tags_of rows)
 
 -- `--page` may stand or not
 abbrev pub is_true : Option Text → Bool
@@ -138,7 +148,7 @@ is_when (Some word) = bytes_eq word (codes "always") || (bytes_eq word (codes "a
 abbrev pub has_when : List Row → Bool
 has_when rows = is_when (first_of (codes "color") rows)
 
--- CLIENTS BLOCKS [--bad LBA] [--color WHEN]
+-- CLIENTS BLOCKS [--bad LBA] [--tags N] [--color WHEN]
 abbrev pub trace_of : List Row → Option Asked
 trace_of rows = if has_when rows then script_of trace rows else None
 
@@ -146,7 +156,7 @@ trace_of rows = if has_when rows then script_of trace rows else None
 abbrev pub decode_of : List Row → Option Asked
 decode_of rows = if has_when rows then Some decode else None
 
--- CLIENTS BLOCKS [--page] [--bad LBA]
+-- CLIENTS BLOCKS [--page] [--bad LBA] [--tags N]
 abbrev pub draw_of : List Row → Option Asked
 draw_of rows = script_of (if has_page rows then page else draw) rows
 
@@ -159,15 +169,15 @@ abbrev pub sync_of : List Row → Option (Option ℕ)
 sync_of rows = optional_number 0 max_lba (one_of (codes "sync") rows)
 
 -- a log is kept only in a file
-abbrev pub worked : ℕ → ℕ → Option Text → Option ℕ → Option Asked
-worked clients rounds log None = Some (work clients rounds log)
-worked clients rounds None (Some every) = None
-worked clients rounds (Some log) (Some every) = Some (keep clients rounds log every)
+abbrev pub worked : ℕ → ℕ → ℕ → Option Text → Option ℕ → Option Asked
+worked clients tags rounds log None = Some (work clients tags rounds log)
+worked clients tags rounds None (Some every) = None
+worked clients tags rounds (Some log) (Some every) = Some (keep clients tags rounds log every)
 
--- CLIENTS ROUNDS [LOG [--sync N]]
+-- CLIENTS ROUNDS [LOG [--sync N]] [--tags N]
 abbrev pub work_of : List Row → Option Asked
-work_of rows = option_and_then (λ clients. option_and_then (λ rounds. option_and_then (worked clients rounds (log_of rows)) (sync_of rows))
-    (rounds_of rows)) (clients_of rows)
+work_of rows = option_and_then (λ tags. option_and_then (λ clients. option_and_then (λ rounds. option_and_then (worked clients tags rounds (log_of rows))
+    (sync_of rows)) (rounds_of rows)) (clients_of tags rows)) (tags_of rows)
 
 -- A checksum is written in 1 to 8 hexadecimal digits of either case.
 abbrev pub is_hex : Text → Bool
@@ -189,9 +199,9 @@ head_of rows = optional_hex (first_of (codes "head") rows)
 abbrev pub audit_of : List Row → Option Asked
 audit_of rows = option_and_then (λ log. option_map (audit log) (head_of rows)) (log_of rows)
 
--- CLIENTS BLOCKS FILE [--bad LBA]
+-- CLIENTS BLOCKS FILE [--bad LBA] [--tags N]
 abbrev pub capture_of : List Row → Option Asked
-capture_of rows = option_and_then (λ file. script_of (λ clients blocks bad. capture clients blocks file bad) rows) (file_of rows)
+capture_of rows = option_and_then (λ file. script_of (λ clients tags blocks bad. capture clients tags blocks file bad) rows) (file_of rows)
 
 -- so many blocks from this one on
 abbrev pub extent_from : ℕ → ℕ → Extent
@@ -251,7 +261,7 @@ abbrev pub number_rule : Text → ℕ → ℕ → Rule
 number_rule name least most = record (required_rule name) { parser = Some (parser.Signed (pos least) (pos most)) }
 
 abbrev pub clients_rule : Rule
-clients_rule = number_rule (codes "CLIENTS") 1 USUAL_CLIENTS
+clients_rule = number_rule (codes "CLIENTS") 1 MAX_CLIENTS
 
 abbrev pub rounds_rule : Rule
 rounds_rule = number_rule (codes "ROUNDS") 1 max_rounds
@@ -272,17 +282,21 @@ byte_rule = number_rule (codes "BYTE") 0 255
 abbrev pub option_rule : Text → Rule
 option_rule name = record (new_rule name) { long = Some name; action = Some Set; value_names = 1 }
 
--- an option with a number up to `most` behind it
-abbrev pub number_option_rule : Text → ℕ → Rule
-number_option_rule name most = record (option_rule name) { parser = Some (parser.Signed (pos 0) (pos most)) }
+-- an option with a number from `least` to `most` behind it
+abbrev pub number_option_rule : Text → ℕ → ℕ → Rule
+number_option_rule name least most = record (option_rule name) { parser = Some (parser.Signed (pos least) (pos most)) }
 
 -- the option `--bad LBA`
 abbrev pub bad_rule : Rule
-bad_rule = number_option_rule (codes "bad") last_block
+bad_rule = number_option_rule (codes "bad") 0 last_block
+
+-- the option `--tags N`
+abbrev pub tags_rule : Rule
+tags_rule = number_option_rule (codes "tags") LEAST_TAGS MOST_TAGS
 
 -- the option `--sync N`
 abbrev pub sync_rule : Rule
-sync_rule = number_option_rule (codes "sync") max_lba
+sync_rule = number_option_rule (codes "sync") 0 max_lba
 
 -- the option `--head HEX`
 abbrev pub head_rule : Rule
@@ -304,22 +318,22 @@ force_rule = flag_rule (codes "force")
 abbrev pub color_rule : Rule
 color_rule = option_rule (codes "color")
 
--- a subcommand that runs a script: CLIENTS BLOCKS [--bad LBA]
+-- a subcommand that runs a script: CLIENTS BLOCKS [--bad LBA] [--tags N]
 abbrev pub with_disks : App → App
-with_disks app = with_rule (with_rule (with_rule app clients_rule) blocks_rule) bad_rule
+with_disks app = with_rule (with_rule (with_rule (with_rule app clients_rule) blocks_rule) bad_rule) tags_rule
 
 abbrev pub replay_app : App
 replay_app = with_disks (new_app (codes "replay"))
 
--- trace CLIENTS BLOCKS [--bad LBA] [--color WHEN]
+-- trace CLIENTS BLOCKS [--bad LBA] [--tags N] [--color WHEN]
 abbrev pub trace_app : App
 trace_app = with_rule (with_disks (new_app (codes "trace"))) color_rule
 
--- clients that work: CLIENTS ROUNDS [LOG]
+-- clients that work: CLIENTS ROUNDS [LOG] [--tags N]
 abbrev pub with_work : App → App
-with_work app = with_rule (with_rule (with_rule app clients_rule) rounds_rule) log_rule
+with_work app = with_rule (with_rule (with_rule (with_rule app clients_rule) rounds_rule) log_rule) tags_rule
 
--- work CLIENTS ROUNDS [LOG] [--sync N]
+-- work CLIENTS ROUNDS [LOG] [--tags N] [--sync N]
 abbrev pub work_app : App
 work_app = with_rule (with_work (new_app (codes "work"))) sync_rule
 
@@ -350,11 +364,11 @@ fill_app = with_rule (with_extent (new_app (codes "fill"))) byte_rule
 abbrev pub audit_app : App
 audit_app = with_rule (with_rule (new_app (codes "audit")) saved_log_rule) head_rule
 
--- draw CLIENTS BLOCKS [--page] [--bad LBA]
+-- draw CLIENTS BLOCKS [--page] [--bad LBA] [--tags N]
 abbrev pub draw_app : App
 draw_app = with_rule (with_disks (new_app (codes "draw"))) page_rule
 
--- capture CLIENTS BLOCKS FILE [--bad LBA]
+-- capture CLIENTS BLOCKS FILE [--bad LBA] [--tags N]
 abbrev pub capture_app : App
 capture_app = with_rule (with_disks (new_app (codes "capture"))) file_rule
 
@@ -387,37 +401,40 @@ abbrev pub is_plain_name : Text → Bool
 is_plain_name [] = false
 is_plain_name (byte ∷ bytes) = not (byte == 45)
 
--- the words ask to run a script by the subcommand of this name: `NAME CLIENTS BLOCKS`, or `NAME CLIENTS BLOCKS --bad LBA`
-abbrev pub AsksScript : Text → ℕ → ℕ → Option ℕ → List Text → Type 0
-AsksScript name clients blocks None words = (program first second : Text) × (words ≡ program ∷ name ∷ first ∷ second ∷ [])
-    × (number_in 1 USUAL_CLIENTS first ≡ Some clients) × (number_in 1 MAX_BLOCKS second ≡ Some blocks)
-AsksScript name clients blocks (Some bad) words =
+-- the words ask to run a script by the subcommand of this name, with the usual number of tags: `NAME CLIENTS BLOCKS`, or
+-- `NAME CLIENTS BLOCKS --bad LBA`
+abbrev pub AsksScript : Text → ℕ → ℕ → ℕ → Option ℕ → List Text → Type 0
+AsksScript name clients tags blocks None words = (program first second : Text) × (words ≡ program ∷ name ∷ first ∷ second ∷ [])
+    × (number_in 1 USUAL_CLIENTS first ≡ Some clients) × (number_in 1 MAX_BLOCKS second ≡ Some blocks) × (tags ≡ TAGS)
+AsksScript name clients tags blocks (Some bad) words =
     (program first second third : Text) × (words ≡ program ∷ name ∷ first ∷ second ∷ codes "--bad" ∷ third ∷ [])
     × (number_in 1 USUAL_CLIENTS first ≡ Some clients) × (number_in 1 MAX_BLOCKS second ≡ Some blocks) × (number_in 0 last_block third ≡ Some bad)
+    × (tags ≡ TAGS)
 
 -- the words ask for a page: `draw CLIENTS BLOCKS --page`, or `draw CLIENTS BLOCKS --page --bad LBA`
-abbrev pub AsksPage : ℕ → ℕ → Option ℕ → List Text → Type 0
-AsksPage clients blocks None words = (program first second : Text) × (words ≡ program ∷ codes "draw" ∷ first ∷ second ∷ codes "--page" ∷ [])
-    × (number_in 1 USUAL_CLIENTS first ≡ Some clients) × (number_in 1 MAX_BLOCKS second ≡ Some blocks)
-AsksPage clients blocks (Some bad) words =
+abbrev pub AsksPage : ℕ → ℕ → ℕ → Option ℕ → List Text → Type 0
+AsksPage clients tags blocks None words = (program first second : Text) × (words ≡ program ∷ codes "draw" ∷ first ∷ second ∷ codes "--page" ∷ [])
+    × (number_in 1 USUAL_CLIENTS first ≡ Some clients) × (number_in 1 MAX_BLOCKS second ≡ Some blocks) × (tags ≡ TAGS)
+AsksPage clients tags blocks (Some bad) words =
     (program first second third : Text) × (words ≡ program ∷ codes "draw" ∷ first ∷ second ∷ codes "--page" ∷ codes "--bad" ∷ third ∷ [])
     × (number_in 1 USUAL_CLIENTS first ≡ Some clients) × (number_in 1 MAX_BLOCKS second ≡ Some blocks) × (number_in 0 last_block third ≡ Some bad)
+    × (tags ≡ TAGS)
 
 -- the words ask to let clients work: `work CLIENTS ROUNDS`, or `work CLIENTS ROUNDS LOG`
-abbrev pub AsksWork : ℕ → ℕ → Option Text → List Text → Type 0
-AsksWork clients rounds None words = (program first second : Text) × (words ≡ program ∷ codes "work" ∷ first ∷ second ∷ [])
-    × (number_in 1 USUAL_CLIENTS first ≡ Some clients) × (number_in 1 max_rounds second ≡ Some rounds)
-AsksWork clients rounds (Some log) words = (program first second : Text) × (words ≡ program ∷ codes "work" ∷ first ∷ second ∷ log ∷ [])
-    × (is_plain_name log ≡ true) × (number_in 1 USUAL_CLIENTS first ≡ Some clients) × (number_in 1 max_rounds second ≡ Some rounds)
+abbrev pub AsksWork : ℕ → ℕ → ℕ → Option Text → List Text → Type 0
+AsksWork clients tags rounds None words = (program first second : Text) × (words ≡ program ∷ codes "work" ∷ first ∷ second ∷ [])
+    × (number_in 1 USUAL_CLIENTS first ≡ Some clients) × (number_in 1 max_rounds second ≡ Some rounds) × (tags ≡ TAGS)
+AsksWork clients tags rounds (Some log) words = (program first second : Text) × (words ≡ program ∷ codes "work" ∷ first ∷ second ∷ log ∷ [])
+    × (is_plain_name log ≡ true) × (number_in 1 USUAL_CLIENTS first ≡ Some clients) × (number_in 1 max_rounds second ≡ Some rounds) × (tags ≡ TAGS)
 
 -- the words ask to capture a run: `capture CLIENTS BLOCKS FILE`, or `capture CLIENTS BLOCKS FILE --bad LBA`
-abbrev pub AsksCapture : ℕ → ℕ → Text → Option ℕ → List Text → Type 0
-AsksCapture clients blocks file None words = (program first second : Text) × (words ≡ program ∷ codes "capture" ∷ first ∷ second ∷ file ∷ [])
-    × (is_plain_name file ≡ true) × (number_in 1 USUAL_CLIENTS first ≡ Some clients) × (number_in 1 MAX_BLOCKS second ≡ Some blocks)
-AsksCapture clients blocks file (Some bad) words =
+abbrev pub AsksCapture : ℕ → ℕ → ℕ → Text → Option ℕ → List Text → Type 0
+AsksCapture clients tags blocks file None words = (program first second : Text) × (words ≡ program ∷ codes "capture" ∷ first ∷ second ∷ file ∷ [])
+    × (is_plain_name file ≡ true) × (number_in 1 USUAL_CLIENTS first ≡ Some clients) × (number_in 1 MAX_BLOCKS second ≡ Some blocks) × (tags ≡ TAGS)
+AsksCapture clients tags blocks file (Some bad) words =
     (program first second third : Text) × (words ≡ program ∷ codes "capture" ∷ first ∷ second ∷ file ∷ codes "--bad" ∷ third ∷ [])
     × (is_plain_name file ≡ true) × (number_in 1 USUAL_CLIENTS first ≡ Some clients) × (number_in 1 MAX_BLOCKS second ≡ Some blocks)
-    × (number_in 0 last_block third ≡ Some bad)
+    × (number_in 0 last_block third ≡ Some bad) × (tags ≡ TAGS)
 
 -- the words ask to audit a log: `audit LOG`, or `audit LOG --head HEX`
 abbrev pub AsksAudit : Text → Option ℕ → List Text → Type 0
@@ -426,12 +443,12 @@ AsksAudit log (Some head) words = (program second : Text) × (words ≡ program 
     × (is_plain_name log ≡ true) × (hex_number second ≡ Some head)
 
 -- The words ask for a run in their plain form: a subcommand and its arguments, each number in decimal digits, and an option after them;
--- no plain form is told of a log that is kept, and of an image in place of a file.
+-- no plain form is told of another number of tags than 16, of a log that is kept, and of an image in place of a file.
 abbrev pub AsksPlainly : Asked → List Text → Type 0
-AsksPlainly (replay clients blocks bad) words = AsksScript (codes "replay") clients blocks bad words
-AsksPlainly (trace clients blocks bad) words = AsksScript (codes "trace") clients blocks bad words
-AsksPlainly (work clients rounds log) words = AsksWork clients rounds log words
-AsksPlainly (keep clients rounds log every) words = ⊥
+AsksPlainly (replay clients tags blocks bad) words = AsksScript (codes "replay") clients tags blocks bad words
+AsksPlainly (trace clients tags blocks bad) words = AsksScript (codes "trace") clients tags blocks bad words
+AsksPlainly (work clients tags rounds log) words = AsksWork clients tags rounds log words
+AsksPlainly (keep clients tags rounds log every) words = ⊥
 AsksPlainly decode words = (program : Text) × (words ≡ program ∷ codes "decode" ∷ [])
 AsksPlainly (make file blocks true) words = ⊥
 AsksPlainly (make file blocks false) words = (program second : Text) × (words ≡ program ∷ codes "make" ∷ file ∷ second ∷ [])
@@ -444,9 +461,9 @@ AsksPlainly (fill file lba count byte) words =
     (program second third fourth : Text) × (words ≡ program ∷ codes "fill" ∷ file ∷ second ∷ third ∷ fourth ∷ []) × (is_plain_name file ≡ true)
     × (number_in 0 max_lba second ≡ Some lba) × (number_in 1 MOST_BLOCKS_MOVED third ≡ Some count) × (number_in 0 255 fourth ≡ Some byte)
 AsksPlainly (audit log head) words = AsksAudit log head words
-AsksPlainly (draw clients blocks bad) words = AsksScript (codes "draw") clients blocks bad words
-AsksPlainly (page clients blocks bad) words = AsksPage clients blocks bad words
-AsksPlainly (capture clients blocks file bad) words = AsksCapture clients blocks file bad words
+AsksPlainly (draw clients tags blocks bad) words = AsksScript (codes "draw") clients tags blocks bad words
+AsksPlainly (page clients tags blocks bad) words = AsksPage clients tags blocks bad words
+AsksPlainly (capture clients tags blocks file bad) words = AsksCapture clients tags blocks file bad words
 
 -- a plain line asks for what it says, and isn't refused
 abbrev pub PlainLinesAsk : Type 0
@@ -456,19 +473,19 @@ PlainLinesAsk = (asked : Asked) (words : List Text) → AsksPlainly asked words 
 
 -- A run ends with 0, 3 or 4, and one that submits commands or refuses lines with 1 too.
 abbrev pub MayEndRun : Asked → ℕ → Type 0
-MayEndRun (replay clients blocks bad) status = (status ≤ 1) ⊎ ((status ≡ 3) ⊎ (status ≡ 4))
-MayEndRun (trace clients blocks bad) status = (status ≤ 1) ⊎ ((status ≡ 3) ⊎ (status ≡ 4))
-MayEndRun (work clients rounds log) status = (status ≤ 1) ⊎ ((status ≡ 3) ⊎ (status ≡ 4))
-MayEndRun (keep clients rounds log every) status = (status ≤ 1) ⊎ ((status ≡ 3) ⊎ (status ≡ 4))
+MayEndRun (replay clients tags blocks bad) status = (status ≤ 1) ⊎ ((status ≡ 3) ⊎ (status ≡ 4))
+MayEndRun (trace clients tags blocks bad) status = (status ≤ 1) ⊎ ((status ≡ 3) ⊎ (status ≡ 4))
+MayEndRun (work clients tags rounds log) status = (status ≤ 1) ⊎ ((status ≡ 3) ⊎ (status ≡ 4))
+MayEndRun (keep clients tags rounds log every) status = (status ≤ 1) ⊎ ((status ≡ 3) ⊎ (status ≡ 4))
 MayEndRun decode status = (status ≤ 1) ⊎ ((status ≡ 3) ⊎ (status ≡ 4))
 MayEndRun (make file blocks replaces) status = (status ≡ 0) ⊎ ((status ≡ 3) ⊎ (status ≡ 4))
 MayEndRun (info file) status = (status ≡ 0) ⊎ ((status ≡ 3) ⊎ (status ≡ 4))
 MayEndRun (dump file lba count) status = (status ≤ 1) ⊎ ((status ≡ 3) ⊎ (status ≡ 4))
 MayEndRun (fill file lba count byte) status = (status ≤ 1) ⊎ ((status ≡ 3) ⊎ (status ≡ 4))
 MayEndRun (audit log head) status = (status ≡ 0) ⊎ ((status ≡ 3) ⊎ (status ≡ 4))
-MayEndRun (draw clients blocks bad) status = (status ≤ 1) ⊎ ((status ≡ 3) ⊎ (status ≡ 4))
-MayEndRun (page clients blocks bad) status = (status ≤ 1) ⊎ ((status ≡ 3) ⊎ (status ≡ 4))
-MayEndRun (capture clients blocks file bad) status = (status ≤ 1) ⊎ ((status ≡ 3) ⊎ (status ≡ 4))
+MayEndRun (draw clients tags blocks bad) status = (status ≤ 1) ⊎ ((status ≡ 3) ⊎ (status ≡ 4))
+MayEndRun (page clients tags blocks bad) status = (status ≤ 1) ⊎ ((status ≡ 3) ⊎ (status ≡ 4))
+MayEndRun (capture clients tags blocks file bad) status = (status ≤ 1) ⊎ ((status ≡ 3) ⊎ (status ≡ 4))
 
 -- Help or the version is asked for.
 abbrev pub IsRequest : ErrorKind → Type 0

@@ -21,8 +21,8 @@ AreRounds rounds = (1 ≤ rounds) × (rounds ≤ 1000)
 abbrev pub IsInRange : Run → Type 0
 IsInRange (Replay disks) = AreDisks disks × IfSome disks.bad IsBlock
 IsInRange (Trace disks) = AreDisks disks × IfSome disks.bad IsBlock
-IsInRange (Work clients rounds log) = AreClients clients × AreRounds rounds
-IsInRange (Keep clients rounds log every) = AreClients clients × AreRounds rounds
+IsInRange (Work clients tags rounds log) = AreClients tags clients × AreRounds rounds
+IsInRange (Keep clients tags rounds log every) = AreClients tags clients × AreRounds rounds
 IsInRange Decode = Unit {0}
 IsInRange (Make file blocks replaces) = AreBlocks blocks
 IsInRange (Info file) = Unit {0}

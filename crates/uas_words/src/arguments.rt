@@ -56,20 +56,24 @@ pub(crate) fn option<'a>(alloc: Global, name: &'a str, value: &'a str, help: &'a
         .help(help)
 }
 
-/// An option with a number up to `most` behind it.
+/// An option with a number from `least` to `most` behind it.
 pub(crate) fn number_option<'a>(
     alloc: Global,
     name: &'a str,
     value: &'a str,
+    least: u32,
     most: u32,
     help: &'a str,
 ) -> Arg<'a>
-    ensures rule { rule_of result ≡ number_option_rule name.entry.now most }
+    ensures rule { rule_of result ≡ number_option_rule name.entry.now least most }
     ensures local { result.global ≡ false }
 {
-    option(alloc, name, value, help).value_parser(clap::value_parser!(u32).range(
-        0..=i64::from(most),
-    ))
+    Arg::new(alloc, name)
+        .long(name)
+        .value_name(value)
+        .action(ArgAction::Set)
+        .value_parser(clap::value_parser!(u32).range(i64::from(least)..=i64::from(most)))
+        .help(help)
 }
 
 /// An option behind which no word stands.

@@ -1,20 +1,20 @@
 //! The program's command: its subcommands, their arguments and what each says of itself.
-ghost use Rattle.std.specs.Prelude.{◌≡◌, IfOk, true};
-ghost use Rattle.clap.specs.Words.{App, app_of, with_subcommand};
+ghost use Rattle.std.specs.Prelude.{◌≡◌, IfOk, false, true};
+ghost use Rattle.clap.specs.Words.{App, app_of, rule_of, with_subcommand};
 ghost use Rattle.uas_words.specs.CommandLine.{audit_app, capture_app, decode_app, draw_app, dump_app, fill_app, info_app, make_app, program_app};
-ghost use Rattle.uas_words.specs.CommandLine.{replay_app, top_app, trace_app, with_disks, with_extent, with_work, work_app};
+ghost use Rattle.uas_words.specs.CommandLine.{replay_app, tags_rule, top_app, trace_app, with_disks, with_extent, with_work, work_app};
 
 use crate::arguments::{flag, log, number, number_option, option, required};
 use crate::helps::{
     AUDIT_HELP, BYTE_HELP, CAPTURE_HELP, CLIENTS_HELP, COLOR_HELP, DRAW_HELP, DUMP_HELP, FILL_HELP,
     HEAD_HELP, INFO_HELP, LBA_HELP, LOG_HELP, MAKE_HELP, PAGE_HELP, PROGRAM_HELP, ROUNDS_HELP,
-    SCRIPT_HELP, SYNC_HELP, TRACE_HELP, WORK_HELP,
+    SCRIPT_HELP, SYNC_HELP, TAGS_HELP, TRACE_HELP, WORK_HELP,
 };
-use crate::{LAST_BLOCK, MAX_BYTE, MAX_ROUNDS, MOST_CLIENTS, MOST_MOVED, VERSION};
-use clap::Command;
+use crate::{LAST_BLOCK, MAX_BYTE, MAX_ROUNDS, MOST_MOVED, VERSION};
+use clap::{Arg, Command};
 use decode_help::DECODE_HELP;
 use std::alloc::{AllocError, Global};
-use uas_profile::MAX_BLOCKS;
+use uas_profile::{LEAST_TAGS, MAX_BLOCKS, MAX_CLIENTS, MOST_TAGS};
 
 /// The program's command, with its subcommands.
 pub(crate) fn command<'a>(alloc: Global) -> Result<Command<'a>, AllocError>
@@ -82,7 +82,7 @@ fn add_disks<'a>(alloc: Global, command: Command<'a>) -> Result<Command<'a>, All
     ensures { IfOk result (λ made. app_of made ≡ with_disks (app_of command.entry)) }
 {
     command
-        .arg(number(alloc, "CLIENTS", 1, MOST_CLIENTS, CLIENTS_HELP))?
+        .arg(number(alloc, "CLIENTS", 1, MAX_CLIENTS as u32, CLIENTS_HELP))?
         .arg(number(
             alloc,
             "BLOCKS",
@@ -94,9 +94,26 @@ fn add_disks<'a>(alloc: Global, command: Command<'a>) -> Result<Command<'a>, All
             alloc,
             "bad",
             "LBA",
+            0,
             LAST_BLOCK,
             "A block that is bad in every unit: 0 to 65535",
-        ))
+        ))?
+        .arg(tags(alloc))
+}
+
+/// How many tags each client has.
+fn tags<'a>(alloc: Global) -> Arg<'a>
+    ensures rule { rule_of result ≡ tags_rule }
+    ensures local { result.global ≡ false }
+{
+    number_option(
+        alloc,
+        "tags",
+        "N",
+        LEAST_TAGS as u32,
+        MOST_TAGS as u32,
+        TAGS_HELP,
+    )
 }
 
 fn work_command<'a>(alloc: Global) -> Result<Command<'a>, AllocError>
@@ -105,7 +122,7 @@ fn work_command<'a>(alloc: Global) -> Result<Command<'a>, AllocError>
     let command = Command::new(alloc, "work")
         .about("Lets clients write and read in threads, and counts what they read")
         .after_help(WORK_HELP);
-    add_work(alloc, command)?.arg(number_option(alloc, "sync", "N", u32::MAX, SYNC_HELP))
+    add_work(alloc, command)?.arg(number_option(alloc, "sync", "N", 0, u32::MAX, SYNC_HELP))
 }
 
 /// Adds what tells the clients' work and its log.
@@ -113,9 +130,10 @@ fn add_work<'a>(alloc: Global, command: Command<'a>) -> Result<Command<'a>, Allo
     ensures { IfOk result (λ made. app_of made ≡ with_work (app_of command.entry)) }
 {
     command
-        .arg(number(alloc, "CLIENTS", 1, MOST_CLIENTS, CLIENTS_HELP))?
+        .arg(number(alloc, "CLIENTS", 1, MAX_CLIENTS as u32, CLIENTS_HELP))?
         .arg(number(alloc, "ROUNDS", 1, MAX_ROUNDS, ROUNDS_HELP))?
-        .arg(log(alloc, LOG_HELP))
+        .arg(log(alloc, LOG_HELP))?
+        .arg(tags(alloc))
 }
 
 fn decode_command<'a>(alloc: Global) -> Result<Command<'a>, AllocError>

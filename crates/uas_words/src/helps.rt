@@ -1,7 +1,10 @@
 //! The texts of help that are no one line of a subcommand.
 
 pub(crate) const CLIENTS_HELP: &str =
-    "How many clients there are, each with a unit of its own: 1 to 15";
+    "How many clients there are, each with a unit of its own: 1 to 15, and up to 31 with fewer tags";
+
+pub(crate) const TAGS_HELP: &str =
+    "How many tags each client has, one of them for task management: 2 to 16, usually 16; 248 in all";
 
 pub(crate) const LBA_HELP: &str = "The number of the first block: 0 to 4294967295";
 

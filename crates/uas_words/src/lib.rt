@@ -14,7 +14,8 @@ ghost use Rattle.byte_io.specs.Disks.{AreBlocks, AreClients, AreDisks};
 ghost use Rattle.uas_words.specs.Options.{AreRounds, IsBlock, IsInRange, IsMoved};
 ghost use Rattle.uas_words.specs.CommandLine.{Asked, AsksPlainly, asked_by, asked_for, asked_in, blocks_of, capture_of, clients_of, decode_of};
 ghost use Rattle.uas_words.specs.CommandLine.{draw_of, dump_of, extent_of, fill_of, has_when, is_true, is_when, make_of, number_of, optional_number, program_app};
-ghost use Rattle.uas_words.specs.CommandLine.{refusals, script_of, trace_of, work_of, worked};
+ghost use Rattle.uas_words.specs.CommandLine.{refusals, script_of, tags_of, trace_of, work_of, worked};
+ghost use Rattle.uas_profile.specs.Tags.{AreTags};
 
 mod arguments;
 mod audits;
@@ -28,13 +29,10 @@ use clap::error::ErrorKind;
 use clap::{ArgMatches, Command, Error};
 use commands::command;
 pub use laws::plain_lines_ask;
-use std::alloc::Global;
-use uas_profile::{MAX_BLOCKS, MOST_BLOCKS_MOVED, USUAL_CLIENTS};
-
-/// The most clients, as a word of the command line.
-pub(crate) const MOST_CLIENTS: u32 = USUAL_CLIENTS as u32;
-
-const _: () = prove!(MOST_CLIENTS as usize == USUAL_CLIENTS);
+use std::alloc::{AllocError, Global};
+use uas_profile::{
+    LEAST_TAGS, MAX_BLOCKS, MAX_CLIENTS, MOST_BLOCKS_MOVED, MOST_TAGS, TAGS, most_clients,
+};
 
 const _: () = prove!(MAX_BLOCKS == 65_536);
 
@@ -62,19 +60,23 @@ pub const VERSION: &str = "1.0.0, proved with Rattle's logic dac8208d650f15bf";
 /// What the program is to do.
 #[derive(Clone, Copy, Debug, PartialEq, Eq)]
 pub enum Run<'a> {
-    /// Run a script of 1 to 15 clients on units of 1 to 65,536 zeroed blocks. One block, 0 to 65,535, may be bad in every unit.
+    /// Run a script of 1 to 31 clients, with 2 to 16 tags each and 248 in all, on units of 1 to 65,536 zeroed blocks. One block, 0 to
+    /// 65,535, may be bad in every unit.
     Replay(Disks),
     /// Run a script as `Replay` does, and show each step.
     Trace(Disks),
-    /// Let 1 to 15 clients work in threads, 1 to 1,000 rounds each. Where a file is named for the log, audit them and save it there.
+    /// Let as many clients, with as many tags, work in threads, 1 to 1,000 rounds each. Where a file is named for the log, audit them and
+    /// save it there.
     Work {
         clients: usize,
+        tags: usize,
         rounds: u32,
         log: Option<&'a str>,
     },
     /// Let clients work as `Work` does, and keep the log in the file while it grows, synced after so many steps; 0: at the end alone.
     Keep {
         clients: usize,
+        tags: usize,
         rounds: u32,
         log: &'a str,
         every: u32,
@@ -126,11 +128,15 @@ pub fn run_of<'a>(alloc: Global, words: &'a [String]) -> Result<Run<'a>, Error>
     ensures plain { (asked : Asked) → AsksPlainly asked (map string_bytes words.entry.now)
         → MatchResult result (λ run. asked_by run ≡ asked) (λ e. kind_of e ≡ ErrorKind.OutOfMemory) }
 {
-    run_by(command(alloc)?, words)
+    run_by(alloc, command(alloc)?, words)
 }
 
 /// Reads the words by the program's command.
-fn run_by<'a>(mut command: Command<'a>, words: &'a [String]) -> Result<Run<'a>, Error>
+fn run_by<'a>(
+    alloc: Global,
+    mut command: Command<'a>,
+    words: &'a [String],
+) -> Result<Run<'a>, Error>
     requires { app_of command ≡ program_app }
     ensures range { IfOk result IsInRange }
     ensures asked { IfOk result (λ run. asked_for (map string_bytes words.entry.now) ≡ Some (asked_by run)) }
@@ -139,7 +145,10 @@ fn run_by<'a>(mut command: Command<'a>, words: &'a [String]) -> Result<Run<'a>, 
     let matches = command.try_get_matches_from_mut(words)?;
     match asked(&matches) {
         Some(run) => Ok(run),
-        None => Err(command.error(ErrorKind::ValueValidation, complaint(&matches))?),
+        None => {
+            let text = complaint(alloc, &matches)?;
+            Err(command.error(ErrorKind::ValueValidation, &text)?)
+        }
     }
 }
 
@@ -169,10 +178,35 @@ fn asked<'a>(matches: &ArgMatches<'a>) -> Option<Run<'a>>
 }
 
 /// What is wrong with words that the parsers took and that ask for nothing.
-fn complaint(matches: &ArgMatches<'_>) -> &'static str {
+fn complaint(alloc: Global, matches: &ArgMatches<'_>) -> Result<String, AllocError> {
     let Some((name, words)) = matches.subcommand() else {
-        return "a word is missing";
+        return format!(in alloc; "a word is missing");
     };
+    match crowd_in(words) {
+        Some((clients, tags)) => {
+            let most = most_clients(tags);
+            format!(in alloc;
+                "invalid value '{clients}' for '<CLIENTS>': {most} clients at most with {tags} tags"
+            )
+        }
+        None => format!(in alloc; "{}", missing(name, words)),
+    }
+}
+
+/// How many clients there are and how many tags each is to have, where they are too many for that.
+fn crowd_in(words: &ArgMatches<'_>) -> Option<(u32, usize)>
+    ensures { IfSome result (λ crowd. AreTags crowd.1) }
+{
+    let tags = tags_in(words)?;
+    let clients = number_in(words, "CLIENTS", 1, MAX_CLIENTS as u32)?;
+    if clients_in(words, tags).is_some() {
+        return None;
+    }
+    Some((clients, tags))
+}
+
+/// What else is wrong with them.
+fn missing(name: &str, words: &ArgMatches<'_>) -> &'static str {
     match name {
         "work" => "--sync keeps the log in LOG, and LOG is missing",
         "audit" => "HEX isn't 1 to 8 hexadecimal digits",
@@ -199,14 +233,16 @@ fn make_in<'a>(words: &ArgMatches<'a>) -> Option<Run<'a>>
 /// The disks that a script runs on.
 fn disks_in(words: &ArgMatches<'_>) -> Option<Disks>
     ensures range { IfSome result (λ disks. AreDisks disks × IfSome disks.bad IsBlock) }
-    ensures asked { (run : ℕ → ℕ → Option ℕ → Asked)
-        → option_map (λ disks. run disks.clients disks.blocks disks.bad) result ≡ script_of run (rows_of (found_of words.now)) }
+    ensures asked { (run : ℕ → ℕ → ℕ → Option ℕ → Asked)
+        → option_map (λ disks. run disks.clients disks.tags disks.blocks disks.bad) result ≡ script_of run (rows_of (found_of words.now)) }
 {
-    let clients = clients_in(words)?;
+    let tags = tags_in(words)?;
+    let clients = clients_in(words, tags)?;
     let blocks = blocks_in(words)?;
-    let bad = option_in(words, "bad", LAST_BLOCK)?;
+    let bad = option_in(words, "bad", 0, LAST_BLOCK)?;
     Some(Disks {
         clients,
+        tags,
         blocks,
         bad,
     })
@@ -285,32 +321,36 @@ fn work_in<'a>(words: &ArgMatches<'a>) -> Option<Run<'a>>
     ensures range { IfSome result IsInRange }
     ensures asked { option_map asked_by result ≡ work_of (rows_of (found_of words.now)) }
 {
-    let clients = clients_in(words)?;
+    let tags = tags_in(words)?;
+    let clients = clients_in(words, tags)?;
     let rounds = number_in(words, "ROUNDS", 1, MAX_ROUNDS)?;
-    let every = option_in(words, "sync", u32::MAX)?;
-    worked(clients, rounds, word_in(words, "LOG"), every)
+    let every = option_in(words, "sync", 0, u32::MAX)?;
+    worked(clients, tags, rounds, word_in(words, "LOG"), every)
 }
 
 /// Clients that work, with a log that is saved or kept, where it is one.
 fn worked<'a>(
     clients: usize,
+    tags: usize,
     rounds: u32,
     log: Option<&'a str>,
     sync: Option<u32>,
 ) -> Option<Run<'a>>
-    requires clients { AreClients clients }
+    requires clients { AreClients tags clients }
     requires rounds { AreRounds rounds }
     ensures range { IfSome result IsInRange }
-    ensures asked { option_map asked_by result ≡ worked clients rounds (option_map (λ name. name.now) log.entry) sync }
+    ensures asked { option_map asked_by result ≡ worked clients tags rounds (option_map (λ name. name.now) log.entry) sync }
 {
     match (sync, log) {
         (None, log) => Some(Run::Work {
             clients,
+            tags,
             rounds,
             log,
         }),
         (Some(every), Some(log)) => Some(Run::Keep {
             clients,
+            tags,
             rounds,
             log,
             every,
@@ -319,11 +359,24 @@ fn worked<'a>(
     }
 }
 
-fn clients_in(words: &ArgMatches<'_>) -> Option<usize>
-    ensures number { result ≡ clients_of (rows_of (found_of words.now)) }
-    ensures range { IfSome result AreClients }
+/// How many tags each client has.
+fn tags_in(words: &ArgMatches<'_>) -> Option<usize>
+    ensures number { result ≡ tags_of (rows_of (found_of words.now)) }
+    ensures range { IfSome result AreTags }
 {
-    Some(number_in(words, "CLIENTS", 1, MOST_CLIENTS)? as usize)
+    match option_in(words, "tags", LEAST_TAGS as u32, MOST_TAGS as u32)? {
+        Some(tags) => Some(tags as usize),
+        None => Some(TAGS),
+    }
+}
+
+/// How many clients with so many tags each.
+fn clients_in(words: &ArgMatches<'_>, tags: usize) -> Option<usize>
+    requires number { AreTags tags }
+    ensures number { result ≡ clients_of tags (rows_of (found_of words.now)) }
+    ensures range { IfSome result (AreClients tags) }
+{
+    Some(number_in(words, "CLIENTS", 1, most_clients(tags) as u32)? as usize)
 }
 
 fn dump_in<'a>(words: &ArgMatches<'a>) -> Option<Run<'a>>
@@ -391,14 +444,14 @@ fn number_in(words: &ArgMatches<'_>, name: &str, least: u32, most: u32) -> Optio
     }
 }
 
-/// The number under this name, where one stands. None where its word is no number up to `most`.
-fn option_in(words: &ArgMatches<'_>, name: &str, most: u32) -> Option<Option<u32>>
-    ensures number { result ≡ optional_number 0 most (one_of name.now (rows_of (found_of words.now))) }
-    ensures range { IfSome result (λ number. IfSome number (λ number. number ≤ most)) }
+/// The number under this name, where one stands. None where its word is no number from `least` to `most`.
+fn option_in(words: &ArgMatches<'_>, name: &str, least: u32, most: u32) -> Option<Option<u32>>
+    ensures number { result ≡ optional_number least most (one_of name.now (rows_of (found_of words.now))) }
+    ensures range { IfSome result (λ number. IfSome number (λ number. (least ≤ number) × (number ≤ most))) }
 {
     match words.try_get_one::<u32>(name) {
         Ok(None) => Some(None),
-        Ok(Some(number)) if number <= most => Some(Some(number)),
+        Ok(Some(number)) if least <= number && number <= most => Some(Some(number)),
         Ok(Some(_)) => None,
         Err(_) => None,
     }

@@ -21,7 +21,7 @@ begins-kept (Some bytes) old new kept = record { written = []; rest = decoded by
 
 memory_ends : (asked : Asked) (host : Host) (old new : World) (status : ℕ) → status ≡ 4 → Keeps old.output new.output → new.holds ≡ old.holds
     → new.input ≡ old.input → Ends asked host old new status
-memory_ends (replay clients blocks bad) host old new status four kept files input = record {
+memory_ends (replay clients tags blocks bad) host old new status four kept files input = record {
   statuses = inr (inr four);
   told = λ low. absurd (omega (arith, four, low));
   read = λ low. absurd (omega (arith, four, low));
@@ -29,7 +29,7 @@ memory_ends (replay clients blocks bad) host old new status four kept files inpu
   memory = λ is. kept;
   files = files;
 }
-memory_ends (trace clients blocks bad) host old new status four kept files input = record {
+memory_ends (trace clients tags blocks bad) host old new status four kept files input = record {
   statuses = inr (inr four);
   traced = λ low. absurd (omega (arith, four, low));
   text = λ low. absurd (omega (arith, four, low));
@@ -37,7 +37,7 @@ memory_ends (trace clients blocks bad) host old new status four kept files input
   fault = λ three. absurd (omega (arith, four, three));
   files = files;
 }
-memory_ends (work clients rounds None) host old new status four kept files input = record {
+memory_ends (work clients tags rounds None) host old new status four kept files input = record {
   statuses = inr (inr four);
   told = λ low. absurd (omega (arith, four, low));
   fault = λ three. absurd (omega (arith, four, three));
@@ -45,7 +45,7 @@ memory_ends (work clients rounds None) host old new status four kept files input
   files = files;
   input = input;
 }
-memory_ends (work clients rounds (Some file)) host old new status four kept files input = record {
+memory_ends (work clients tags rounds (Some file)) host old new status four kept files input = record {
   statuses = inr (inr four);
   saved = λ low. absurd (omega (arith, four, low));
   created = λ low. absurd (omega (arith, four, low));
@@ -54,7 +54,7 @@ memory_ends (work clients rounds (Some file)) host old new status four kept file
   held = λ high tells. files;
   input = input;
 }
-memory_ends (keep clients rounds file every) host old new status four kept files input = record {
+memory_ends (keep clients tags rounds file every) host old new status four kept files input = record {
   statuses = inr (inr four);
   told = λ low. absurd (omega (arith, four, low));
   fault = λ three. absurd (omega (arith, four, three));
@@ -117,7 +117,7 @@ memory_ends (audit file head) host old new status four kept files input = record
   files = files;
   input = input;
 }
-memory_ends (draw clients blocks bad) host old new status four kept files input = record {
+memory_ends (draw clients tags blocks bad) host old new status four kept files input = record {
   statuses = inr (inr four);
   traced = λ low. absurd (omega (arith, four, low));
   drawn = λ low. absurd (omega (arith, four, low));
@@ -127,7 +127,7 @@ memory_ends (draw clients blocks bad) host old new status four kept files input 
   memory = λ is. kept;
   files = files;
 }
-memory_ends (page clients blocks bad) host old new status four kept files input = record {
+memory_ends (page clients tags blocks bad) host old new status four kept files input = record {
   statuses = inr (inr four);
   traced = λ low. absurd (omega (arith, four, low));
   drawn = λ low. absurd (omega (arith, four, low));
@@ -137,7 +137,7 @@ memory_ends (page clients blocks bad) host old new status four kept files input 
   memory = λ is. kept;
   files = files;
 }
-memory_ends (capture clients blocks file bad) host old new status four kept files input = record {
+memory_ends (capture clients tags blocks file bad) host old new status four kept files input = record {
   statuses = inr (inr four);
   told = λ low. absurd (omega (arith, four, low));
   captured = λ low. absurd (omega (arith, four, low));

@@ -6,7 +6,6 @@ use Rattle.clap.specs.declared.error.kind.ErrorKind.{ErrorKind}
 use Rattle.uas_words.specs.CommandLine.{Asked, replay, trace, work, keep, decode, make, info, dump, fill, audit, draw, page, capture, IsRequest, EndsRefused}
 use Rattle.disk_image.specs.Images.{blocks_in, made_image, made_text}
 use Rattle.uas_script.specs.Script.{script}
-use Rattle.uas_profile.specs.declared.TheConstants.{TAGS}
 use Rattle.uas_replay.specs.Told.{zeroed_units}
 use Rattle.uas_replay.specs.Runs.{Tells}
 use Rattle.disk_image.specs.Stops.{InfoPrints, AnswersOf}
@@ -47,9 +46,9 @@ pub record World : Type 0 where
   pub output : Option (List ℕ)
 
 -- The script on standard input is faulty or couldn't be read, and standard output got nothing; or it couldn't be written.
-abbrev pub ScriptStops : ℕ → Host → World → World → Type 0
-ScriptStops clients host old new =
-    ((IfSome old.input (λ bytes. IsErr (script clients bytes)) ⊎ IsTrue host.input_can_fail) × Keeps old.output new.output)
+abbrev pub ScriptStops : ℕ → ℕ → Host → World → World → Type 0
+ScriptStops clients tags host old new =
+    ((IfSome old.input (λ bytes. IsErr (script clients tags bytes)) ⊎ IsTrue host.input_can_fail) × Keeps old.output new.output)
     ⊎ IsTrue host.output_can_fail
 
 -- The file of this name holds no image or failed, and standard output got nothing; or it couldn't be written.
@@ -58,58 +57,58 @@ ImageStops file host old new =
     (((IsTrue host.tells → IfSome (old.holds file) (λ bytes. IsErr (blocks_in bytes))) ⊎ IsTrue (host.file_can_fail file))
     × Keeps old.output new.output) ⊎ IsTrue host.output_can_fail
 
--- `replay CLIENTS BLOCKS [--bad LBA]`: the script on standard input is told on standard output, of so many clients and blocks, and of the
--- block that is bad in every unit, if one is.
-pub record ReplayEnds (clients blocks : ℕ) (bad : Option ℕ) (host : Host) (old new : World) (status : ℕ) : Type 0 where
+-- `replay CLIENTS BLOCKS [--bad LBA] [--tags N]`: the script on standard input is told on standard output, of so many clients, tags of each
+-- and blocks, and of the block that is bad in every unit, if one is.
+pub record ReplayEnds (clients tags blocks : ℕ) (bad : Option ℕ) (host : Host) (old new : World) (status : ℕ) : Type 0 where
   pub statuses : (status ≤ 1) ⊎ ((status ≡ 3) ⊎ (status ≡ 4))
   pub told : status ≤ 1 → IfSome old.input (λ bytes.
-      Tells TAGS (zeroed_units clients blocks bad) (script clients bytes) old.output new.output status)
+      Tells tags (zeroed_units clients blocks bad) (script clients tags bytes) old.output new.output status)
   pub read : status ≤ 1 → IsTrue host.has_input × IsAtEnd new.input
-  pub fault : status ≡ 3 → ScriptStops clients host old new
+  pub fault : status ≡ 3 → ScriptStops clients tags host old new
   pub memory : status ≡ 4 → Keeps old.output new.output
   pub files : new.holds ≡ old.holds
 
--- `trace CLIENTS BLOCKS [--bad LBA]`: as `replay`, but that standard output gets its text while the script runs: each step, what it wrote, and
+-- `trace CLIENTS BLOCKS [--bad LBA] [--tags N]`: as `replay`, but that standard output gets its text while the script runs: each step, what it wrote, and
 -- what the run told by it.
-pub record TraceEnds (clients blocks : ℕ) (bad : Option ℕ) (host : Host) (old new : World) (status : ℕ) : Type 0 where
+pub record TraceEnds (clients tags blocks : ℕ) (bad : Option ℕ) (host : Host) (old new : World) (status : ℕ) : Type 0 where
   pub statuses : (status ≤ 1) ⊎ ((status ≡ 3) ⊎ (status ≡ 4))
   pub traced : status ≤ 1 → IfSome old.input (λ bytes.
-      Traces (zeroed_units clients blocks bad) (script clients bytes) status)
+      Traces tags (zeroed_units clients blocks bad) (script clients tags bytes) status)
   pub text : status ≤ 1 → IfSome old.input (λ bytes.
-      TracesScript (zeroed_units clients blocks bad) (script clients bytes) old.output new.output)
+      TracesScript tags (zeroed_units clients blocks bad) (script clients tags bytes) old.output new.output)
   pub read : status ≤ 1 → IsTrue host.has_input × IsAtEnd new.input
-  pub fault : status ≡ 3 → ScriptStops clients host old new
+  pub fault : status ≡ 3 → ScriptStops clients tags host old new
   pub files : new.holds ≡ old.holds
 
--- `work CLIENTS ROUNDS`: standard output has got the lines of so many clients that worked in threads; no file is opened, and standard
+-- `work CLIENTS ROUNDS [--tags N]`: standard output has got the lines of so many clients that worked in threads; no file is opened, and standard
 -- input isn't read.
-pub record WorkEnds (clients rounds : ℕ) (host : Host) (old new : World) (status : ℕ) : Type 0 where
+pub record WorkEnds (clients tags rounds : ℕ) (host : Host) (old new : World) (status : ℕ) : Type 0 where
   pub statuses : (status ≤ 1) ⊎ ((status ≡ 3) ⊎ (status ≡ 4))
-  pub told : status ≤ 1 → Told clients rounds false old.output new.output status
+  pub told : status ≤ 1 → Told clients tags rounds false old.output new.output status
   pub fault : status ≡ 3 → IsTrue host.output_can_fail
   pub memory : status ≡ 4 → Keeps old.output new.output
   pub files : new.holds ≡ old.holds
   pub input : new.input ≡ old.input
 
--- `work CLIENTS ROUNDS LOG`: standard output has got the lines of so many clients that worked in threads, and behind them whether each
+-- `work CLIENTS ROUNDS LOG [--tags N]`: standard output has got the lines of so many clients that worked in threads, and behind them whether each
 -- of their audits is true; and the file of this name holds the text of the log of their bus. Where the run gave up, every file holds
 -- what it held.
-pub record SavedWorkEnds (clients rounds : ℕ) (file : Text) (host : Host) (old new : World) (status : ℕ) : Type 0 where
+pub record SavedWorkEnds (clients tags rounds : ℕ) (file : Text) (host : Host) (old new : World) (status : ℕ) : Type 0 where
   pub statuses : (status ≤ 1) ⊎ ((status ≡ 3) ⊎ (status ≡ 4))
-  pub saved : status ≤ 1 → Saved clients rounds host.tells (new.holds file) old.output new.output status
+  pub saved : status ≤ 1 → Saved clients tags rounds host.tells (new.holds file) old.output new.output status
   pub created : status ≤ 1 → IsTrue (host.can_create file)
   pub fault : status ≡ 3 → IsTrue host.output_can_fail
-      ⊎ NotSaved clients rounds (host.file_can_fail file) old.output new.output
-  pub memory : status ≡ 4 → Keeps old.output new.output ⊎ Unsaved clients rounds (λ log. ⊤) old.output new.output
+      ⊎ NotSaved clients tags rounds (host.file_can_fail file) old.output new.output
+  pub memory : status ≡ 4 → Keeps old.output new.output ⊎ Unsaved clients tags rounds (λ log. ⊤) old.output new.output
   pub held : 3 ≤ status → IsTrue host.tells → new.holds ≡ old.holds
   pub input : new.input ≡ old.input
 
--- `work CLIENTS ROUNDS LOG --sync N`: standard output has got the lines of so many clients that worked in threads, and behind them whether
+-- `work CLIENTS ROUNDS LOG --sync N [--tags N]`: standard output has got the lines of so many clients that worked in threads, and behind them whether
 -- each of their audits is true; and the file of this name holds the whole text of a log, with all that the log of their bus has behind
 -- some place.
-pub record KeptWorkEnds (clients rounds : ℕ) (file : Text) (host : Host) (old new : World) (status : ℕ) : Type 0 where
+pub record KeptWorkEnds (clients tags rounds : ℕ) (file : Text) (host : Host) (old new : World) (status : ℕ) : Type 0 where
   pub statuses : (status ≤ 1) ⊎ ((status ≡ 3) ⊎ (status ≡ 4))
-  pub told : status ≤ 1 → KeptTold clients rounds host.tells_kept (new.kept file) old.output new.output status
+  pub told : status ≤ 1 → KeptTold clients tags rounds host.tells_kept (new.kept file) old.output new.output status
   pub fault : status ≡ 3 → IsTrue host.output_can_fail ⊎ (IsTrue (host.kept_can_fail file) × Keeps old.output new.output)
   pub memory : status ≡ 4 → Keeps old.output new.output
   pub input : new.input ≡ old.input
@@ -186,50 +185,50 @@ pub record AuditEnds (file : Text) (head : Option ℕ) (host : Host) (old new : 
   pub files : new.holds ≡ old.holds
   pub input : new.input ≡ old.input
 
--- `draw CLIENTS BLOCKS [--page] [--bad LBA]`: the script on standard input was run as `trace` runs it, and standard output has got a
+-- `draw CLIENTS BLOCKS [--page] [--bad LBA] [--tags N]`: the script on standard input was run as `trace` runs it, and standard output has got a
 -- picture of that trace, or a page.
-pub record DrawEnds (form : Form) (clients blocks : ℕ) (bad : Option ℕ) (host : Host) (old new : World) (status : ℕ) : Type 0 where
+pub record DrawEnds (form : Form) (clients tags blocks : ℕ) (bad : Option ℕ) (host : Host) (old new : World) (status : ℕ) : Type 0 where
   pub statuses : (status ≤ 1) ⊎ ((status ≡ 3) ⊎ (status ≡ 4))
   pub traced : status ≤ 1 → IfSome old.input (λ bytes.
-      Traces (zeroed_units clients blocks bad) (script clients bytes) status)
-  pub drawn : status ≤ 1 → AppendsDrawn form clients old.output new.output
+      Traces tags (zeroed_units clients blocks bad) (script clients tags bytes) status)
+  pub drawn : status ≤ 1 → AppendsDrawn form clients tags old.output new.output
   pub of : status ≤ 1 → IfSome old.input (λ bytes.
-      DrawsScript form clients (zeroed_units clients blocks bad) (script clients bytes) old.output new.output)
+      DrawsScript form clients tags (zeroed_units clients blocks bad) (script clients tags bytes) old.output new.output)
   pub read : status ≤ 1 → IsTrue host.has_input × IsAtEnd new.input
-  pub fault : status ≡ 3 → ScriptStops clients host old new
+  pub fault : status ≡ 3 → ScriptStops clients tags host old new
   pub memory : status ≡ 4 → Keeps old.output new.output
   pub files : new.holds ≡ old.holds
 
--- `capture CLIENTS BLOCKS FILE [--bad LBA]`: the script on standard input is told on standard output as `replay` tells it, and the file of
+-- `capture CLIENTS BLOCKS FILE [--bad LBA] [--tags N]`: the script on standard input is told on standard output as `replay` tells it, and the file of
 -- this name holds a capture of its trace.
-pub record CaptureEnds (clients blocks : ℕ) (file : Text) (bad : Option ℕ) (host : Host) (old new : World) (status : ℕ) : Type 0 where
+pub record CaptureEnds (clients tags blocks : ℕ) (file : Text) (bad : Option ℕ) (host : Host) (old new : World) (status : ℕ) : Type 0 where
   pub statuses : (status ≤ 1) ⊎ ((status ≡ 3) ⊎ (status ≡ 4))
   pub told : status ≤ 1 → IfSome old.input (λ bytes.
-      Tells TAGS (zeroed_units clients blocks bad) (script clients bytes) old.output new.output status)
+      Tells tags (zeroed_units clients blocks bad) (script clients tags bytes) old.output new.output status)
   pub captured : status ≤ 1 → IsTrue host.tells → IsCapture (new.holds file)
   pub of : status ≤ 1 → IfSome old.input (λ bytes. IsTrue host.tells →
-      CapturesScript (zeroed_units clients blocks bad) (script clients bytes) (new.holds file))
+      CapturesScript tags (zeroed_units clients blocks bad) (script clients tags bytes) (new.holds file))
   pub created : status ≤ 1 → IsTrue (host.can_create file)
-  pub fault : status ≡ 3 → ((IfSome old.input (λ bytes. IsErr (script clients bytes)) ⊎ (IsTrue host.input_can_fail
+  pub fault : status ≡ 3 → ((IfSome old.input (λ bytes. IsErr (script clients tags bytes)) ⊎ (IsTrue host.input_can_fail
       ⊎ IsTrue (host.file_can_fail file))) × Keeps old.output new.output) ⊎ IsTrue host.output_can_fail
   pub memory : status ≡ 4 → Keeps old.output new.output
 
 -- how what the words ask for ends
 abbrev pub Ends : Asked → Host → World → World → ℕ → Type 0
-Ends (replay clients blocks bad) host old new status = ReplayEnds clients blocks bad host old new status
-Ends (trace clients blocks bad) host old new status = TraceEnds clients blocks bad host old new status
-Ends (work clients rounds None) host old new status = WorkEnds clients rounds host old new status
-Ends (work clients rounds (Some file)) host old new status = SavedWorkEnds clients rounds file host old new status
-Ends (keep clients rounds file every) host old new status = KeptWorkEnds clients rounds file host old new status
+Ends (replay clients tags blocks bad) host old new status = ReplayEnds clients tags blocks bad host old new status
+Ends (trace clients tags blocks bad) host old new status = TraceEnds clients tags blocks bad host old new status
+Ends (work clients tags rounds None) host old new status = WorkEnds clients tags rounds host old new status
+Ends (work clients tags rounds (Some file)) host old new status = SavedWorkEnds clients tags rounds file host old new status
+Ends (keep clients tags rounds file every) host old new status = KeptWorkEnds clients tags rounds file host old new status
 Ends decode host old new status = DecodeEnds host old new status
 Ends (make file blocks replaces) host old new status = MakeEnds file blocks host old new status
 Ends (info file) host old new status = InfoEnds file host old new status
 Ends (dump file lba count) host old new status = DumpEnds file lba count host old new status
 Ends (fill file lba count byte) host old new status = FillEnds file lba count byte host old new status
 Ends (audit file head) host old new status = AuditEnds file head host old new status
-Ends (draw clients blocks bad) host old new status = DrawEnds Picture clients blocks bad host old new status
-Ends (page clients blocks bad) host old new status = DrawEnds Page clients blocks bad host old new status
-Ends (capture clients blocks file bad) host old new status = CaptureEnds clients blocks file bad host old new status
+Ends (draw clients tags blocks bad) host old new status = DrawEnds Picture clients tags blocks bad host old new status
+Ends (page clients tags blocks bad) host old new status = DrawEnds Page clients tags blocks bad host old new status
+Ends (capture clients tags blocks file bad) host old new status = CaptureEnds clients tags blocks file bad host old new status
 
 -- Words that are refused with an error of this kind: help and the version go to standard output, nothing else does.
 pub record RefusalEnds (kind : ErrorKind) (can_fail : Bool) (old new : Option (List ℕ)) (status : ℕ) : Type 0 where

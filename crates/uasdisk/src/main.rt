@@ -1,24 +1,27 @@
 //! The program: disks of many clients over USB Attached SCSI, from the words of a command line to an exit status.
 //!
 //! ```text
-//! uasdisk replay CLIENTS BLOCKS [--bad LBA] < script     runs a script on zeroed units, one for each client
-//! uasdisk trace CLIENTS BLOCKS [--bad LBA] [--color WHEN] < script
+//! uasdisk replay CLIENTS BLOCKS [--bad LBA] [--tags N] < script
+//!                                                        runs a script on zeroed units, one for each client
+//! uasdisk trace CLIENTS BLOCKS [--bad LBA] [--tags N] [--color WHEN] < script
 //!                                                        the same, and prints each step with the bytes that it wrote
-//! uasdisk work CLIENTS ROUNDS [LOG [--sync N]]           lets clients write and read in threads, and counts what they read
+//! uasdisk work CLIENTS ROUNDS [LOG [--sync N]] [--tags N]
+//!                                                        lets clients write and read in threads, and counts what they read
 //! uasdisk decode [--color WHEN] < lines                  tells what lines of bytes say
 //! uasdisk make FILE BLOCKS [--force]                     makes an image of zeroed blocks; no file that is there, unless it is forced
 //! uasdisk info FILE                                      tells how many blocks an image has
 //! uasdisk dump FILE LBA COUNT                            prints blocks of an image, by one READ
 //! uasdisk fill FILE LBA COUNT BYTE                       fills blocks of an image with a byte, by one WRITE
 //! uasdisk audit LOG [--head HEX]                         replays a saved log and audits each client's account in it
-//! uasdisk draw CLIENTS BLOCKS [--page] [--bad LBA] < script
+//! uasdisk draw CLIENTS BLOCKS [--page] [--bad LBA] [--tags N] < script
 //!                                                        runs a script and draws the run as a picture (SVG), or writes it as a page (HTML)
-//! uasdisk capture CLIENTS BLOCKS FILE [--bad LBA] < script
+//! uasdisk capture CLIENTS BLOCKS FILE [--bad LBA] [--tags N] < script
 //!                                                        runs a script and writes the run to a file that Wireshark reads
 //! ```
 //!
 //! With `--color always`, and on a terminal that takes colours without `--color never`, the lines of `trace` and `decode` are in colours (`line_colours`).
-//! With `--bad LBA` the block of this number can neither be read nor written, in every unit that has it. With LOG each client of `work`
+//! With `--bad LBA` the block of this number can neither be read nor written, in every unit that has it. With `--tags N` each client has N tags
+//! in place of 16. With LOG each client of `work`
 //! is audited, and the log of their bus is saved in that file, or with `--sync N` kept there while it grows. With `--head HEX`
 //! `audit` tells behind which step of a kept log the checksum HEX stands.
 //!

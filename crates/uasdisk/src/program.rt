@@ -25,7 +25,6 @@ use std::rt::Clock;
 use std::sync::Wait;
 use std::thread::Threads;
 use uas_decode::run_decode;
-use uas_profile::TAGS;
 use uas_replay::{DONE, RunFault, WORDS_REFUSED, output_fault, run_script};
 use uas_trace::run_trace;
 use uas_words::{Run, run_of};
@@ -73,18 +72,23 @@ pub fn run_words<
     ensures quiet { may_show_progress ≡ false → result ≡ 0 → faults.new ≡ faults.old }
 {
     match run_of(alloc, words) {
-        Ok(Run::Replay(disks)) => run_script(alloc, disks, TAGS, input, output, faults),
+        Ok(Run::Replay(disks)) => run_script(alloc, disks, input, output, faults),
         Ok(Run::Trace(disks)) => run_trace(alloc, disks, input, output, faults),
         Ok(
             Run::Work {
                 clients,
+                tags,
                 rounds,
                 log: None,
             },
         ) => run_work(
             rt,
             alloc,
-            Load { clients, rounds },
+            Load {
+                clients,
+                tags,
+                rounds,
+            },
             output,
             faults,
             may_show_progress,
@@ -92,13 +96,18 @@ pub fn run_words<
         Ok(
             Run::Work {
                 clients,
+                tags,
                 rounds,
                 log: Some(log),
             },
         ) => run_saved_work(
             rt,
             alloc,
-            Load { clients, rounds },
+            Load {
+                clients,
+                tags,
+                rounds,
+            },
             files,
             log,
             output,
@@ -108,6 +117,7 @@ pub fn run_words<
         Ok(
             Run::Keep {
                 clients,
+                tags,
                 rounds,
                 log,
                 every,
@@ -115,7 +125,11 @@ pub fn run_words<
         ) => run_kept_work(
             rt,
             alloc,
-            Load { clients, rounds },
+            Load {
+                clients,
+                tags,
+                rounds,
+            },
             kept_files,
             Kept {
                 file: log,

@@ -1,12 +1,12 @@
 -- The places of all tags, tag 1 first, and what each call makes of them.
-use Rattle.std.specs.Prelude.{ℕ, zero, suc, ◌-◌, ◌||◌, ◌==◌, nat_lt, if◌then◌else◌, List, [], ◌∷◌, map, replicate, slice_index_or, slice_set}
+use Rattle.std.specs.Prelude.{ℕ, Bool, zero, suc, ◌-◌, ◌||◌, ◌==◌, nat_lt, if◌then◌else◌, List, [], ◌∷◌, map, replicate, slice_index_or, slice_set}
 use Rattle.std.specs.Prelude.{Option, None, Some, option_map}
 use Rattle.uas_profile.specs.declared.Pipe.{Pipe}
 use Rattle.usbredir.specs.declared.kinds.Status as answer
 use Rattle.usb_places.specs.declared.Transfer.{Transfer}
 use Rattle.usb_places.specs.declared.Kept.{Kept}
 use Rattle.usb_places.specs.declared.TheConstants.{GUEST_TAGS}
-use Rattle.usb_places.specs.States.{TagState, appended_tag, come_tag, command_kept_tag, emptied_tag, ended_tag, forgotten_tag, fresh_tag, held_in, holder_in}
+use Rattle.usb_places.specs.States.{TagState, appended_tag, come_tag, command_kept_tag, emptied_tag, ended_tag, forgotten_tag, fresh_tag, held_in, holder_in, is_full_in}
 use Rattle.usb_places.specs.States.{holding_tag, left_in, lost_command_in, lost_in, lost_tag, room_in, state_at, told_tag, used_up_tag}
 
 -- nothing held, nothing kept
@@ -43,6 +43,9 @@ ended tags pipe tag status moved unit = changed (ended_tag pipe status moved uni
 
 abbrev pub room_at : List TagState → ℕ → ℕ
 room_at tags tag = room_in (tag_under tags tag)
+
+abbrev pub is_full_at : List TagState → ℕ → Bool
+is_full_at tags tag = is_full_in (tag_under tags tag)
 
 abbrev pub appended : List TagState → ℕ → List ℕ → List TagState
 appended tags tag bytes = changed (appended_tag bytes) tags tag

@@ -1,5 +1,5 @@
--- The record of a tag's places, and the room of their vectors.
-use Rattle.std.specs.Prelude.{◌≤◌, length, vec_capacity}
+-- The record of a tag's places, and the room of their vector.
+use Rattle.std.specs.Prelude.{◌≤◌, length, take, drop, vec_capacity}
 use Rattle.usb_places.specs.States.{TagState}
 use Rattle.usb_places.specs.declared.tag.TagPlaces.TheInside.{Inside}
 use Rattle.usb_places.specs.declared.TheConstants.{MOST_TRANSFER_BYTES}
@@ -11,16 +11,15 @@ view_of tag = record {
   status = tag.status;
   unit = tag.unit.items;
   data_in = tag.data_in;
-  given = tag.given.items;
+  given = drop tag.came tag.bytes.items;
   data_out = tag.data_out;
-  out = tag.out.items;
+  out = take tag.came tag.bytes.items;
   used = tag.used;
 }
 
--- no transfer outgrows its vector, and no more bytes are used than came
+-- no transfers outgrow the vector, and no more bytes are used than came
 pub record HasRooms (tag : Inside) : Type 0 where
-  pub given_room : MOST_TRANSFER_BYTES ≤ vec_capacity tag.given
-  pub given_most : length tag.given.items ≤ MOST_TRANSFER_BYTES
-  pub out_room : MOST_TRANSFER_BYTES ≤ vec_capacity tag.out
-  pub out_most : length tag.out.items ≤ MOST_TRANSFER_BYTES
-  pub used : tag.used ≤ length tag.out.items
+  pub room : MOST_TRANSFER_BYTES ≤ vec_capacity tag.bytes
+  pub most : length tag.bytes.items ≤ MOST_TRANSFER_BYTES
+  pub came : tag.came ≤ length tag.bytes.items
+  pub used : tag.used ≤ tag.came

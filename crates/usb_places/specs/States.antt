@@ -75,7 +75,8 @@ lost_in transfer (Keeps kept) = lost_kept transfer kept
 -- THE PLACES OF A TAG
 
 -- The four places, and their bytes: the unit whose answer the command place keeps, the unit that the kept status told, the bytes given so
--- far into the held data-in or with the kept one, and the bytes that came with the held data-out, of which the device used so many.
+-- far into the held data-in or with the kept one, and the bytes that came with the held data-out, of which the device used so many. Both
+-- together are at most 524,288.
 pub record TagState : Type 0 where
   pub command : PlaceState
   pub command_unit : List ℕ
@@ -120,14 +121,21 @@ held_in Status tag = transfer_in tag.status
 held_in DataIn tag = transfer_in tag.data_in
 held_in DataOut tag = transfer_in tag.data_out
 
--- a transfer is held there now, and what was kept there is forgotten; a data-in has no bytes yet, and of a data-out's none are used
+-- a transfer is held there now, and what was kept there is forgotten; a data-in has no bytes yet, and of a data-out's none are used. A
+-- data-out takes the room of a data-in that is kept, which is forgotten.
 abbrev pub holding_tag : Pipe → Transfer → List ℕ → TagState → TagState
 holding_tag Command transfer bytes tag = tag
 holding_tag Status transfer bytes tag = record tag { status = Holds transfer }
 holding_tag DataIn transfer bytes tag = record tag { data_in = Holds transfer; given = [] }
-holding_tag DataOut transfer bytes tag = record tag { data_out = Holds transfer; out = bytes; used = 0 }
+holding_tag DataOut transfer bytes tag = record tag {
+  data_in = forgotten_state tag.data_in;
+  given = [];
+  data_out = Holds transfer;
+  out = bytes;
+  used = 0;
+}
 
--- The transfer held there is answered. A status is kept with the unit that it told.
+-- The transfer held there is answered. A status is kept with the unit that it told; the bytes of a data-out are gone.
 abbrev pub unit_after : PlaceState → List ℕ → List ℕ → List ℕ
 unit_after Empty was unit = was
 unit_after (Holds transfer) was unit = unit
@@ -138,7 +146,7 @@ ended_tag Command status moved unit tag = tag
 ended_tag Status status moved unit tag =
     record tag { status = answered_state status moved tag.status; unit = unit_after tag.status tag.unit unit }
 ended_tag DataIn status moved unit tag = record tag { data_in = answered_state status moved tag.data_in }
-ended_tag DataOut status moved unit tag = record tag { data_out = answered_state status moved tag.data_out }
+ended_tag DataOut status moved unit tag = record tag { data_out = answered_state status moved tag.data_out; out = []; used = 0 }
 
 -- no answer is kept there
 abbrev pub come_tag : Pipe → TagState → TagState
@@ -177,9 +185,13 @@ lost_tag id tag = record tag {
   data_out = lost_state id tag.data_out;
 }
 
--- how many bytes the held data-in still takes
+-- how many bytes the held data-in still takes: those of a held data-out leave it the less room
 abbrev pub room_in : TagState → ℕ
-room_in tag = option_map_or (λ transfer. min transfer.length MOST_TRANSFER_BYTES - length tag.given) (transfer_in tag.data_in) 0
+room_in tag = option_map_or (λ transfer. min transfer.length (MOST_TRANSFER_BYTES - length tag.out) - length tag.given) (transfer_in tag.data_in) 0
+
+-- it has all its bytes
+abbrev pub is_full_in : TagState → Bool
+is_full_in tag = option_map_or (λ transfer. nat_le (min transfer.length MOST_TRANSFER_BYTES) (length tag.given)) (transfer_in tag.data_in) false
 
 -- these bytes more are given into it
 abbrev pub appended_tag : List ℕ → TagState → TagState
@@ -202,4 +214,7 @@ holder_in id tag =
 
 -- nothing is held or kept there
 abbrev pub emptied_tag : Pipe → TagState → TagState
-emptied_tag pipe tag = with_state pipe Empty tag
+emptied_tag Command tag = record tag { command = Empty }
+emptied_tag Status tag = record tag { status = Empty }
+emptied_tag DataIn tag = record tag { data_in = Empty }
+emptied_tag DataOut tag = record tag { data_out = Empty; out = []; used = 0 }

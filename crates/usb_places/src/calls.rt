@@ -2,7 +2,7 @@
 ghost use Rattle.std.specs.Prelude.{◌≡◌, ◌≤◌, [], IfOk, None, length, replicate, vec_capacity};
 ghost use Rattle.uas_profile.specs.Pipes.{HasStreams};
 ghost use Rattle.uas_profile.specs.declared.TheConstants.{STATUS_BYTES};
-ghost use Rattle.usb_places.specs.Places.{appended, cancelled_one, changed, ended, fresh_places, given_at, held_at, holder, holding, left_at, place_of, room_at, used_at, used_up};
+ghost use Rattle.usb_places.specs.Places.{appended, cancelled_one, changed, ended, fresh_places, given_at, held_at, holder, holding, is_full_at, left_at, place_of, room_at, used_at, used_up};
 ghost use Rattle.usb_places.specs.States.{emptied_tag, fresh_tag};
 ghost use Rattle.usb_places.specs.declared.TheConstants.{GUEST_TAGS, MOST_TRANSFER_BYTES};
 
@@ -13,7 +13,7 @@ use uas_profile::Pipe;
 use usbredir::Status;
 
 impl Places {
-    /// Nothing is held, nothing is kept. The error is want of memory: each tag has 524,288 bytes for data-in and as many for data-out.
+    /// Nothing is held, nothing is kept. The error is want of memory: each tag has 524,288 bytes.
     pub fn new(alloc: Global) -> Result<Places, AllocError>
         ensures { IfOk result (λ places. places ≡ fresh_places) }
     {
@@ -33,7 +33,7 @@ impl Places {
     }
 
     /// A transfer is held at a place where none is, and what was kept there is forgotten. At data-out `bytes` are those that came with
-    /// it: the vectors are swapped, and the caller has another empty one. At data-in none are given yet.
+    /// it: the vectors are swapped, and the caller has another empty one; a data-in that is kept is forgotten. At data-in none are given yet.
     pub fn hold(&mut self, pipe: Pipe, tag: u16, transfer: Transfer, bytes: &mut Vec<u8>)
         requires tag { 1 ≤ tag }
         requires most_tag { tag ≤ GUEST_TAGS }
@@ -49,7 +49,7 @@ impl Places {
         places.hold(pipe, transfer, bytes);
     }
 
-    /// How many bytes the held data-in of a tag still takes: its length, 524,288 at most, less those given.
+    /// How many bytes the held data-in of a tag still takes: its length, at most 524,288 less those of a held data-out, less those given.
     pub fn room(&self, tag: u16) -> usize
         ensures room { result ≡ room_at self.now tag }
         ensures most { result ≤ MOST_TRANSFER_BYTES }
@@ -57,6 +57,16 @@ impl Places {
         match place_of(tag) {
             Some(place) => self.tags[place].room(),
             None => 0,
+        }
+    }
+
+    /// Whether the held data-in of a tag has all its bytes.
+    pub fn is_full(&self, tag: u16) -> bool
+        ensures { result ≡ is_full_at self.now tag }
+    {
+        match place_of(tag) {
+            Some(place) => self.tags[place].is_full(),
+            None => false,
         }
     }
 

@@ -18,7 +18,8 @@
 //! length and, of a command, the same bytes, is told a lost answer again, and the device hears nothing.
 //!
 //! Beside a status answer its unit is kept, beside a data-in answer its bytes. A held data-out has its bytes, of which the device has
-//! used so many.
+//! used so many. A tag has 524,288 bytes for both: a data-out that comes takes the room of a kept data-in, which is forgotten, and what it
+//! leaves is the room of a data-in that is held beside it.
 //!
 //! What is promised: [`Places`] is the list of `specs/Places.antt`, a `TagState` for each tag, and each call makes of it exactly what
 //! the definition of that name says, and answers so. A place never both holds a transfer and keeps an answer: that is its form

@@ -1,5 +1,5 @@
 //! What becomes of one place.
-ghost use Rattle.std.specs.Prelude.{◌≡◌, min};
+ghost use Rattle.std.specs.Prelude.{◌≡◌, ◌≤◌, ◌-◌, min};
 ghost use Rattle.usb_places.specs.States.{answered_state, forgotten_state, holds, lost_in, lost_kept, lost_state, new_kept, same_transfer, told_state, transfer_in};
 ghost use Rattle.usb_places.specs.declared.TheConstants.{MOST_TRANSFER_BYTES};
 
@@ -104,9 +104,10 @@ pub(crate) fn lost_in(transfer: Transfer, state: PlaceState) -> Option<Kept>
     }
 }
 
-/// How many bytes a transfer of this length may have.
-pub(crate) fn room_of(length: u32) -> usize
-    ensures { result ≡ min length MOST_TRANSFER_BYTES }
+/// How many bytes a transfer of this length may have beside so many others.
+pub(crate) fn room_of(length: u32, others: usize) -> usize
+    requires { others ≤ MOST_TRANSFER_BYTES }
+    ensures { result ≡ min length (MOST_TRANSFER_BYTES - others) }
 {
-    (length as usize).min(MOST_TRANSFER_BYTES)
+    (length as usize).min(MOST_TRANSFER_BYTES - others)
 }

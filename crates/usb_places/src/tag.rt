@@ -2,7 +2,7 @@
 ghost use Rattle.std.specs.Prelude.{◌≡◌, ◌≤◌, [], IfOk, length, vec_capacity};
 ghost use Rattle.uas_profile.specs.declared.TheConstants.{STATUS_BYTES};
 ghost use Rattle.usb_places.specs.States.{appended_tag, come_tag, command_kept_tag, emptied_tag, ended_tag, forgotten_tag};
-ghost use Rattle.usb_places.specs.States.{fresh_tag, held_in, holder_in, holding_tag, left_in, lost_command_in, lost_in, lost_tag};
+ghost use Rattle.usb_places.specs.States.{fresh_tag, held_in, holder_in, holding_tag, is_full_in, left_in, lost_command_in, lost_in, lost_tag};
 ghost use Rattle.usb_places.specs.States.{room_in, state_at, told_tag, used_up_tag, with_state};
 ghost use Rattle.usb_places.specs.declared.TheConstants.{MOST_TRANSFER_BYTES};
 ghost use Rattle.uas_profile.specs.declared.Pipe.{Pipe};
@@ -28,11 +28,11 @@ pub(crate) struct TagPlaces {
     /// The unit that the kept status told.
     unit: ArrayVec<u8, STATUS_BYTES>,
     data_in: PlaceState,
-    /// The bytes given so far into the held data-in, or with the kept one.
-    given: Vec<u8>,
     data_out: PlaceState,
-    /// The bytes that came with the held data-out, and how many of them the device used.
-    out: Vec<u8>,
+    /// The bytes that came with the held data-out, and behind them those given so far into the held data-in, or with the kept one.
+    bytes: Vec<u8>,
+    /// How many came, and how many of these the device used.
+    came: usize,
     used: usize,
 }
 
@@ -59,9 +59,9 @@ impl TagPlaces {
             status: PlaceState::Empty,
             unit: ArrayVec::new(),
             data_in: PlaceState::Empty,
-            given: Vec::with_capacity(alloc, MOST_TRANSFER_BYTES)?,
             data_out: PlaceState::Empty,
-            out: Vec::with_capacity(alloc, MOST_TRANSFER_BYTES)?,
+            bytes: Vec::with_capacity(alloc, MOST_TRANSFER_BYTES)?,
+            came: 0,
             used: 0,
         })
     }
@@ -141,16 +141,26 @@ impl TagPlaces {
             Pipe::Command => (),
             Pipe::Status => self.status = PlaceState::Holds(transfer),
             Pipe::DataIn => {
-                self.given.clear();
+                self.bytes.truncate(self.came);
                 self.data_in = PlaceState::Holds(transfer);
             }
-            Pipe::DataOut => {
-                swap(&mut self.out, bytes);
-                self.used = 0;
-                self.data_out = PlaceState::Holds(transfer);
-            }
+            Pipe::DataOut => self.hold_out(transfer, bytes),
         }
         bytes.clear();
+    }
+
+    /// The vectors are swapped.
+    fn hold_out(&mut self, transfer: Transfer, bytes: &mut Vec<u8>)
+        requires room { MOST_TRANSFER_BYTES ≤ vec_capacity bytes.old }
+        requires most { length bytes.old.items ≤ MOST_TRANSFER_BYTES }
+        ensures tag { self.new ≡ holding_tag Pipe.DataOut transfer bytes.old.items self.old }
+        ensures again { MOST_TRANSFER_BYTES ≤ vec_capacity bytes.new }
+    {
+        swap(&mut self.bytes, bytes);
+        self.came = self.bytes.len();
+        self.used = 0;
+        self.data_in = forgotten(self.data_in);
+        self.data_out = PlaceState::Holds(transfer);
     }
 
     pub(crate) fn keep_command(&mut self, transfer: Transfer, moved: u32, bytes: &[u8])
@@ -170,10 +180,20 @@ impl TagPlaces {
         ensures most { result ≤ MOST_TRANSFER_BYTES }
     {
         match &self.data_in {
-            PlaceState::Holds(transfer) => room_of(transfer.length).saturating_sub(
-                self.given.len(),
+            PlaceState::Holds(transfer) => room_of(transfer.length, self.came).saturating_sub(
+                self.given().len(),
             ),
             _ => 0,
+        }
+    }
+
+    /// Whether it has all its bytes.
+    pub(crate) fn is_full(&self) -> bool
+        ensures { result ≡ is_full_in self.now }
+    {
+        match &self.data_in {
+            PlaceState::Holds(transfer) => room_of(transfer.length, 0) <= self.given().len(),
+            _ => false,
         }
     }
 
@@ -181,7 +201,7 @@ impl TagPlaces {
         requires { length bytes.now ≤ room_in self.old }
         ensures { self.new ≡ appended_tag bytes.now self.old }
     {
-        let Ok(()) = self.given.extend_from_slice(bytes) else {
+        let Ok(()) = self.bytes.extend_from_slice(bytes) else {
             unreachable!()
         };
     }
@@ -190,7 +210,7 @@ impl TagPlaces {
         ensures bytes { result.now ≡ self.now.given }
         ensures most { length result.now ≤ MOST_TRANSFER_BYTES }
     {
-        self.given.as_slice()
+        &self.bytes[self.came..]
     }
 
     pub(crate) fn unit(&self) -> &[u8]
@@ -204,7 +224,7 @@ impl TagPlaces {
         ensures bytes { result.now ≡ left_in self.now }
         ensures most { length result.now ≤ MOST_TRANSFER_BYTES }
     {
-        &self.out[self.used..]
+        &self.bytes[self.used..self.came]
     }
 
     pub(crate) fn used(&self) -> usize
@@ -229,8 +249,22 @@ impl TagPlaces {
             Pipe::Command => (),
             Pipe::Status => self.end_status(status, moved, unit),
             Pipe::DataIn => self.data_in = answered(status, moved, self.data_in),
-            Pipe::DataOut => self.data_out = answered(status, moved, self.data_out),
+            Pipe::DataOut => {
+                self.data_out = answered(status, moved, self.data_out);
+                self.drop_out();
+            }
         }
+    }
+
+    /// The bytes that came are gone.
+    fn drop_out(&mut self)
+        ensures { self.new ≡ record self.old { out = []; used = 0 } }
+    {
+        let given = self.bytes.len() - self.came;
+        self.bytes.copy_within(self.came.., 0);
+        self.bytes.truncate(given);
+        self.came = 0;
+        self.used = 0;
     }
 
     fn end_status(&mut self, status: Status, moved: u32, unit: &[u8])
@@ -264,6 +298,9 @@ impl TagPlaces {
         ensures { self.new ≡ emptied_tag pipe self.old }
     {
         self.set_state(pipe, PlaceState::Empty);
+        if pipe == Pipe::DataOut {
+            self.drop_out();
+        }
     }
 
     pub(crate) fn lose(&mut self, id: u64)

@@ -1,5 +1,5 @@
 -- What is gathered, one part behind the other, and written.
-use Rattle.std.proofs.Common.{◌∙◌, ℕ, List, [], ◌++◌, Option, Result, Ok, Err, ap, subst, sym, append_assoc}
+use Rattle.std.proofs.Common.{◌≡◌, ◌∙◌, ℕ, List, [], ◌++◌, Option, Result, Ok, Err, ap, subst, sym, append_assoc, append-nil}
 use Rattle.std.specs.Prelude.{OnErr, OnOk}
 use Rattle.std.specs.Io.KnownBytes.{Appends}
 use Rattle.std.proofs.KnownBytes.{Appends-trans}
@@ -44,10 +44,26 @@ pub began_gathered : (o m : List ℕ) (u v w : Option (List ℕ)) (a : List ℕ)
 began_gathered o m u v w a first second =
     subst (Began u w) (sym first.whole) (began_then u v w first.sent m first.wrote second)
 
--- and more was to come
-pub began_behind : (o m : List ℕ) (u v w : Option (List ℕ)) (a b : List ℕ) → Gathers o m u v a → Began v w m → Began u w (o ++ (a ++ b))
+-- or the first part of more
+pub began_front : (o : List ℕ) (u w : Option (List ℕ)) (a b : List ℕ) → Began u w (o ++ a) → Began u w (o ++ (a ++ b))
+began_front o u w a b first = subst (Began u w) (append_assoc o a b) (began_more u w (o ++ a) b first)
+
+-- or that part, and then some of more
+pub began_behind : (o m : List ℕ) (u v w : Option (List ℕ)) (a b : List ℕ) → Gathers o m u v a → Began v w (m ++ b) → Began u w (o ++ (a ++ b))
 began_behind o m u v w a b first second =
-    subst (Began u w) (append_assoc o a b) (began_more u w (o ++ a) b (began_gathered o m u v w a first second))
+    subst (Began u w)
+    (sym (append_assoc first.sent m b) ∙ ap (λ (l : List ℕ). l ++ b) (sym first.whole) ∙ append_assoc o a b)
+    (began_then u v w first.sent (m ++ b) first.wrote second)
+
+-- all was written at once
+pub gathers_sent : {A E : Type 0} (r : Result A E) (o n : List ℕ) (u w : Option (List ℕ)) (b : List ℕ) → OnOk r (Appends u w (o ++ b))
+    → OnOk r (n ≡ []) → OnOk r (Gathers o n u w b)
+gathers_sent (Ok x) o n u w b sent none = record {
+  sent = o ++ b;
+  wrote = sent;
+  whole = sym (append-nil (o ++ b)) ∙ ap (λ (l : List ℕ). (o ++ b) ++ l) (sym none);
+}
+gathers_sent (Err e) o n u w b sent none = tt
 
 -- all of it was written
 pub sent_gathered : (o m : List ℕ) (u v w : Option (List ℕ)) (a : List ℕ) → Gathers o m u v a → Appends v w m → Appends u w (o ++ a)

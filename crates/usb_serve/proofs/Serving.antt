@@ -3,12 +3,14 @@ use Rattle.std.proofs.Common.{◌≡◌, ◌∙◌, ℕ, ◌+◌, Bool, List, []
 use Rattle.std.proofs.lemmas.List.{length-append}
 use Rattle.std.specs.Io.KnownBytes.{Appends}
 use Rattle.std.proofs.KnownBytes.{Appends-nil, Appends-trans}
+use Rattle.usb_tags.specs.declared.UsbTags.{UsbTags}
+use Rattle.usb_serve.specs.Files.{Filed}
 use Rattle.usb_serve.specs.declared.fault.UsbFault.{UsbFault}
 use Rattle.usb_serve.specs.declared.fault.UsbFault.TheVariants as fault
 use Rattle.usb_serve.specs.declared.packets.Came.{Came}
 use Rattle.usb_serve.specs.Packets.{ReadsPacket, Unread}
-use Rattle.usb_serve.specs.Sessions.{Exchange, Exchanges, ServeBroken, Served, StepsFail, sent_text}
-use Rattle.usb_serve.specs.Steps.{IsBroken, IsDone, IsSent, World, arrived}
+use Rattle.usb_serve.specs.Sessions.{Exchange, Exchanges, ServeBroken, Served, sent_text}
+use Rattle.usb_serve.specs.Steps.{IsBroken, IsDone, IsSent, StepsFail, World, arrived, world}
 
 Exchanges-then : (exchanges : List Exchange) (x : Exchange) (left middle : Option (List ℕ)) (old last : World) → Exchanges left old exchanges middle last
     → ReadsPacket x.came x.bytes middle x.left → IsDone (arrived last x.came x.bytes) x.text x.after
@@ -67,15 +69,19 @@ broken_most can_read can_write count old new l ln w wn most served = record {
   ends = inl (record { same = refl; silent = refl; why = inr (refl, most) });
 }
 
+pub fails_at : (reason : UsbFault) (can_write : Bool) (d e : UsbTags) (files : List Filed) (new : World) → d ≡ e
+    → StepsFail reason can_write (world d files) new → StepsFail reason can_write (world e files) new
+fails_at reason can_write d e files new same fails = subst (λ (device : UsbTags). StepsFail reason can_write (world device files) new) same fails
+
 -- one was served up to some step
 pub broken_packet : (reason : UsbFault) (can_read can_write now : Bool) (count : ℕ) (old last new : World) (l lm ln w wm wn : Option (List ℕ))
     (came : Came) (bytes : List ℕ) → now ≡ can_write → Served count old last l lm w wm → ReadsPacket came bytes lm ln
-    → IsBroken (arrived last came bytes) new wm wn → StepsFail reason now → ServeBroken reason can_read can_write old new l ln w wn
+    → IsBroken (arrived last came bytes) new wm wn → StepsFail reason now (arrived last came bytes) new → ServeBroken reason can_read can_write old new l ln w wn
 broken_packet reason can_read can_write now count old last new l lm ln w wm wn came bytes same served read broken why = record {
   count = count;
   last = last;
   left_last = lm;
   written_last = wm;
   served = served;
-  ends = inr (record { came = came; bytes = bytes; read = read; broken = broken; why = subst (StepsFail reason) same why });
+  ends = inr (record { came = came; bytes = bytes; read = read; broken = broken; why = subst (λ (b : Bool). StepsFail reason b (arrived last came bytes) new) same why });
 }

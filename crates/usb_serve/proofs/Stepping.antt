@@ -1,6 +1,7 @@
 -- Steps, and one more.
-use Rattle.std.proofs.Common.{◌≡◌, ◌∙◌, ℕ, ◌+◌, true, false, List, [], ◌∷◌, ◌++◌, Option, inl, inr, refl, sym, ap, subst, append_assoc, append-nil, arith}
+use Rattle.std.proofs.Common.{◌≡◌, ◌∙◌, ◌⊎◌, ℕ, ◌+◌, Bool, true, false, List, [], ◌∷◌, ◌++◌, Option, inl, inr, refl, sym, ap, subst, append_assoc, append-nil, arith}
 use Rattle.std.proofs.lemmas.List.{length-append}
+use Rattle.std.specs.Prelude.{IsTrue}
 use Rattle.std.specs.Io.KnownBytes.{Appends}
 use Rattle.std.proofs.KnownBytes.{Appends-nil}
 use Rattle.byte_io.specs.Streams.{Began}
@@ -10,10 +11,12 @@ use Rattle.usb_tags.specs.declared.Next.{Next}
 use Rattle.usb_tags.specs.declared.Next.TheVariants.{Quiet, Moved, Asks, Sends}
 use Rattle.usb_tags.specs.declared.UsbTags.{UsbTags}
 use Rattle.usb_tags.specs.Calls.{next_of}
+use Rattle.usb_serve.specs.declared.fault.UsbFault.{UsbFault}
+use Rattle.usb_serve.specs.declared.fault.UsbFault.TheVariants as fault
 use Rattle.usb_serve.specs.Files.{Filed}
 use Rattle.usb_serve.specs.Sending.{Gathers, answer_text}
 use Rattle.usb_serve.proofs.Gathering.{began_gathered, began_on, gathers_then, sent_gathered}
-use Rattle.usb_serve.specs.Steps.{Goes, IsAnswered, IsBroken, IsQuiet, IsSent, Step, StepBy, Stepped, Steps, Stops, World, texts, world}
+use Rattle.usb_serve.specs.Steps.{Goes, IsAnswered, IsBroken, IsEndless, IsMisstated, IsQuiet, IsSent, Misstates, Step, StepBy, Stepped, Steps, StepsFail, Stops, World, texts, world}
 
 -- BY WHAT THE DISK DOES NEXT
 
@@ -131,3 +134,20 @@ made_most count old new m u v made = record {
   ends = inl refl;
   began = record { part = made.2.sent; rest = m; front = sym made.2.whole; wrote = made.2.wrote };
 }
+
+-- WHY THEY ENDED
+
+pub made_fails : (reason : UsbFault) (now can_write : Bool) (count : ℕ) (old middle new : World) (m : List ℕ) (u v : Option (List ℕ))
+    → now ≡ can_write → Made count old middle m u v → ((reason ≡ fault.Stream) × IsTrue now) ⊎ ((reason ≡ fault.Answer) × Misstates middle new)
+    → StepsFail reason can_write old new
+made_fails reason now can_write count old middle new m u v same made (inl stream) =
+    inl (stream.0, subst (λ (b : Bool). IsTrue b) same stream.1)
+made_fails reason now can_write count old middle new m u v same made (inr answer) =
+    inr (inl (answer.0, record { count = count; text = made.0; last = middle; steps = made.1; misstates = answer.1 }))
+
+pub made_endless : (count : ℕ) (old new : World) (m : List ℕ) (u v : Option (List ℕ)) → count ≡ 4294967295 → Made count old new m u v → IsEndless old new
+made_endless count old new m u v most made = (made.0, subst (λ (n : ℕ). Stepped n old made.0 new) most made.1)
+
+pub fails_sending : (reason : UsbFault) (now can_write : Bool) (old new : World) → now ≡ can_write → (reason ≡ fault.Stream) × IsTrue now
+    → StepsFail reason can_write old new
+fails_sending reason now can_write old new same stream = inl (stream.0, subst (λ (b : Bool). IsTrue b) same stream.1)

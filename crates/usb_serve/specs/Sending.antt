@@ -1,4 +1,4 @@
--- What is sent: it is gathered, and written at the end of what a packet causes, or before where there isn't room for more.
+-- What is sent: it is gathered, and written at the end of what a packet causes, or before where there isn't room for it.
 use Rattle.std.specs.Prelude.{◌≡◌, ℕ, List, [], ◌++◌, Option}
 use Rattle.std.specs.Io.KnownBytes.{Appends}
 use Rattle.usb_places.specs.Places.{given_at}

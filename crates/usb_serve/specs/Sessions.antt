@@ -10,7 +10,7 @@ use Rattle.usb_serve.specs.Files.{AreSynced, Filed}
 use Rattle.usb_serve.specs.Greeting.{GreetingBroken, Said, our_text}
 use Rattle.usb_serve.specs.Packets.{Leaves, ReadsPacket, Unread}
 use Rattle.usb_serve.specs.Sending.{disk_text}
-use Rattle.usb_serve.specs.Steps.{IsBroken, IsDone, World, arrived, world}
+use Rattle.usb_serve.specs.Steps.{IsBroken, IsDone, StepsFail, World, arrived, world}
 
 -- PACKETS
 
@@ -73,17 +73,13 @@ Talked old new left left_new written written_new =
 
 -- ONE THAT A FAULT ENDED
 
--- why the steps of a packet ended
-abbrev pub StepsFail : UsbFault → Bool → Type 0
-StepsFail reason can_write = ((reason ≡ fault.Stream) × IsTrue can_write) ⊎ ((reason ≡ fault.Answer) ⊎ (reason ≡ fault.TooMany))
-
 -- a packet was read, and served up to some step
 pub record PacketBroken (reason : UsbFault) (can_write : Bool) (old new : World) (left left_new written written_new : Option (List ℕ)) : Type 0 where
   pub came : Came
   pub bytes : List ℕ
   pub read : ReadsPacket came bytes left left_new
   pub broken : IsBroken (arrived old came bytes) new written written_new
-  pub why : StepsFail reason can_write
+  pub why : StepsFail reason can_write (arrived old came bytes) new
 
 -- no further packet was read: none came whole, or 2^64 - 1 were served. The disk and its files stay, and nothing more was written.
 pub record NoPacket (reason : UsbFault) (can_read : Bool) (count : ℕ) (old new : World) (left left_new written written_new : Option (List ℕ))

@@ -1,17 +1,21 @@
 -- What becomes of the disk and its files by a packet, and what is sent of it.
-use Rattle.std.specs.Prelude.{◌≡◌, ℕ, ◌⊎◌, List, [], ◌∷◌, ◌++◌, length, Bool, true, false, Option, None, Some}
+use Rattle.std.specs.Prelude.{◌≡◌, ◌≢◌, ℕ, ◌⊎◌, List, [], ◌∷◌, ◌++◌, length, Bool, true, false, IsTrue, Option, None, Some}
 use Rattle.std.specs.Io.KnownBytes.{Appends}
 use Rattle.byte_io.specs.Streams.{Began}
 use Rattle.uas_tasks.specs.declared.Outcome.{Outcome}
 use Rattle.uas_tasks.specs.declared.Request.{Request}
 use Rattle.uas_tasks.specs.Machine.{bytes_out}
+use Rattle.usb_tags.specs.declared.Answer.{Answer}
 use Rattle.usb_tags.specs.declared.Next.{Next}
 use Rattle.usb_tags.specs.declared.Next.TheVariants.{Quiet, Moved, Asks, Sends}
 use Rattle.usb_tags.specs.declared.UsbTags.{UsbTags}
 use Rattle.usb_tags.specs.Calls.{answered, next_of, received}
+use Rattle.usbredir.specs.Device.{data_of_device}
+use Rattle.usb_serve.specs.declared.fault.UsbFault.{UsbFault}
+use Rattle.usb_serve.specs.declared.fault.UsbFault.TheVariants as fault
 use Rattle.usb_serve.specs.declared.packets.Came.{Came}
 use Rattle.usb_serve.specs.Files.{Asked, Filed}
-use Rattle.usb_serve.specs.Sending.{Gathers, answer_text}
+use Rattle.usb_serve.specs.Sending.{Gathers, answer_text, data_text}
 
 -- the disk, and the files of its logical units
 pub record World : Type 0 where
@@ -103,3 +107,29 @@ pub record IsBroken (old new : World) (written written_new : Option (List ℕ)) 
   pub steps : Stepped count old text last
   pub ends : (new ≡ last) ⊎ IsQuiet last new
   pub began : Began written written_new text
+
+-- WHY ITS STEPS ENDED
+
+-- a step sends an answer that says other than how many data it has
+pub record Misstates (old new : World) : Type 0 where
+  pub answer : Answer
+  pub sends : next_of old.device ≡ (new.device, Sends answer)
+  pub other : data_of_device answer.packet ≢ length (data_text new.device answer.body)
+
+-- the last step made does so
+pub record IsMisstated (old new : World) : Type 0 where
+  pub count : ℕ
+  pub text : List ℕ
+  pub last : World
+  pub steps : Stepped count old text last
+  pub misstates : Misstates last new
+
+-- 2^32 - 1 steps were made
+abbrev pub IsEndless : (old new : World) → Type 0
+IsEndless old new = (text : List ℕ) × Stepped 4294967295 old text new
+
+-- a write failed, an answer was misstated, or there were too many steps
+abbrev pub StepsFail : UsbFault → Bool → (old new : World) → Type 0
+StepsFail reason can_write old new =
+    ((reason ≡ fault.Stream) × IsTrue can_write)
+    ⊎ (((reason ≡ fault.Answer) × IsMisstated old new) ⊎ ((reason ≡ fault.TooMany) × IsEndless old new))

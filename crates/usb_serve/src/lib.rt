@@ -20,7 +20,8 @@
 //! failed none is done. What a fault's cause is, and its line, is specs/Faults.antt.
 //!
 //! The steps of a packet end by a bound, 2^32 - 1, that no packet reaches; behind it, and behind 2^64 - 1 packets, the session ends by a
-//! fault. So does it where an answer says other than how many data it has, which none does; that isn't proved.
+//! fault, and only there (`IsEndless`). So does it where an answer says other than how many data it has, and only there (`IsMisstated`);
+//! that none does isn't proved.
 //!
 //! It stands on `usb_tags` for the disk, on the packets of `usbredir`, on `file_disk` for files, and on readers and writers. It takes memory
 //! before it greets, and none later.

@@ -1,4 +1,4 @@
-//! What is sent: it is gathered, and written before the next packet is read.
+//! What is sent: it is gathered, and written before the next packet is read; long data are written from their place.
 
 ghost use Rattle.std.specs.Prelude.{◌≡◌, ◌≢◌, ◌+◌, ◌≤◌, ◌⊎◌, ◌++◌, [], length, vec_capacity, IfErr, IsTrue, OnErr, OnOk};
 ghost use Rattle.std.specs.Io.KnownBytes.{Appends};
@@ -10,14 +10,13 @@ ghost use Rattle.usb_serve.specs.Sending.{Gathers, answer_text, data_text, disk_
 use crate::fault::UsbFault;
 use crate::link::send;
 use byte_io::Output;
-use usb_places::MOST_TRANSFER_BYTES;
 use usb_tags::{Answer, AnswerData, UsbTags, device_connect, endpoint_info, interface_info};
 use usbredir::DevicePacket;
 
-/// So many bytes are gathered at most: the longest answer, and what may be sent beside it.
-pub(crate) const MOST_GATHERED_BYTES: usize = 589_824;
+/// So many bytes are gathered at most: a chunk, and what is sent beside it.
+pub(crate) const MOST_GATHERED_BYTES: usize = 131_072;
 
-const _: () = prove!(MOST_GATHERED_BYTES == MOST_TRANSFER_BYTES + 65_536);
+const _: () = prove!(MOST_GATHERED_BYTES == 131_072);
 
 /// Writes what was gathered, if anything.
 pub(crate) fn send_gathered<O: Output>(
@@ -39,18 +38,35 @@ pub(crate) fn send_gathered<O: Output>(
     Ok(())
 }
 
-/// Gathers bytes; what stands there is written first where there isn't room for them.
+/// Writes what was gathered, and then these bytes.
+fn send_behind<O: Output>(
+    gathered: &mut Vec<u8>,
+    output: &mut O,
+    bytes: &[u8],
+) -> Result<(), UsbFault>
+    ensures sent { OnOk result (Appends (O.written output.old) (O.written output.new) (gathered.old.items ++ bytes.now)) }
+    ensures none { OnOk result (gathered.new.items ≡ []) }
+    ensures began { OnErr result (Began (O.written output.old) (O.written output.new) (gathered.old.items ++ bytes.now)) }
+    ensures cause { IfErr result (λ reason. (reason ≡ UsbFault.Stream) × IsTrue (O.can_fail output.old)) }
+    ensures room { vec_capacity gathered.old ≤ vec_capacity gathered.new }
+    ensures same { O.can_fail output.new ≡ O.can_fail output.old }
+{
+    send_gathered(gathered, output)?;
+    send(output, bytes)?;
+    Ok(())
+}
+
+/// Gathers bytes. What has no room is written at once, behind what was gathered, and isn't copied.
 fn gather<O: Output>(gathered: &mut Vec<u8>, output: &mut O, bytes: &[u8]) -> Result<(), UsbFault>
     requires room { MOST_GATHERED_BYTES ≤ vec_capacity gathered.old }
-    requires most { length bytes.now ≤ MOST_GATHERED_BYTES }
     ensures gathers { OnOk result (Gathers gathered.old.items gathered.new.items (O.written output.old) (O.written output.new) bytes.now) }
-    ensures began { OnErr result (Began (O.written output.old) (O.written output.new) gathered.old.items) }
+    ensures began { OnErr result (Began (O.written output.old) (O.written output.new) (gathered.old.items ++ bytes.now)) }
     ensures cause { IfErr result (λ reason. (reason ≡ UsbFault.Stream) × IsTrue (O.can_fail output.old)) }
     ensures room { MOST_GATHERED_BYTES ≤ vec_capacity gathered.new }
     ensures same { O.can_fail output.new ≡ O.can_fail output.old }
 {
-    if gathered.len() > MOST_GATHERED_BYTES - bytes.len() {
-        send_gathered(gathered, output)?;
+    if bytes.len() > MOST_GATHERED_BYTES || gathered.len() > MOST_GATHERED_BYTES - bytes.len() {
+        return send_behind(gathered, output, bytes);
     }
     put(gathered, bytes);
     Ok(())

@@ -3,8 +3,8 @@
 ghost use Rattle.std.specs.Prelude.{◌≡◌, ◌≢◌, ◌⊎◌, ℕ, length, map, slice_get, IfErr, IfOk, IfSome, IsTrue, OnErr, OnOk};
 ghost use Rattle.usb_serve.specs.Files.{filed};
 ghost use Rattle.usb_serve.specs.Rooms.{HasRooms, IsIdle};
-ghost use Rattle.usb_serve.specs.Sessions.{Ended, Failed, Fails, ServeBroken, ServedAll, StepsFail, TalkBroken, Talked};
-ghost use Rattle.usb_serve.specs.Steps.{Goes, IsAnswered, IsBroken, IsSent, Stops, brought_by, world};
+ghost use Rattle.usb_serve.specs.Sessions.{Ended, Failed, Fails, ServeBroken, ServedAll, TalkBroken, Talked};
+ghost use Rattle.usb_serve.specs.Steps.{Goes, IsAnswered, IsBroken, IsSent, Misstates, StepsFail, Stops, brought_by, world};
 
 use crate::fault::UsbFault;
 use crate::files::{MOST_REQUEST_BYTES, UnitFile, do_on, sync_all};
@@ -170,7 +170,9 @@ fn serve_packet<B: Blocks, O: Output>(
         (world usb.new (map (filed B.tells B.can_fail B.holds B.synced B.is_spoiled) units.new))
         (O.written output.old) (O.written output.new)) }
     ensures rooms { OnOk result (IsIdle rooms.new) }
-    ensures cause { IfErr result (λ reason. StepsFail reason (O.can_fail output.old)) }
+    ensures cause { IfErr result (λ reason. StepsFail reason (O.can_fail output.old)
+        (world usb.old (map (filed B.tells B.can_fail B.holds B.synced B.is_spoiled) units.old))
+        (world usb.new (map (filed B.tells B.can_fail B.holds B.synced B.is_spoiled) units.new))) }
     ensures same { O.can_fail output.new ≡ O.can_fail output.old }
 {
     for turn in 0..u32::MAX {
@@ -198,7 +200,10 @@ fn step<B: Blocks, O: Output>(
         (world usb.new (map (filed B.tells B.can_fail B.holds B.synced B.is_spoiled) units.new))
         rooms.old.gathered.items (O.written output.old) (O.written output.new)) }
     ensures rooms { HasRooms rooms.new }
-    ensures cause { IfErr result (λ reason. ((reason ≡ UsbFault.Stream) × IsTrue (O.can_fail output.old)) ⊎ (reason ≡ UsbFault.Answer)) }
+    ensures cause { IfErr result (λ reason. ((reason ≡ UsbFault.Stream) × IsTrue (O.can_fail output.old))
+        ⊎ ((reason ≡ UsbFault.Answer) × Misstates
+        (world usb.old (map (filed B.tells B.can_fail B.holds B.synced B.is_spoiled) units.old))
+        (world usb.new (map (filed B.tells B.can_fail B.holds B.synced B.is_spoiled) units.new)))) }
     ensures same { O.can_fail output.new ≡ O.can_fail output.old }
 {
     match usb.next() {

@@ -117,7 +117,8 @@ pub holding_more : (id : ℕ) (pipe : Pipe) (transfer : Transfer) (bytes : List 
 holding_more id Command transfer bytes tag streams free = absurd streams
 holding_more id Status transfer bytes tag streams free = let none = none_held id tag.status free in omega (arith, none)
 holding_more id DataIn transfer bytes tag streams free = let none = none_held id tag.data_in free in omega (arith, none)
-holding_more id DataOut transfer bytes tag streams free = let none = none_held id tag.data_out free in omega (arith, none)
+holding_more id DataOut transfer bytes tag streams free =
+    let none = none_held id tag.data_out free in let alike = forgotten_same id tag.data_in in omega (arith, none, alike)
 
 -- A TRANSFER IS ANSWERED
 

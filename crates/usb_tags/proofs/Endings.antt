@@ -11,7 +11,7 @@ use Rattle.usb_disk.specs.Descriptors.{address_of}
 use Rattle.usb_places.specs.declared.PlaceState.{PlaceState}
 use Rattle.usb_places.specs.declared.PlaceState.TheVariants.{Empty, Holds, Keeps}
 use Rattle.usb_places.specs.declared.Transfer.{Transfer}
-use Rattle.usb_places.specs.Places.{emptied_at, given_at, held_at, holder, left_at, room_at, tag_under, used_at, with_tag_under}
+use Rattle.usb_places.specs.Places.{emptied_at, given_at, held_at, holder, is_full_at, left_at, room_at, tag_under, used_at, with_tag_under}
 use Rattle.usb_places.specs.States.{TagState, answered_state, appended_tag, emptied_tag, ended_tag, fresh_tag, held_in, holds, transfer_in, used_up_tag}
 use Rattle.usbredir.specs.declared.kinds.Status as answer
 use Rattle.usbredir.specs.declared.kinds.Status.TheVariants.{Success, Babble}
@@ -181,11 +181,13 @@ used_alike Status count tag = refl
 used_alike DataIn count tag = refl
 used_alike DataOut count tag = refl
 
-gives_keeps : (pipe : Pipe) (tag : ℕ) (device : UsbTags) (at bytes : ℕ) (held : Option Transfer) → IsKeptOrAnswered pipe tag device (gives_by device at bytes held)
-gives_keeps pipe tag device at bytes None = inl refl
-gives_keeps pipe tag device at bytes (Some transfer) =
+gives_keeps : (pipe : Pipe) (tag : ℕ) (device : UsbTags) (at bytes : ℕ) (held : Option Transfer) → held_at device.places DataIn at ≡ held
+    → IsKeptOrAnswered pipe tag device (gives_by device at bytes held)
+gives_keeps pipe tag device at bytes None is = inl refl
+gives_keeps pipe tag device at bytes (Some transfer) is =
     let new = given device.tasks at (min (min bytes (room_at device.places at)) 4096) in
-    inl (kept pipe device.places at tag (appended_tag new (tag_under device.places at)) (appended_alike pipe new (tag_under device.places at)))
+    either (IsKeptOrAnswered pipe tag device) (room_at device.places at == 0) _ _ (in_ends pipe tag device at transfer is)
+    (inl (kept pipe device.places at tag (appended_tag new (tag_under device.places at)) (appended_alike pipe new (tag_under device.places at))))
 
 takes_keeps : (pipe : Pipe) (tag : ℕ) (device : UsbTags) (at bytes : ℕ) (held : Option Transfer) → IsKeptOrAnswered pipe tag device (takes_by device at bytes held)
 takes_keeps pipe tag device at bytes None = inl refl
@@ -212,7 +214,7 @@ wants_ends : (pipe : Pipe) (tag : ℕ) (device : UsbTags) (at : ℕ) (wants : Wa
 wants_ends pipe tag device at Absent = inl refl
 wants_ends pipe tag device at WantsAsks = inl refl
 wants_ends pipe tag device at Waits = inl refl
-wants_ends pipe tag device at (WantsGives bytes) = gives_keeps pipe tag device at bytes (held_at device.places DataIn at)
+wants_ends pipe tag device at (WantsGives bytes) = gives_keeps pipe tag device at bytes (held_at device.places DataIn at) refl
 wants_ends pipe tag device at (WantsTakes bytes) = takes_keeps pipe tag device at bytes (held_at device.places DataOut at)
 wants_ends pipe tag device at WantsEnds = ends_ends pipe tag device at (held_at device.places DataIn at) refl
 
@@ -234,7 +236,7 @@ in_served : (pipe : Pipe) (tag : ℕ) (device : UsbTags) (at : ℕ) (full : Opti
     → IsKeptOrAnswered pipe tag device (served_if_full device at full)
 in_served pipe tag device at None is = out_served pipe tag device at (used_out device.places at) refl
 in_served pipe tag device at (Some transfer) is =
-    in_ends pipe tag device at transfer (from_if (room_at device.places at == 0) (held_at device.places DataIn at) transfer is)
+    in_ends pipe tag device at transfer (from_if (is_full_at device.places at) (held_at device.places DataIn at) transfer is)
 
 served_ends_so : (pipe : Pipe) (tag : ℕ) (device : UsbTags) (at : ℕ) → IsKeptOrAnswered pipe tag device (served device at)
 unfolding served

@@ -20,7 +20,7 @@ use Rattle.usbredir.specs.declared.fields.ControlRequest.{ControlRequest}
 use Rattle.usbredir.specs.declared.packets.GuestPacket.{GuestPacket}
 use Rattle.usbredir.specs.declared.packets.GuestPacket.TheVariants.{Reset, SetConfiguration, GetConfiguration, SetAltSetting, GetAltSetting, AllocBulkStreams}
 use Rattle.usbredir.specs.declared.packets.GuestPacket.TheVariants.{FreeBulkStreams, CancelDataPacket, FilterReject, FilterFilter, Control, Bulk}
-use Rattle.usb_tags.specs.Bulk.{at_endpoint, bulk_received, by_pipe, command_by, command_new, command_received, forgot_by_unit, is_management, is_place, is_too_long}
+use Rattle.usb_tags.specs.Bulk.{at_endpoint, bulk_received, by_pipe, command_by, command_new, command_received, forgot_by_unit, is_begun, is_management, is_place, is_too_long}
 use Rattle.usb_tags.specs.Bulk.{new_transfer, on_pipe, told_again, transfer_by, transfer_of, transfer_received}
 use Rattle.usb_tags.specs.declared.Rest.TheVariants.{Nothing as NoRest}
 use Rattle.usb_tags.specs.declared.Sending.TheVariants.{Nothing as SentAll}
@@ -129,6 +129,10 @@ no_transfer : (held : Option Transfer) → is_some held ≡ false → held ≡ N
 no_transfer None is = refl
 no_transfer (Some transfer) is = absurd (cc is)
 
+or_left : (a b : Bool) → (a || b) ≡ false → a ≡ false
+or_left true b is = absurd (cc is)
+or_left false b is = refl
+
 or_right : (a b : Bool) → (a || b) ≡ false → b ≡ false
 or_right true b is = absurd (cc is)
 or_right false b is = is
@@ -144,9 +148,11 @@ new_owing id device came request bytes pipe tag streams many place sent =
     let both = and_parts (nat_lt 0 tag) (nat_le tag 128) place in
     let some : 0 < tag = ltb-true 0 tag both.0 in
     let most : tag ≤ 128 = leb-true tag 128 both.1 in
-    split P (is_too_long pipe request.length || is_some (held_at device.places pipe tag)) _ _ (λ refused. omega arith) (λ free.
+    let holds = is_some (held_at device.places pipe tag) in
+    let begun = is_begun device.places pipe tag in
+    split P (is_too_long pipe request.length || (holds || begun)) _ _ (λ refused. omega arith) (λ free.
     let held = holding_more id pipe (transfer_of came request) bytes state streams
-    (no_transfer (held_at device.places pipe tag) (or_right (is_too_long pipe request.length) _ free)) in
+    (no_transfer (held_at device.places pipe tag) (or_left holds begun (or_right (is_too_long pipe request.length) (holds || begun) free))) in
     let more = raised id device.places tag (one_if (came == id)) (holding_tag pipe (transfer_of came request) bytes state) some (omega (arith, most, many)) held in
     either P (request.length == 0) _ _ (omega (arith, come)) (omega (arith, more, none)))
 

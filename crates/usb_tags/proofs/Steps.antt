@@ -9,7 +9,7 @@ use Rattle.uas_tasks.specs.declared.Wants.{Wants}
 use Rattle.uas_tasks.specs.declared.Wants.TheVariants.{Absent, Asks as WantsAsks, Waits, Gives as WantsGives, Takes as WantsTakes, Ends as WantsEnds}
 use Rattle.uas_tasks.specs.Machine.{answer_on, given, next_of as next_task, without_task}
 use Rattle.usb_places.specs.declared.Transfer.{Transfer}
-use Rattle.usb_places.specs.Places.{emptied_at, given_at, held_at, holder, left_at, room_at, tag_under, used_at}
+use Rattle.usb_places.specs.Places.{emptied_at, given_at, held_at, holder, is_full_at, left_at, room_at, tag_under, used_at}
 use Rattle.usb_places.specs.States.{appended_tag, emptied_tag, ended_tag, used_up_tag}
 use Rattle.usbredir.specs.declared.kinds.Status as answer
 use Rattle.usbredir.specs.declared.kinds.Status.TheVariants.{Success, Babble}
@@ -79,12 +79,13 @@ asked_balanced id device (NextGives bytes) = refl
 asked_balanced id device (NextTakes bytes) = refl
 asked_balanced id device NextEnds = refl
 
-gives_balanced : (id : ℕ) (device : UsbTags) (tag bytes : ℕ) (held : Option Transfer) → IsBalanced id device (gives_by device tag bytes held)
-gives_balanced id device tag bytes None = omega arith
-gives_balanced id device tag bytes (Some transfer) =
+gives_balanced : (id : ℕ) (device : UsbTags) (tag bytes : ℕ) (held : Option Transfer) → held_at device.places DataIn tag ≡ held
+    → IsBalanced id device (gives_by device tag bytes held)
+gives_balanced id device tag bytes None is = omega arith
+gives_balanced id device tag bytes (Some transfer) is =
     let count = min (min bytes (room_at device.places tag)) 4096 in
     let alike = same id device.places tag (appended_tag (given device.tasks tag count) (tag_under device.places tag)) refl in
-    omega (arith, alike)
+    either (IsBalanced id device) (room_at device.places tag == 0) _ _ (in_ended_balanced id device tag transfer is) (omega (arith, alike))
 
 takes_balanced : (id : ℕ) (device : UsbTags) (tag bytes : ℕ) (held : Option Transfer) → IsBalanced id device (takes_by device tag bytes held)
 takes_balanced id device tag bytes None = omega arith
@@ -113,7 +114,7 @@ wants_balanced id device tag Absent = omega arith
 wants_balanced id device tag WantsAsks =
     let none = asked_balanced id device (next_task device.tasks tag).1 in omega (arith, none)
 wants_balanced id device tag Waits = omega arith
-wants_balanced id device tag (WantsGives bytes) = gives_balanced id device tag bytes (held_at device.places DataIn tag)
+wants_balanced id device tag (WantsGives bytes) = gives_balanced id device tag bytes (held_at device.places DataIn tag) refl
 wants_balanced id device tag (WantsTakes bytes) = takes_balanced id device tag bytes (held_at device.places DataOut tag)
 wants_balanced id device tag WantsEnds = ends_balanced id device tag (held_at device.places DataIn tag) refl
 
@@ -135,7 +136,7 @@ in_balanced : (id : ℕ) (device : UsbTags) (tag : ℕ) (full : Option Transfer)
     → IsBalanced id device (served_if_full device tag full)
 in_balanced id device tag None is = out_balanced id device tag (used_out device.places tag) refl
 in_balanced id device tag (Some transfer) is =
-    in_ended_balanced id device tag transfer (from_if (room_at device.places tag == 0) (held_at device.places DataIn tag) transfer is)
+    in_ended_balanced id device tag transfer (from_if (is_full_at device.places tag) (held_at device.places DataIn tag) transfer is)
 
 served_balanced : (id : ℕ) (device : UsbTags) (tag : ℕ) → IsBalanced id device (served device tag)
 unfolding served

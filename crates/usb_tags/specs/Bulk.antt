@@ -12,7 +12,7 @@ use Rattle.usb_disk.specs.Requests.{pipe_at}
 use Rattle.usb_places.specs.declared.Kept.{Kept}
 use Rattle.usb_places.specs.declared.TheConstants.{MOST_TRANSFER_BYTES}
 use Rattle.usb_places.specs.declared.Transfer.{Transfer}
-use Rattle.usb_places.specs.Places.{all_forgotten, came, command_kept, held_at, holding, lost_at, lost_command_at, tag_forgotten, told_again as told_places, unit_at}
+use Rattle.usb_places.specs.Places.{all_forgotten, came, command_kept, given_at, held_at, holding, lost_at, lost_command_at, tag_forgotten, told_again as told_places, unit_at}
 use Rattle.usb_places.specs.States.{TagState}
 use Rattle.usbredir.specs.declared.fields.BulkRequest.{BulkRequest}
 use Rattle.usbredir.specs.declared.kinds.Status as answer
@@ -112,11 +112,19 @@ is_too_long Status size = false
 is_too_long DataIn size = false
 is_too_long DataOut size = nat_lt MOST_TRANSFER_BYTES size
 
--- one that isn't told again: refused where it is too long or its place holds one; done where it has no bytes; else it is held, and its
--- tag is served
+-- whether a data-in of the tag has begun to use the room that a data-out needs
+abbrev pub is_begun : List TagState → Pipe → ℕ → Bool
+is_begun places Command tag = false
+is_begun places Status tag = false
+is_begun places DataIn tag = false
+is_begun places DataOut tag = is_some (held_at places DataIn tag) && not (length (given_at places tag) == 0)
+
+-- one that isn't told again: refused where it is too long, its place holds one or its room is used; done where it has no bytes; else it is
+-- held, and its tag is served
 abbrev pub new_transfer : UsbTags → ℕ → BulkRequest → List ℕ → Pipe → ℕ → UsbTags
 new_transfer device id request bytes pipe tag =
-    if is_too_long pipe request.length || is_some (held_at device.places pipe tag) then refused device id request Stall
+    if is_too_long pipe request.length || (is_some (held_at device.places pipe tag) || is_begun device.places pipe tag)
+    then refused device id request Stall
     else (if request.length == 0 then bulk_answered (record device { places = came device.places pipe tag }) id request Success 0 NoData
     else record device { places = holding device.places pipe tag (transfer_of id request) bytes; rest = Serves tag })
 

@@ -1,15 +1,16 @@
 -- What each call makes of the disk: a packet that comes, and what is done next for it.
-use Rattle.std.specs.Prelude.{ℕ, ◌*◌, List, map, Option, None, Some, Result}
+use Rattle.std.specs.Prelude.{ℕ, ◌*◌, ◌%◌, ◌==◌, nat_le, Bool, false, ◌&&◌, if◌then◌else◌, List, length, map, Option, None, Some, Result, Ok}
 use Rattle.host_commands.specs.declared.CommandSet.{CommandSet}
 use Rattle.host_commands.specs.Shapes.{Shape}
 use Rattle.uas_profile.specs.declared.Pipe.{Pipe}
 use Rattle.uas_tasks.specs.declared.AnswerFault.{AnswerFault}
 use Rattle.uas_tasks.specs.declared.Outcome.{Outcome}
-use Rattle.uas_tasks.specs.Machine.{answered as answered_tasks, greatest_block, opening as opening_tasks, powered_machine, quiet}
+use Rattle.uas_tasks.specs.Machine.{answered as answered_tasks, greatest_block, opening as opening_tasks, passed, passing, powered_machine, quiet}
+use Rattle.uas_tasks.specs.Slots.{is_done}
 use Rattle.usb_disk.specs.declared.UsbStrings.{UsbStrings}
 use Rattle.usb_disk.specs.Answers.{reset_with}
 use Rattle.usb_disk.specs.Descriptors.{address_of}
-use Rattle.usb_places.specs.Places.{all_lost, cancelled_one, fresh_places}
+use Rattle.usb_places.specs.Places.{all_lost, appended, cancelled_one, fresh_places, room_at}
 use Rattle.usb_places.specs.States.{TagState}
 use Rattle.usbredir.specs.declared.kinds.Status.TheVariants.{Cancelled}
 use Rattle.usbredir.specs.declared.packets.DevicePacket.TheVariants.{InterfaceInfo, EndpointInfo}
@@ -104,6 +105,19 @@ next_of device = next_by device device.sending
 
 -- REQUESTS
 
+-- Whether the bytes of a request go straight into the held data-in of its tag: it is a Read that is done, its task waits for them, and there
+-- is room for all of them.
+abbrev pub passes_by : UsbTags → ℕ → Outcome → ℕ → Option ℕ → Bool
+passes_by device number outcome size None = false
+passes_by device number outcome size (Some brought) =
+    is_done outcome && (brought == size) && nat_le size (room_at device.places (number % 256))
+
+abbrev pub passes : UsbTags → ℕ → Outcome → ℕ → Bool
+passes device number outcome size = passes_by device number outcome size (passing device.tasks number)
+
+-- Else they wait for one in the chunk buffer.
 abbrev pub answered : UsbTags → ℕ → Outcome → List ℕ → UsbTags × Result (Unit {0}) AnswerFault
 answered device number outcome bytes =
-    let after = answered_tasks device.tasks number outcome bytes in (record device { tasks = after.0 }, after.1)
+    if passes device number outcome (length bytes)
+    then (record device { tasks = passed device.tasks number; places = appended device.places (number % 256) bytes }, Ok tt)
+    else (let after = answered_tasks device.tasks number outcome bytes in (record device { tasks = after.0 }, after.1))

@@ -12,7 +12,7 @@ use Rattle.uas_tasks.specs.declared.Wants.TheVariants.{Absent, Asks as WantsAsks
 use Rattle.uas_tasks.specs.Machine.{answer_on, gave, given, next_of, took, wanted, without_task}
 use Rattle.usb_disk.specs.Descriptors.{address_of}
 use Rattle.usb_places.specs.declared.Transfer.{Transfer}
-use Rattle.usb_places.specs.Places.{appended, ended, given_at, held_at, left_at, room_at, used_at, used_up}
+use Rattle.usb_places.specs.Places.{appended, ended, given_at, held_at, is_full_at, left_at, room_at, used_at, used_up}
 use Rattle.usb_places.specs.States.{TagState}
 use Rattle.usbredir.specs.declared.kinds.Status as answer
 use Rattle.usbredir.specs.declared.kinds.Status.TheVariants.{Success, Babble}
@@ -88,10 +88,12 @@ abbrev pub gave_part : UsbTags → ℕ → ℕ → UsbTags
 gave_part device tag count =
     record device { tasks = gave device.tasks tag count; places = appended device.places tag (given device.tasks tag count) }
 
--- as many as there is room for, and at most 4,096
+-- as many as there is room for, and at most 4,096; where a held data-out left it no room, it ends with what it was given
 abbrev pub gives_by : UsbTags → ℕ → ℕ → Option Transfer → UsbTags × Next
 gives_by device tag bytes None = (device, Quiet)
-gives_by device tag bytes (Some transfer) = (gave_part device tag (min (min bytes (room_at device.places tag)) 4096), Moved)
+gives_by device tag bytes (Some transfer) =
+    if room_at device.places tag == 0 then in_ended device tag transfer
+    else (gave_part device tag (min (min bytes (room_at device.places tag)) 4096), Moved)
 
 abbrev pub served_gives : UsbTags → ℕ → ℕ → UsbTags × Next
 served_gives device tag bytes = gives_by device tag bytes (held_at device.places DataIn tag)
@@ -137,9 +139,9 @@ served_task device tag = served_wants device tag (wanted device.tasks tag)
 
 -- WHAT COMES FIRST
 
--- the held data-in where it takes no more
+-- the held data-in where it has all its bytes
 abbrev pub full_in : List TagState → ℕ → Option Transfer
-full_in places tag = if room_at places tag == 0 then held_at places DataIn tag else None
+full_in places tag = if is_full_at places tag then held_at places DataIn tag else None
 
 -- the held data-out where the task used all of it
 abbrev pub used_out : List TagState → ℕ → Option Transfer

@@ -6,7 +6,7 @@ ghost use Rattle.uas_target.specs.Fields.{tag_in};
 ghost use Rattle.usb_disk.specs.Descriptors.{address_of};
 ghost use Rattle.usb_disk.specs.Requests.{pipe_at};
 ghost use Rattle.usb_places.specs.declared.TheConstants.{MOST_TRANSFER_BYTES};
-ghost use Rattle.usb_tags.specs.Bulk.{bulk_answered, bulk_received, bulk_told, command_begun, command_received, data_kept, forgot_by_unit};
+ghost use Rattle.usb_tags.specs.Bulk.{bulk_answered, bulk_received, bulk_told, command_begun, command_received, data_kept, forgot_by_unit, is_begun};
 ghost use Rattle.usb_tags.specs.Bulk.{is_management, is_place, is_too_long, new_transfer, on_pipe, rest_of, told_again, transfer_of, transfer_received};
 
 use crate::device::MOST_STREAMS;
@@ -162,7 +162,10 @@ impl UsbTags {
         ensures device { self.new ≡ new_transfer self.old id request.now bytes.old.items pipe tag }
         ensures again { MOST_TRANSFER_BYTES ≤ vec_capacity bytes.new }
     {
-        if is_too_long(pipe, request.length) || self.places.held(pipe, tag).is_some() {
+        if is_too_long(pipe, request.length)
+            || self.places.held(pipe, tag).is_some()
+            || is_begun(&self.places, pipe, tag)
+        {
             self.answer_bulk(id, request, Status::Stall, 0, AnswerData::Nothing);
         } else if request.length == 0 {
             self.places.come(pipe, tag);
@@ -211,6 +214,18 @@ fn is_too_long(pipe: Pipe, length: u32) -> bool
 {
     match pipe {
         Pipe::DataOut => length as usize > MOST_TRANSFER_BYTES,
+        Pipe::Command | Pipe::Status | Pipe::DataIn => false,
+    }
+}
+
+/// Whether a data-in of the tag has begun to use the room that a data-out needs.
+fn is_begun(places: &Places, pipe: Pipe, tag: u16) -> bool
+    ensures { result ≡ is_begun places.now pipe tag }
+{
+    match pipe {
+        Pipe::DataOut => {
+            places.held(Pipe::DataIn, tag).is_some() && !places.given(tag).is_empty()
+        }
         Pipe::Command | Pipe::Status | Pipe::DataIn => false,
     }
 }

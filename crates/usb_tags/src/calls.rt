@@ -1,11 +1,11 @@
 //! The calls of a session.
-ghost use Rattle.std.specs.Prelude.{◌≡◌, ◌≤◌, IfOk, length, vec_capacity};
+ghost use Rattle.std.specs.Prelude.{◌≡◌, ◌≤◌, ◌%◌, IfOk, IsSome, length, true, vec_capacity};
 ghost use Rattle.std.specs.Option.{option_copied};
 ghost use Rattle.uas_profile.specs.declared.TheConstants.{MAX_UNITS};
-ghost use Rattle.uas_tasks.specs.Machine.{bytes_out};
+ghost use Rattle.uas_tasks.specs.Machine.{bytes_out, passing};
 ghost use Rattle.usb_places.specs.declared.TheConstants.{MOST_TRANSFER_BYTES};
-ghost use Rattle.usb_places.specs.Places.{given_at};
-ghost use Rattle.usb_tags.specs.Calls.{answered, cancel_told, cancelled, cancelled_next, next_of, opening, received, rested};
+ghost use Rattle.usb_places.specs.Places.{given_at, room_at};
+ghost use Rattle.usb_tags.specs.Calls.{answered, cancel_told, cancelled, cancelled_next, next_of, opening, passes, received, rested};
 
 use crate::bulk::{address_of, bulk_told};
 use crate::device::told;
@@ -19,6 +19,9 @@ use uas_tasks::{AnswerFault, Outcome, Tasks};
 use usb_disk::{UsbDisk, UsbStrings};
 use usb_places::Places;
 use usbredir::{DevicePacket, GuestPacket, Status};
+
+/// The numbers of requests have this many places for tags.
+const NUMBER_TAGS: u64 = 256;
 
 impl UsbTags {
     /// A disk of these logical units, at most 15, and with these strings, as one that was powered on: not configured, with nothing held.
@@ -136,7 +139,7 @@ impl UsbTags {
     }
 
     /// The request of a number is answered; `bytes` are those of its blocks where a Read is done, and nothing otherwise. Refused, and
-    /// nothing changes, as [`Tasks::answered`] says.
+    /// nothing changes, as [`Tasks::answered`] says. Where a held data-in has room for all of them they go straight into it.
     pub fn answered(
         &mut self,
         number: u64,
@@ -145,7 +148,27 @@ impl UsbTags {
     ) -> Result<(), AnswerFault>
         ensures { (self.new, result) ≡ answered self.old number outcome bytes.now }
     {
+        if self.passes(number, outcome, bytes.len()) {
+            self.tasks.pass(number);
+            self.places.append((number % NUMBER_TAGS) as u16, bytes);
+            return Ok(());
+        }
         self.tasks.answered(number, outcome, bytes)
+    }
+
+    fn passes(&self, number: u64, outcome: Outcome, size: usize) -> bool
+        ensures passes { result ≡ passes self.now number outcome size }
+        ensures some { result ≡ true → IsSome (passing self.now.tasks number) }
+        ensures room { result ≡ true → size ≤ room_at self.now.places (number % 256) }
+    {
+        match self.tasks.passing(number) {
+            Some(brought) => {
+                matches!(outcome, Outcome::Done)
+                    && brought == size
+                    && size <= self.places.room((number % NUMBER_TAGS) as u16)
+            }
+            None => false,
+        }
     }
 
     /// The bytes that a tag was given ([`AnswerData::Given`]), until the next packet.

@@ -18,22 +18,24 @@
 //! 3. A command: success, with its length. Its unit, the first 1,024 bytes, is dropped where it is shorter than 4 or its tag has no place.
 //!    Else the answer is kept, the device receives the unit, and its tag is served. Where the tag has a task, a held transfer of its status
 //!    is first answered by Response 0Ah. An ABORT TASK forgets what is kept of the tag that it names, a LOGICAL UNIT RESET all.
-//! 4. Its stream has no place, a data-out is longer than 524,288 bytes, or its place holds a transfer: stall.
+//! 4. Its stream has no place, a data-out is longer than 524,288 bytes or comes where a held data-in was given bytes, or its place holds a
+//!    transfer: stall.
 //! 5. No bytes: success, and what its place kept is forgotten. Else it is held, and its tag is served.
 //!
 //! Serving a tag, one step at a time, the first that holds:
 //!
 //! | When | Step |
 //! |---|---|
-//! | a data-in is held that takes no more | it ends, with what it was given |
+//! | a data-in is held that has all its bytes | it ends |
 //! | a data-out is held that is used up | it ends, with all of it |
 //! | the task asks | the request is asked |
-//! | the task gives, and a data-in is held | at most 4,096 bytes go into it |
+//! | the task gives, and a data-in is held | at most 4,096 bytes go into it, or it ends where a held data-out left it no room |
 //! | the task takes, and a data-out is held | it takes from it |
 //! | the task has ended | a held data-in ends, then a held data-out, then a held status takes the unit |
 //!
 //! All these ends are success, but for a status transfer that is shorter than the unit: it ends by babble, and the unit stays due. A data-in
-//! takes at most 524,288 bytes, however long it is.
+//! takes at most 524,288 bytes, however long it is. The bytes of a Read that is done go straight into a held data-in that has room for all
+//! of them.
 //!
 //! The packets about the whole device are requests of endpoint 0 (`usb_disk`). One that restarts the disk ends every task and forgets what
 //! is kept; a reset does so too; both leave what is held. Streams are all there at any time, so that their packets only forget what is kept.

@@ -69,10 +69,13 @@ impl UsbTags {
         requires { wanted self.old.tasks tag ≡ Gives bytes }
         ensures { (self.new, result) ≡ served_gives self.old tag bytes }
     {
-        if self.places.held(Pipe::DataIn, tag).is_none() {
+        let Some(transfer) = self.places.held(Pipe::DataIn, tag) else {
             return Next::Quiet;
-        }
+        };
         let room = self.places.room(tag);
+        if room == 0 {
+            return self.end_in(tag, transfer);
+        }
         self.give(tag, bytes.min(room).min(PART_BYTES));
         Next::Moved
     }
@@ -232,11 +235,11 @@ impl UsbTags {
     }
 }
 
-/// The held data-in of a tag where it takes no more.
+/// The held data-in of a tag where it has all its bytes.
 fn full_in(places: &Places, tag: u16) -> Option<Transfer>
     ensures { result ≡ full_in places.now tag }
 {
-    if places.room(tag) == 0 {
+    if places.is_full(tag) {
         places.held(Pipe::DataIn, tag)
     } else {
         None

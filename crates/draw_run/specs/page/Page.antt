@@ -1,7 +1,7 @@
 -- The page of a trace.
 use Rattle.std.specs.Prelude.{ℕ, List, ◌++◌, codes}
 use Rattle.std.specs.Fmt.{decimal}
-use Rattle.uas_profile.specs.declared.TheConstants.{EVENT_RING_PLACES, TAGS}
+use Rattle.uas_profile.specs.declared.TheConstants.{EVENT_RING_PLACES}
 use Rattle.uas_decode.specs.Runs.{decoded}
 use Rattle.draw_run.specs.declared.page.markup.TheConstants.{HEAD, STYLE, BODY}
 use Rattle.draw_run.specs.declared.page.script_run.TheConstants.{SCRIPT_RUN}
@@ -19,13 +19,13 @@ unfoldable pub number : List ℕ → ℕ → List ℕ
 number name value = name ++ decimal value
 
 -- the numbers that the script asks for: how many clients there are, how many tags each has, and how many places the event ring has
-unfoldable pub numbers : ℕ → List ℕ
-numbers clients = number (codes "{\"clients\":") clients ++ number (codes ",\"tags\":") TAGS ++ number (codes ",\"events\":") EVENT_RING_PLACES
+unfoldable pub numbers : ℕ → ℕ → List ℕ
+numbers clients tags = number (codes "{\"clients\":") clients ++ number (codes ",\"tags\":") tags ++ number (codes ",\"events\":") EVENT_RING_PLACES
 
 -- A trace as data: the trace with what its bytes say, as `decode` prints it, inside a string.
-unfoldable pub data_of : ℕ → List ℕ → List ℕ
-data_of clients trace = numbers clients ++ codes ",\"text\":\"" ++ embedded (decoded trace) ++ codes "\"}"
+unfoldable pub data_of : ℕ → ℕ → List ℕ → List ℕ
+data_of clients tags trace = numbers clients tags ++ codes ",\"text\":\"" ++ embedded (decoded trace) ++ codes "\"}"
 
--- the page of a trace of so many clients
-unfoldable pub page_of : ℕ → List ℕ → List ℕ
-page_of clients trace = head ++ data_of clients trace ++ tail
+-- the page of a trace of so many clients with so many tags each
+unfoldable pub page_of : ℕ → ℕ → List ℕ → List ℕ
+page_of clients tags trace = head ++ data_of clients tags trace ++ tail

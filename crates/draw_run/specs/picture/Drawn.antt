@@ -52,8 +52,8 @@ is_row _ = true
 unfoldable pub is_step : Mark → Bool
 is_step (mark.Handed client) = true
 is_step (mark.Taken client) = true
-is_step (mark.OfTag tag) = true
-is_step (mark.Hold pipe tag) = true
+is_step (mark.OfClient client) = true
+is_step (mark.Hold pipe client) = true
 is_step mark.Heard = true
 is_step mark.Step = true
 is_step _ = false
@@ -71,9 +71,9 @@ shape_of (mark.Chunk false) = Arrow Rings Device
 shape_of mark.Event = Arrow Controller Host
 shape_of mark.Release = Arrow Controller Rings
 shape_of (mark.Taken client) = Dot Host
-shape_of (mark.Hold pipe tag) = Dot Host
+shape_of (mark.Hold pipe client) = Dot Host
 shape_of mark.Heard = Dot Host
-shape_of (mark.OfTag tag) = Dot Controller
+shape_of (mark.OfClient client) = Dot Controller
 shape_of mark.Step = Dot Controller
 shape_of _ = Nothing
 
@@ -133,6 +133,6 @@ row_text clients point mark line =
 abbrev pub drawn_as : ℕ → Point → Mark → List ℕ → List ℕ
 drawn_as clients point mark line = if is_row mark then row_text clients point mark line else []
 
--- A line that stands at a point, as it is drawn.
-unfoldable pub drawn : ℕ → Point → List ℕ → List ℕ
-drawn clients point line = drawn_as clients point (mark_of line) line
+-- A line that stands at a point, as it is drawn, of so many clients with so many tags each.
+unfoldable pub drawn : ℕ → ℕ → Point → List ℕ → List ℕ
+drawn clients tags point line = drawn_as clients point (mark_of tags line) line

@@ -1,7 +1,8 @@
 -- What is around the rows of a picture: its size, what it is, its colours and its lanes.
-use Rattle.std.specs.Prelude.{ℕ, zero, suc, List, [], ◌++◌, codes, Option, Some, None}
+use Rattle.std.specs.Prelude.{ℕ, zero, suc, nat_lt, if◌then◌else◌, List, [], ◌++◌, codes, Option, Some, None}
 use Rattle.std.specs.Fmt.{decimal}
-use Rattle.draw_run.specs.declared.picture.frame.TheConstants.{ABOUT, COLOURS, GROUND, STYLE}
+use Rattle.uas_profile.specs.declared.TheConstants.{USUAL_CLIENTS}
+use Rattle.draw_run.specs.declared.picture.frame.TheConstants.{ABOUT, COLOURS, GROUND, MORE_COLOURS, STYLE}
 use Rattle.draw_run.specs.declared.picture.Held.{Held}
 use Rattle.draw_run.specs.declared.picture.Lane.{Lane}
 use Rattle.draw_run.specs.declared.picture.Lane.TheVariants.{Client, Host, Rings, Controller, Device}
@@ -53,14 +54,18 @@ device_lanes clients bottom =
 
 -- HEAD AND FOOT
 
+-- the colours of the clients from 15 on, where there are so many
+unfoldable pub more_colours : ℕ → List ℕ
+more_colours clients = if nat_lt USUAL_CLIENTS clients then MORE_COLOURS.now else []
+
 -- what the picture shows, how it looks, and a ground
-unfoldable pub style : List ℕ
-style = ABOUT.now ++ STYLE.now ++ COLOURS.now ++ GROUND.now
+unfoldable pub style : ℕ → List ℕ
+style clients = ABOUT.now ++ STYLE.now ++ COLOURS.now ++ more_colours clients ++ GROUND.now
 
 -- what stands above so many rows
 unfoldable pub head : ℕ → ℕ → List ℕ
 head clients rows =
-    size (width_of clients) (row_y rows) ++ title clients ++ style
+    size (width_of clients) (row_y rows) ++ title clients ++ style clients
     ++ client_lanes clients (row_y rows) clients ++ device_lanes clients (row_y rows)
 
 abbrev pub bar_still : ℕ → ℕ → Option Held → List ℕ

@@ -1,18 +1,13 @@
 -- Where a line stands: its row, whose step it is, and the pipe that is held there.
-use Rattle.std.specs.Prelude.{ℕ, ◌+◌, ◌-◌, ◌/◌, ◌%◌, ◌^◌, ◌==◌, min, if◌then◌else◌, Option, Some, None}
-use Rattle.uas_profile.specs.declared.TheConstants.{TAGS}
+use Rattle.std.specs.Prelude.{ℕ, ◌+◌, ◌-◌, ◌^◌, ◌==◌, min, if◌then◌else◌, Option, Some, None}
 use Rattle.draw_run.specs.declared.picture.Held.{Held}
 use Rattle.draw_run.specs.declared.picture.Mark.{Mark}
-use Rattle.draw_run.specs.declared.picture.Mark.TheVariants.{Blank, Handed, Taken, OfTag, Hold, Heard, Step, Event, Release, Told}
+use Rattle.draw_run.specs.declared.picture.Mark.TheVariants.{Blank, Handed, Taken, OfClient, Hold, Heard, Step, Event, Release, Told}
 use Rattle.draw_run.specs.declared.picture.Point.{Point}
 
 -- before the first line
 abbrev pub start : Point
 start = record { row = 0; client = None; posted = 0; heard = 0; held = None }
-
--- the client of a tag, from its number: 1 to 16 are client 0's
-unfoldable pub client_of : ℕ → ℕ
-client_of tag = (tag - 1) / TAGS % 256
 
 -- a row more, of a step of this client; the last number that a row has is that of all behind it
 unfoldable pub with_client : Point → Option ℕ → Point
@@ -55,8 +50,8 @@ after point Blank = point
 after point (Handed client) = with_client point (Some client)
 after point (Taken client) = with_client point (Some client)
 after point (Told client) = with_client point (Some client)
-after point (OfTag tag) = with_client point (Some (client_of tag))
-after point (Hold pipe tag) = with_client (held_by point pipe) (Some (client_of tag))
+after point (OfClient client) = with_client point (Some client)
+after point (Hold pipe client) = with_client (held_by point pipe) (Some client)
 after point Heard = with_client (event_heard point) None
 after point Step = with_client point None
 after point Event = with_client (event_posted point) point.client

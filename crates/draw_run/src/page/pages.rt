@@ -9,16 +9,16 @@ use crate::page::script_run::SCRIPT_RUN;
 use crate::page::script_view::SCRIPT_VIEW;
 use std::alloc::{AllocError, Global};
 use uas_decode::decoded;
-use uas_profile::{EVENT_RING_PLACES, TAGS};
+use uas_profile::EVENT_RING_PLACES;
 
-/// The page of a trace of so many clients.
+/// The page of a trace of so many clients with so many tags each.
 #[tactic(auto, unfolding(crate::specs::page::Page::page_of))]
-pub fn page(alloc: Global, clients: u8, trace: &[u8]) -> Result<Vec<u8>, AllocError>
-    ensures { IfOk result (λ page. page.items ≡ page_of clients trace.now) }
+pub fn page(alloc: Global, clients: u8, tags: usize, trace: &[u8]) -> Result<Vec<u8>, AllocError>
+    ensures { IfOk result (λ page. page.items ≡ page_of clients tags trace.now) }
 {
     let mut page = Vec::new(alloc);
     push_head(&mut page)?;
-    push_data(&mut page, clients, trace)?;
+    push_data(&mut page, clients, tags, trace)?;
     push_tail(&mut page)?;
     Ok(page)
 }
@@ -36,10 +36,10 @@ fn push_head(page: &mut Vec<u8>) -> Result<(), AllocError>
 
 /// Adds a trace as data, with what its bytes say.
 #[tactic(auto, unfolding(crate::specs::page::Page::data_of))]
-fn push_data(page: &mut Vec<u8>, clients: u8, trace: &[u8]) -> Result<(), AllocError>
-    ensures { OnOk result (page.new.items ≡ page.old.items ++ data_of clients trace.now) }
+fn push_data(page: &mut Vec<u8>, clients: u8, tags: usize, trace: &[u8]) -> Result<(), AllocError>
+    ensures { OnOk result (page.new.items ≡ page.old.items ++ data_of clients tags trace.now) }
 {
-    push_numbers(page, clients)?;
+    push_numbers(page, clients, tags)?;
     page.extend_from_slice(b",\"text\":\"")?;
     let text = decoded(*page.allocator(), trace)?;
     push_embedded(page, &text)?;
@@ -48,11 +48,11 @@ fn push_data(page: &mut Vec<u8>, clients: u8, trace: &[u8]) -> Result<(), AllocE
 
 /// Adds the numbers that the script asks for.
 #[tactic(auto, unfolding(crate::specs::page::Page::numbers))]
-fn push_numbers(page: &mut Vec<u8>, clients: u8) -> Result<(), AllocError>
-    ensures { OnOk result (page.new.items ≡ page.old.items ++ numbers clients) }
+fn push_numbers(page: &mut Vec<u8>, clients: u8, tags: usize) -> Result<(), AllocError>
+    ensures { OnOk result (page.new.items ≡ page.old.items ++ numbers clients tags) }
 {
     push_number(page, "{\"clients\":", usize::from(clients))?;
-    push_number(page, ",\"tags\":", TAGS)?;
+    push_number(page, ",\"tags\":", tags)?;
     push_number(page, ",\"events\":", EVENT_RING_PLACES)?;
     Ok(())
 }

@@ -58,7 +58,7 @@ impl Mark {
             Mark::Chunk { .. } => "chunk",
             Mark::Event => "event",
             Mark::Release => "context",
-            Mark::Taken(_) | Mark::OfTag(_) | Mark::Hold { .. } | Mark::Heard | Mark::Step => {
+            Mark::Taken(_) | Mark::OfClient(_) | Mark::Hold { .. } | Mark::Heard | Mark::Step => {
                 "step"
             }
             Mark::Blank | Mark::Other => "other",
@@ -82,7 +82,7 @@ impl Mark {
             self,
             Mark::Handed(_)
                 | Mark::Taken(_)
-                | Mark::OfTag(_)
+                | Mark::OfClient(_)
                 | Mark::Hold { .. }
                 | Mark::Heard
                 | Mark::Step
@@ -106,7 +106,7 @@ impl Mark {
             Mark::Event => (Lane::Controller, Lane::Host),
             Mark::Release => (Lane::Controller, Lane::Rings),
             Mark::Taken(_) | Mark::Hold { .. } | Mark::Heard => return Shape::Dot(Lane::Host),
-            Mark::OfTag(_) | Mark::Step => return Shape::Dot(Lane::Controller),
+            Mark::OfClient(_) | Mark::Step => return Shape::Dot(Lane::Controller),
             Mark::Blank | Mark::Other => return Shape::Nothing,
         };
         Shape::Arrow { from, to }

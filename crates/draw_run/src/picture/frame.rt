@@ -1,12 +1,13 @@
 //! What is around the rows of a picture: its size, what it is, its colours and its lanes.
 
 ghost use Rattle.std.specs.Prelude.{◌≡◌, ◌++◌, OnOk};
-ghost use Rattle.draw_run.specs.picture.Frame.{client_lanes, device_lanes, foot, head, lane_line, lane_name, lane_start, lane_text, size, style, title};
+ghost use Rattle.draw_run.specs.picture.Frame.{client_lanes, device_lanes, foot, head, lane_line, lane_name, lane_start, lane_text, more_colours, size, style, title};
 
 use crate::picture::draw::{push_bar, push_colour, row_y, width_of};
 use crate::picture::elements::{push_attribute, push_text_at};
 use crate::picture::{Lane, Point};
 use std::alloc::AllocError;
+use uas_profile::USUAL_CLIENTS;
 
 /// What a picture shows, for readers who can't see it.
 pub const ABOUT: &str =
@@ -22,7 +23,7 @@ text{font-family:monospace;font-size:10px;stroke:none}
 .held{fill:#f0a000;fill-opacity:.5;stroke:none}
 ";
 
-/// The colour of each client, and of what has none.
+/// The colour of each of 15 clients, and of what has none.
 pub const COLOURS: &str = ".none{fill:#444;stroke:#444}
 .c0{fill:#0b57d0;stroke:#0b57d0}
 .c1{fill:#b3261e;stroke:#b3261e}
@@ -39,11 +40,30 @@ pub const COLOURS: &str = ".none{fill:#444;stroke:#444}
 .c12{fill:#b04400;stroke:#b04400}
 .c13{fill:#37517e;stroke:#37517e}
 .c14{fill:#7a5f00;stroke:#7a5f00}
-</style>
 ";
 
-/// A white ground.
-pub const GROUND: &str = "<rect width=\"100%\" height=\"100%\" fill=\"#fff\"/>\n";
+/// The colours of the clients from 15 on.
+pub const MORE_COLOURS: &str = ".c15{fill:#c2185b;stroke:#c2185b}
+.c16{fill:#1a4f8b;stroke:#1a4f8b}
+.c17{fill:#3f7d20;stroke:#3f7d20}
+.c18{fill:#6a1b9a;stroke:#6a1b9a}
+.c19{fill:#bf360c;stroke:#bf360c}
+.c20{fill:#00737d;stroke:#00737d}
+.c21{fill:#880e4f;stroke:#880e4f}
+.c22{fill:#6d6a00;stroke:#6d6a00}
+.c23{fill:#283593;stroke:#283593}
+.c24{fill:#a52a2a;stroke:#a52a2a}
+.c25{fill:#1f7a63;stroke:#1f7a63}
+.c26{fill:#a100c2;stroke:#a100c2}
+.c27{fill:#8a5a00;stroke:#8a5a00}
+.c28{fill:#455a64;stroke:#455a64}
+.c29{fill:#5d3fd3;stroke:#5d3fd3}
+.c30{fill:#1b5e20;stroke:#1b5e20}
+";
+
+/// The end of the style, and a white ground.
+pub const GROUND: &str = "</style>
+<rect width=\"100%\" height=\"100%\" fill=\"#fff\"/>\n";
 
 /// Begins a picture of so many clients and rows.
 pub(crate) fn push_head(text: &mut Vec<u8>, clients: u8, rows: u32) -> Result<(), AllocError>
@@ -52,7 +72,7 @@ pub(crate) fn push_head(text: &mut Vec<u8>, clients: u8, rows: u32) -> Result<()
     let bottom = row_y(rows);
     push_size(text, width_of(clients), bottom)?;
     push_title(text, clients)?;
-    push_style(text)?;
+    push_style(text, clients)?;
     push_client_lanes(text, clients, bottom)?;
     push_device_lanes(text, clients, bottom)?;
     Ok(())
@@ -79,13 +99,25 @@ fn push_title(text: &mut Vec<u8>, clients: u8) -> Result<(), AllocError>
 }
 
 /// Adds what the picture shows, how it looks, and a ground.
-fn push_style(text: &mut Vec<u8>) -> Result<(), AllocError>
-    ensures { OnOk result (text.new.items ≡ text.old.items ++ style) }
+fn push_style(text: &mut Vec<u8>, clients: u8) -> Result<(), AllocError>
+    ensures { OnOk result (text.new.items ≡ text.old.items ++ style clients) }
 {
     text.extend_from_slice(ABOUT.as_bytes())?;
     text.extend_from_slice(STYLE.as_bytes())?;
     text.extend_from_slice(COLOURS.as_bytes())?;
+    push_more_colours(text, clients)?;
     text.extend_from_slice(GROUND.as_bytes())?;
+    Ok(())
+}
+
+/// Adds the colours of the clients from 15 on, where there are so many.
+#[tactic(auto, unfolding(crate::specs::picture::Frame::more_colours))]
+fn push_more_colours(text: &mut Vec<u8>, clients: u8) -> Result<(), AllocError>
+    ensures { OnOk result (text.new.items ≡ text.old.items ++ more_colours clients) }
+{
+    if usize::from(clients) > USUAL_CLIENTS {
+        text.extend_from_slice(MORE_COLOURS.as_bytes())?;
+    }
     Ok(())
 }
 

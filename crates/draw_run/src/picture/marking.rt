@@ -2,35 +2,38 @@
 
 ghost use Rattle.std.specs.Prelude.{◌≡◌, ◌≤◌, IfOk, IfSome, map};
 ghost use Rattle.std.specs.Str.{bytes_eq};
+ghost use Rattle.uas_profile.specs.Tags.{AreTags};
 ghost use Rattle.draw_run.specs.picture.Marks.{client_at, handed_mark, is_hosts_unit, mark_of, mark_of_words, hold_mark, number_at};
-ghost use Rattle.draw_run.specs.picture.Marks.{step_mark, tag_at, tag_mark, taken_mark, told_mark, unit_mark, written_mark};
+ghost use Rattle.draw_run.specs.picture.Marks.{owner_at, step_mark, tag_mark, taken_mark, told_mark, unit_mark, written_mark};
 
 use crate::picture::Mark;
 use byte_io::{number_in, words};
 use std::alloc::{AllocError, Global};
-use uas_profile::{GREATEST_TAG, USUAL_CLIENTS};
+use uas_profile::{MAX_CLIENTS, STREAMS, client_of};
 
 /// The greatest number of a client.
-const LAST_CLIENT: u64 = USUAL_CLIENTS as u64 - 1;
+const LAST_CLIENT: u64 = MAX_CLIENTS as u64 - 1;
 
-/// Of what kind a line is.
+/// Of what kind a line is, where each client has so many tags.
 #[tactic(auto, unfolding(crate::specs::picture::Marks::mark_of))]
-pub fn mark_of(alloc: Global, line: &[u8]) -> Result<Mark, AllocError>
-    ensures { IfOk result (λ mark. mark ≡ mark_of line.now) }
+pub fn mark_of(alloc: Global, tags: usize, line: &[u8]) -> Result<Mark, AllocError>
+    requires { AreTags tags }
+    ensures { IfOk result (λ mark. mark ≡ mark_of tags line.now) }
 {
     let words = words(alloc, line)?;
     let is_written = line.get(0).copied().unwrap_or(0) == b' ';
-    Ok(mark_of_words(is_written, &words))
+    Ok(mark_of_words(tags, is_written, &words))
 }
 
 /// Of what kind a line of these words is, indented or not.
 #[tactic(auto, unfolding(crate::specs::picture::Marks::mark_of_words))]
-fn mark_of_words(is_written: bool, words: &[&[u8]]) -> Mark
-    ensures { result ≡ mark_of_words is_written (map (λ word. word.now) words.now) }
+fn mark_of_words(tags: usize, is_written: bool, words: &[&[u8]]) -> Mark
+    requires { AreTags tags }
+    ensures { result ≡ mark_of_words tags is_written (map (λ word. word.now) words.now) }
 {
     match words.get(0) {
         Some(first) if is_written => written_mark(first, words),
-        Some(first) => step_mark(first, words),
+        Some(first) => step_mark(tags, first, words),
         None => Mark::Blank,
     }
 }
@@ -89,17 +92,18 @@ fn is_hosts_unit(bytes: &[u8]) -> bool
 
 /// Of what kind the line of a step is, or of what a client was told.
 #[tactic(auto, unfolding(crate::specs::picture::Marks::step_mark))]
-fn step_mark(first: &[u8], words: &[&[u8]]) -> Mark
-    ensures { result ≡ step_mark first.now (map (λ word. word.now) words.now) }
+fn step_mark(tags: usize, first: &[u8], words: &[&[u8]]) -> Mark
+    requires { AreTags tags }
+    ensures { result ≡ step_mark tags first.now (map (λ word. word.now) words.now) }
 {
     if is_word(first, "submit") || is_word(first, "task") {
         handed_mark(words)
     } else if is_word(first, "take") {
         taken_mark(words)
     } else if is_word(first, "data") || is_word(first, "status") {
-        tag_mark(words)
+        tag_mark(tags, words)
     } else if is_word(first, "retire") {
-        hold_mark(words)
+        hold_mark(tags, words)
     } else if is_word(first, "event") {
         Mark::Heard
     } else if is_word(first, "command") || is_word(first, "engine") {
@@ -144,24 +148,26 @@ fn told_mark(words: &[&[u8]]) -> Mark
 
 /// `data TAG`, `status TAG`
 #[tactic(auto, unfolding(crate::specs::picture::Marks::tag_mark))]
-fn tag_mark(words: &[&[u8]]) -> Mark
-    ensures { result ≡ tag_mark (map (λ word. word.now) words.now) }
+fn tag_mark(tags: usize, words: &[&[u8]]) -> Mark
+    requires { AreTags tags }
+    ensures { result ≡ tag_mark tags (map (λ word. word.now) words.now) }
 {
-    match tag_at(words, 1) {
-        Some(tag) => Mark::OfTag(tag),
+    match owner_at(tags, words, 1) {
+        Some(client) => Mark::OfClient(client),
         None => Mark::Other,
     }
 }
 
 /// `retire PIPE TAG`
 #[tactic(auto, unfolding(crate::specs::picture::Marks::hold_mark))]
-fn hold_mark(words: &[&[u8]]) -> Mark
-    ensures { result ≡ hold_mark (map (λ word. word.now) words.now) }
+fn hold_mark(tags: usize, words: &[&[u8]]) -> Mark
+    requires { AreTags tags }
+    ensures { result ≡ hold_mark tags (map (λ word. word.now) words.now) }
 {
-    match (number_at(words, 1, 2, 4), tag_at(words, 2)) {
-        (Some(pipe), Some(tag)) => Mark::Hold {
+    match (number_at(words, 1, 2, 4), owner_at(tags, words, 2)) {
+        (Some(pipe), Some(client)) => Mark::Hold {
             pipe: pipe as u8,
-            tag,
+            client,
         },
         _ => Mark::Other,
     }
@@ -176,20 +182,22 @@ fn client_at(words: &[&[u8]], place: usize) -> Option<u8>
     Some(client as u8)
 }
 
-/// The word at a place, as a tag.
-#[tactic(auto, unfolding(crate::specs::picture::Marks::tag_at))]
-fn tag_at(words: &[&[u8]], place: usize) -> Option<u16>
-    ensures { result ≡ tag_at (map (λ word. word.now) words.now) place }
+/// The client of the tag at a place.
+#[tactic(auto, unfolding(crate::specs::picture::Marks::owner_at), using(crate::proofs::Owners::owner_small))]
+fn owner_at(tags: usize, words: &[&[u8]], place: usize) -> Option<u8>
+    requires { AreTags tags }
+    ensures { result ≡ owner_at tags (map (λ word. word.now) words.now) place }
 {
-    let tag = number_at(words, place, 1, u64::from(GREATEST_TAG))?;
-    Some(tag as u16)
+    let tag = number_at(words, place, 1, u64::from(STREAMS))?;
+    Some(client_of(tags, tag as u16) as u8)
 }
 
 /// The word at a place, as a number of this range.
-#[tactic(auto, unfolding(crate::specs::picture::Marks::number_at))]
+#[tactic(auto, unfolding(crate::specs::picture::Marks::number_at), using(crate::proofs::Owners::number_least))]
 fn number_at(words: &[&[u8]], place: usize, least: u64, most: u64) -> Option<u64>
     ensures value { result ≡ number_at (map (λ word. word.now) words.now) place least most }
-    ensures range { IfSome result (λ value. value ≤ most) }
+    ensures least { IfSome result (λ value. least ≤ value) }
+    ensures most { IfSome result (λ value. value ≤ most) }
 {
     number_in(least, most, words.get(place)?)
 }

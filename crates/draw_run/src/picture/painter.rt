@@ -1,6 +1,7 @@
 //! The picture of a trace.
 
 ghost use Rattle.std.specs.Prelude.{◌≡◌, ◌++◌, IfOk, OnOk, map};
+ghost use Rattle.uas_profile.specs.Tags.{AreTags};
 ghost use Rattle.draw_run.specs.picture.Drawn.{drawn};
 ghost use Rattle.draw_run.specs.picture.Picture.{after_line, last, picture_of, rows_of};
 
@@ -11,14 +12,15 @@ use crate::picture::{Point, mark_of};
 use byte_io::pieces;
 use std::alloc::{AllocError, Global};
 
-/// The picture of a trace of so many clients.
+/// The picture of a trace of so many clients with so many tags each.
 #[tactic(auto, unfolding(crate::specs::picture::Picture::picture_of))]
-pub fn picture(alloc: Global, clients: u8, trace: &[u8]) -> Result<Vec<u8>, AllocError>
-    ensures { IfOk result (λ picture. picture.items ≡ picture_of clients trace.now) }
+pub fn picture(alloc: Global, clients: u8, tags: usize, trace: &[u8]) -> Result<Vec<u8>, AllocError>
+    requires { AreTags tags }
+    ensures { IfOk result (λ picture. picture.items ≡ picture_of clients tags trace.now) }
 {
     let lines = pieces(alloc, trace)?;
     let mut rows = Vec::new(alloc);
-    let last = push_rows(&mut rows, clients, &lines)?;
+    let last = push_rows(&mut rows, clients, tags, &lines)?;
     let mut picture = Vec::new(alloc);
     push_head(&mut picture, clients, last.row)?;
     picture.extend_from_slice(&rows)?;
@@ -28,13 +30,19 @@ pub fn picture(alloc: Global, clients: u8, trace: &[u8]) -> Result<Vec<u8>, Allo
 
 /// Draws each line where it stands, and answers where the picture ends.
 #[tactic(auto, unfolding(crate::specs::picture::Picture::last, crate::specs::picture::Picture::rows_of))]
-fn push_rows(text: &mut Vec<u8>, clients: u8, lines: &[&[u8]]) -> Result<Point, AllocError>
-    ensures rows { OnOk result (text.new.items ≡ text.old.items ++ rows_of clients (map (λ line. line.now) lines.now)) }
-    ensures last { IfOk result (λ point. point ≡ last (map (λ line. line.now) lines.now)) }
+fn push_rows(
+    text: &mut Vec<u8>,
+    clients: u8,
+    tags: usize,
+    lines: &[&[u8]],
+) -> Result<Point, AllocError>
+    requires { AreTags tags }
+    ensures rows { OnOk result (text.new.items ≡ text.old.items ++ rows_of clients tags (map (λ line. line.now) lines.now)) }
+    ensures last { IfOk result (λ point. point ≡ last tags (map (λ line. line.now) lines.now)) }
 {
     let mut point = start();
     for line in lines {
-        point = push_line(text, clients, point, line)?;
+        point = push_line(text, clients, tags, point, line)?;
     }
     Ok(point)
 }
@@ -44,13 +52,15 @@ fn push_rows(text: &mut Vec<u8>, clients: u8, lines: &[&[u8]]) -> Result<Point, 
 fn push_line(
     text: &mut Vec<u8>,
     clients: u8,
+    tags: usize,
     point: Point,
     line: &[u8],
 ) -> Result<Point, AllocError>
-    ensures row { OnOk result (text.new.items ≡ text.old.items ++ drawn clients point line.now) }
-    ensures next { IfOk result (λ next. next ≡ after_line point line.now) }
+    requires { AreTags tags }
+    ensures row { OnOk result (text.new.items ≡ text.old.items ++ drawn clients tags point line.now) }
+    ensures next { IfOk result (λ next. next ≡ after_line tags point line.now) }
 {
-    let mark = mark_of(*text.allocator(), line)?;
+    let mark = mark_of(*text.allocator(), tags, line)?;
     push_drawn(text, clients, point, mark, line)?;
     Ok(point.after(mark))
 }

@@ -1,10 +1,9 @@
 //! Where a line stands: its row, whose step it is, and the pipe that is held.
 
 ghost use Rattle.std.specs.Prelude.{◌≡◌};
-ghost use Rattle.draw_run.specs.picture.Points.{after, client_of, event_heard, event_posted, held_by, released, released_by, start, with_client};
+ghost use Rattle.draw_run.specs.picture.Points.{after, event_heard, event_posted, held_by, released, released_by, start, with_client};
 
 use crate::picture::{Held, Mark, Point};
-use uas_profile::TAGS;
 
 /// Before the first line.
 pub fn start() -> Point
@@ -19,14 +18,6 @@ pub fn start() -> Point
     }
 }
 
-/// The client of a tag.
-#[tactic(auto, unfolding(crate::specs::picture::Points::client_of))]
-fn client_of(tag: u16) -> u8
-    ensures { result ≡ client_of tag }
-{
-    (tag.saturating_sub(1) / TAGS as u16 % 256) as u8
-}
-
 impl Point {
     /// Where the next line stands, behind one of this kind.
     #[tactic(auto, unfolding(crate::specs::picture::Points::after))]
@@ -35,11 +26,11 @@ impl Point {
     {
         match mark {
             Mark::Blank => self,
-            Mark::Handed(client) | Mark::Taken(client) | Mark::Told(client) => {
-                self.with_client(Some(client))
-            }
-            Mark::OfTag(tag) => self.with_client(Some(client_of(tag))),
-            Mark::Hold { pipe, tag } => self.held_by(pipe).with_client(Some(client_of(tag))),
+            Mark::Handed(client)
+            | Mark::Taken(client)
+            | Mark::OfClient(client)
+            | Mark::Told(client) => self.with_client(Some(client)),
+            Mark::Hold { pipe, client } => self.held_by(pipe).with_client(Some(client)),
             Mark::Heard => self.event_heard().with_client(None),
             Mark::Step => self.with_client(None),
             Mark::Event => self.event_posted().with_client(self.client),

@@ -1,20 +1,19 @@
 //! The bus's handle in C: made, called and freed.
-ghost use Rattle.std.specs.Prelude.{◌≡◌, ℕ, List, [], ◌<◌, ◌^◌, true};
+ghost use Rattle.std.specs.Prelude.{◌≡◌, ℕ, List, ◌<◌, ◌^◌, true};
 ghost use types.Logic.{sem};
 ghost use base.Fraction.{full_share};
 ghost use denote.RawPtr.{lies_at, room_at};
 ghost use Rattle.shared_machine.specs.Shared.{Shared, opening};
-ghost use Rattle.uas_profile.specs.declared.TheConstants.{TAGS};
-ghost use Rattle.uas_c.specs.BusCall.{bus_answer};
+ghost use Rattle.uas_c.specs.BusCall.{bus_answer, bus_told};
 ghost use Rattle.c_common.specs.Handed.{handed};
 ghost use Rattle.c_common.specs.HandedOut.{handed_out};
-ghost use Rattle.c_common.specs.Units.{opened_units, units_told};
+ghost use Rattle.c_common.specs.Units.{opened_units};
 ghost use Rattle.uas_c.specs.contracts.bus.KeptBus.{the_row as bus_row};
 ghost use Rattle.uas_c.specs.contracts.bus.UasBusDoor.{the_row as door_row};
 ghost use Rattle.uas_c.specs.declared.bus.UasBusDoor.{UasBusDoor};
 
-use crate::bus::{KeptBus, UasBusDoor, serve};
-use c_common::{UasBadBlock, new_handle, open_handle};
+use crate::bus::{KeptBus, UasBusDoor, made, serve};
+use c_common::{UasBadBlock, hand_out_made};
 use std::alloc::Global;
 
 /// The bus's name in C, which knows no more of it.
@@ -23,32 +22,25 @@ pub struct UasBus {
     hidden: u8,
 }
 
-/// Makes a bus of zeroed units of so many blocks each, one for each client. The number of the fault, where `bus` is as it was, or 0:
-/// `UNITS` no client or more than 15, `BLOCKS` a unit of no blocks or of more than 65,536, `NO_MEMORY`.
+/// Makes a bus of so many tags of each client and of a unit of so many blocks for each client. Their blocks and media are their parts of
+/// `image`, one behind the other, or zeros where that is empty, and these blocks are bad. The number of the fault, where `bus` is as it was,
+/// or 0: `TAGS` another number of tags than 2 to 16, `UNITS` no client or more than there are with so many tags, `BLOCKS` a unit of no
+/// blocks or of more than 65,536, `IMAGE` an image of another length than all blocks, `BAD_BLOCK` a bad block that is none of theirs,
+/// `NO_MEMORY`.
 #[unsafe(no_mangle)]
-pub extern "C" fn uas_bus_new(alloc: Global, blocks: &[u32], bus: &mut *mut UasBus) -> u8
-    ensures fault { units_told result blocks.now [] [] ≡ true }
-    ensures refused { 0 < result → bus.new ≡ bus.old }
-    ensures* handed_out { sem 𝓛 (handed_out bus_row (λ made. made ≡ opening TAGS (opened_units blocks.now [] [])) result bus.new) }
-{
-    new_handle::<KeptBus, UasBus>(alloc, blocks, bus)
-}
-
-/// The same of units whose blocks and media are their parts of `image`, one behind the other, or zeros where that is empty, and with these
-/// bad blocks. Behind `BLOCKS`, `IMAGE` where the image has another length than all blocks, `BAD_BLOCK` where a bad block is none of theirs.
-#[unsafe(no_mangle)]
-pub extern "C" fn uas_bus_open(
+pub extern "C" fn uas_bus_open_tags(
     alloc: Global,
+    tags: usize,
     blocks: &[u32],
     image: &[u8],
     bad: &[UasBadBlock],
     bus: &mut *mut UasBus,
 ) -> u8
-    ensures fault { units_told result blocks.now image.now bad.now ≡ true }
+    ensures fault { bus_told result tags blocks.now image.now bad.now ≡ true }
     ensures refused { 0 < result → bus.new ≡ bus.old }
-    ensures* handed_out { sem 𝓛 (handed_out bus_row (λ made. made ≡ opening TAGS (opened_units blocks.now image.now bad.now)) result bus.new) }
+    ensures* handed_out { sem 𝓛 (handed_out bus_row (λ made. made ≡ opening tags (opened_units blocks.now image.now bad.now)) result bus.new) }
 {
-    open_handle::<KeptBus, UasBus>(alloc, blocks, image, bad, bus)
+    hand_out_made(made(alloc, tags, blocks, image, bad), bus)
 }
 
 /// One call of a bus: `bytes` are `length` bytes, and the bus and its door are the caller's alone. What it does and answers is

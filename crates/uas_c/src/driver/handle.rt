@@ -3,7 +3,6 @@ ghost use Rattle.std.specs.Prelude.{◌≡◌, ℕ, List, ◌<◌, ◌^◌, true
 ghost use types.Logic.{sem};
 ghost use base.Fraction.{full_share};
 ghost use denote.RawPtr.{lies_at, room_at};
-ghost use Rattle.uas_profile.specs.declared.TheConstants.{TAGS};
 ghost use Rattle.uas_driver.specs.Driver.{DriverState, IsOpening};
 ghost use Rattle.uas_c.specs.DriverCall.{clients_told, driver_answer};
 ghost use Rattle.c_common.specs.Handed.{handed};
@@ -23,15 +22,20 @@ pub struct UasDriver {
     hidden: u8,
 }
 
-/// Makes a driver of so many clients that have submitted nothing. The number of the fault, where `driver` is as it was, or 0:
-/// `DRIVER_CLIENTS` no client or more than 15, `NO_MEMORY`.
+/// Makes a driver of so many clients, with so many tags each, that have submitted nothing. The number of the fault, where `driver` is as it
+/// was, or 0: `TAGS` another number of tags than 2 to 16, `DRIVER_CLIENTS` no client or more than there are with so many tags, `NO_MEMORY`.
 #[unsafe(no_mangle)]
-pub extern "C" fn uas_driver_new(alloc: Global, clients: usize, driver: &mut *mut UasDriver) -> u8
-    ensures fault { clients_told result clients ≡ true }
+pub extern "C" fn uas_driver_open_tags(
+    alloc: Global,
+    clients: usize,
+    tags: usize,
+    driver: &mut *mut UasDriver,
+) -> u8
+    ensures fault { clients_told result clients tags ≡ true }
     ensures refused { 0 < result → driver.new ≡ driver.old }
-    ensures* handed_out { sem 𝓛 (handed_out driver_row (IsOpening TAGS clients) result driver.new) }
+    ensures* handed_out { sem 𝓛 (handed_out driver_row (IsOpening tags clients) result driver.new) }
 {
-    hand_out_made(made(alloc, clients), driver)
+    hand_out_made(made(alloc, clients, tags), driver)
 }
 
 /// One call of a driver: `bytes` are `length` bytes, and the driver and its door are the caller's alone. What it does and answers is

@@ -8,6 +8,7 @@ ghost use Rattle.uas_device_c.specs.ControllerCall.{controller_answer};
 ghost use Rattle.c_common.specs.Handed.{handed};
 ghost use Rattle.c_common.specs.HandedOut.{handed_out};
 ghost use Rattle.c_common.specs.Units.{opened_units, units_told};
+ghost use Rattle.uas_profile.specs.declared.TheConstants.{MAX_CLIENTS};
 ghost use Rattle.uas_device_c.specs.contracts.controller.KeptMachine.{the_row as machine_row};
 ghost use Rattle.uas_device_c.specs.contracts.controller.door.UasControllerDoor.{the_row as door_row};
 ghost use Rattle.uas_device_c.specs.declared.controller.door.UasControllerDoor.{UasControllerDoor};
@@ -24,14 +25,14 @@ pub struct UasController {
 }
 
 /// Makes a controller with a device of zeroed units of so many blocks each, without a task and with empty rings. The number of the fault, where `controller` is as it was,
-/// or 0: `UNITS` no unit or more than 15, `BLOCKS` a unit of no blocks or of more than 65,536, `NO_MEMORY`.
+/// or 0: `UNITS` no unit or more than 31, `BLOCKS` a unit of no blocks or of more than 65,536, `NO_MEMORY`.
 #[unsafe(no_mangle)]
 pub extern "C" fn uas_controller_new(
     alloc: Global,
     blocks: &[u32],
     controller: &mut *mut UasController,
 ) -> u8
-    ensures fault { units_told result blocks.now [] [] ≡ true }
+    ensures fault { units_told result MAX_CLIENTS blocks.now [] [] ≡ true }
     ensures refused { 0 < result → controller.new ≡ controller.old }
     ensures* handed_out { sem 𝓛 (handed_out machine_row (IsOpening (opened_units blocks.now [] [])) result controller.new) }
 {
@@ -48,7 +49,7 @@ pub extern "C" fn uas_controller_open(
     bad: &[UasBadBlock],
     controller: &mut *mut UasController,
 ) -> u8
-    ensures fault { units_told result blocks.now image.now bad.now ≡ true }
+    ensures fault { units_told result MAX_CLIENTS blocks.now image.now bad.now ≡ true }
     ensures refused { 0 < result → controller.new ≡ controller.old }
     ensures* handed_out { sem 𝓛 (handed_out machine_row (IsOpening (opened_units blocks.now image.now bad.now)) result controller.new) }
 {

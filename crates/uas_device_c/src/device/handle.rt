@@ -10,6 +10,7 @@ ghost use Rattle.uas_device_c.specs.DeviceCall.{after_call};
 ghost use Rattle.c_common.specs.Handed.{handed};
 ghost use Rattle.c_common.specs.HandedOut.{handed_out};
 ghost use Rattle.c_common.specs.Units.{opened_units, units_told};
+ghost use Rattle.uas_profile.specs.declared.TheConstants.{MAX_CLIENTS};
 ghost use Rattle.uas_device_c.specs.declared.device.UasDeviceDoor.{UasDeviceDoor};
 ghost use Rattle.uas_device_c.specs.contracts.device.UasDeviceDoor.{the_row as door_row};
 
@@ -24,10 +25,10 @@ pub struct UasDevice {
 }
 
 /// Makes a device of zeroed units of so many blocks each, without a task. The number of the fault, where `device` is as it was,
-/// or 0: `UNITS` no unit or more than 15, `BLOCKS` a unit of no blocks or of more than 65,536, `NO_MEMORY`.
+/// or 0: `UNITS` no unit or more than 31, `BLOCKS` a unit of no blocks or of more than 65,536, `NO_MEMORY`.
 #[unsafe(no_mangle)]
 pub extern "C" fn uas_device_new(alloc: Global, blocks: &[u32], device: &mut *mut UasDevice) -> u8
-    ensures fault { units_told result blocks.now [] [] ≡ true }
+    ensures fault { units_told result MAX_CLIENTS blocks.now [] [] ≡ true }
     ensures refused { 0 < result → device.new ≡ device.old }
     ensures* handed_out { sem 𝓛 (handed_out device_row (λ made. made ≡ opening GREATEST_TAG (opened_units blocks.now [] [])) result device.new) }
 {
@@ -44,7 +45,7 @@ pub extern "C" fn uas_device_open(
     bad: &[UasBadBlock],
     device: &mut *mut UasDevice,
 ) -> u8
-    ensures fault { units_told result blocks.now image.now bad.now ≡ true }
+    ensures fault { units_told result MAX_CLIENTS blocks.now image.now bad.now ≡ true }
     ensures refused { 0 < result → device.new ≡ device.old }
     ensures* handed_out { sem 𝓛 (handed_out device_row (λ made. made ≡ opening GREATEST_TAG (opened_units blocks.now image.now bad.now)) result device.new) }
 {

@@ -34,6 +34,7 @@ use Rattle.std.specs.contracts.alloc.Global as heap
 use Rattle.std.proofs.alloc.Global.TheLaws as heap_laws
 use Rattle.c_common.specs.HandedOut.{handed_if_made, handed_out, made_number}
 use Rattle.c_common.specs.Units.{opened_units, units_told}
+use Rattle.uas_profile.specs.declared.TheConstants.{MAX_CLIENTS}
 use Rattle.c_common.specs.contracts.units.UasBadBlock as bad_block
 use Rattle.c_common.proofs.HandedOut.{Made, as_it_was, handed, made_laws, one_value}
 use Rattle.c_common.specs.contracts.units.made as made
@@ -109,9 +110,9 @@ open_handle_spec 𝓤 𝓛 𝓜 𝓡 wired T Name L LN units dU dT met glue =
     enter ! 𝓣.C 𝓣.Λ fn (W.args z') (W.post z') $ alloc_all ! (λ l. pass_all ! refl (((heap_laws.the_row_laws.lawful 𝓛).typed alloc (vh ∷ []) (subst (Is heap.the_row alloc) eh are.0)).0, ((tt, (tt, (record { fits = are.1.0.0.1.0 }, tt))), ((tt, (tt, (record { fits = are.1.1.0.0.1.0 }, tt))), ((tt, (tt, (record { fits = are.1.1.1.0.0.1.0 }, tt))), ((tt, tt), tt))))) $
     calls_at ! (framed 𝓤 H 𝓜 𝓣) G known y (and_then ! (get ! refl) (and_then ! (get ! refl) (and_then ! (get ! refl) (and_then ! (get ! refl) (no_more !))))) (λ u.
     use1 𝓛 (later (some (λ (m : (Made T).Denot). (toks₁ ⊛ ‵ ((Made T).own_val m (u ∷ []))) ⊛ some (λ (end : Lasts O y.0.0 y.0.3). ‵ (lasts O y.0.0 y.0.3 end)
-    ⊛ raw (fact 𝓤 (IfOk m (λ made. units.is_of us made.value))) ⊛ raw (fact 𝓤 (units_told (made_number m) blocks.now image.now bad.now ≡ true)) ⊛ raw (fact 𝓤 (IfErr m (λ number. 0 < number))))))) (id⊢ 𝓤 _) $
+    ⊛ raw (fact 𝓤 (IfOk m (λ made. units.is_of us made.value))) ⊛ raw (fact 𝓤 (units_told (made_number m) MAX_CLIENTS blocks.now image.now bad.now ≡ true)) ⊛ raw (fact 𝓤 (IfErr m (λ number. 0 < number))))))) (id⊢ 𝓤 _) $
     await ! tt $ pick ! (λ m. split ! $ move ! (1 ∷ []) $ pick ! (λ end. split3 ! $ drop ! $ heard ! (IfOk m (λ made. units.is_of us made.value)) (λ is.
-    split ! $ heard ! (units_told (made_number m) blocks.now image.now bad.now ≡ true) (λ told. heard ! (IfErr m (λ number. 0 < number)) (λ not_0. split ! $ move ! (1 ∷ []) $
+    split ! $ heard ! (units_told (made_number m) MAX_CLIENTS blocks.now image.now bad.now ≡ true) (λ told. heard ! (IfErr m (λ number. 0 < number)) (λ not_0. split ! $ move ! (1 ∷ []) $
     peeks ! (Made T) (Is (Made T)) (shows 𝓛 (Made T)) m (u ∷ []) (λ is_m. lands_as ! refl refl (((made_laws T L).lawful 𝓛).typed m _ is_m).0 $
     sets ! (addr ! (through ! refl (stop !))) refl (tt, tt) $
     -- [what was made; four tokens; the borrow; two tokens]
@@ -132,6 +133,6 @@ open_handle_spec 𝓤 𝓛 𝓜 𝓡 wired T Name L LN units dU dT met glue =
     move ! (1 ∷ []) $ split ! $ move ! (1 ∷ []) $ split ! $ move ! (1 ∷ []) $ split ! $ keep ! (9 ∷ 8 ∷ 7 ∷ 3 ∷ 2 ∷ 0 ∷ 1 ∷ 6 ∷ 4 ∷ 5 ∷ []) $ group ! 7 $
     nothing ! $ move ! (2 ∷ 0 ∷ []) $ group ! 2 $ nothing ! $ nothing ! $ nothing ! $ nothing ! $ group ! 5 $ move ! (3 ∷ []) $
     use0 𝓛 (raw (fact 𝓤 (0 < n → end.1.0 ≡ r.now))) (fact_i 𝓤 (0 < n → end.1.0 ≡ r.now) (emp 𝓤) (as_it_was m n answer kept)) $ join ! $
-    use0 𝓛 (raw (fact 𝓤 (units_told n blocks.now image.now bad.now ≡ true))) (fact_i 𝓤 (units_told n blocks.now image.now bad.now ≡ true) (emp 𝓤)
-    (subst (λ (k : ℕ). units_told k blocks.now image.now bad.now ≡ true) (sym answer) told)) $ join ! $ keep ! (2 ∷ 1 ∷ 3 ∷ 0 ∷ []) $
+    use0 𝓛 (raw (fact 𝓤 (units_told n MAX_CLIENTS blocks.now image.now bad.now ≡ true))) (fact_i 𝓤 (units_told n MAX_CLIENTS blocks.now image.now bad.now ≡ true) (emp 𝓤)
+    (subst (λ (k : ℕ). units_told k MAX_CLIENTS blocks.now image.now bad.now ≡ true) (sym answer) told)) $ join ! $ keep ! (2 ∷ 1 ∷ 3 ∷ 0 ∷ []) $
     by ! (leaves 𝓛 En hs c z' v n (tt, (tt, (tt, (tt, (end.1.0, tt))))) (tt, (tt, (tt, (tt, (tt, tt))))))))))))))))))))))))

@@ -1,4 +1,4 @@
-use Rattle.std.proofs.Common.{◌≡◌, ℕ, ◌+◌, ◌%◌, ◌<◌, arith, sym, ◌∙◌}
+use Rattle.std.proofs.Common.{◌+◌, ◌%◌, arith, sym, ◌∙◌}
 use Rattle.std.proofs.Math.Nat.{mod-lt}
 use Rattle.std.proofs.lemmas.Bool.{eqb-false}
 use Rattle.uas_profile.specs.declared.TheConstants.{EVENT_RING_PLACES}

@@ -14,7 +14,7 @@ returns-clause-text g c =
     let first = g.O.Sink.written c.args.writer.now in
     let between = g.O.Sink.written c.whole-ended.new.writer in
     let waiting = c.whole-ended.new.watcher.waiting.items in
-    traces_all (zeroed_units c.args.clients c.args.blocks c.args.bad) c.args.lines.now old new first between
+    traces_all c.args.disks.tags (zeroed_units c.args.disks.clients c.args.disks.blocks c.args.disks.bad) c.args.lines.now old new first between
     (g.O.Sink.written c.write_waiting.new.writer) waiting c.in-Ok.ensures.walk c.in_ok-ended.ensures.run
     (subst (λ (t : List ℕ). Shows step_text (whole_moments old.telling c.args.lines.now) old new (with_waiting first t) (with_waiting between waiting)) c.new-tracer.ensures
     c.in_ok-ended.ensures.shown) c.in_ok-write_waiting.ensures.written

@@ -4,7 +4,7 @@ use Rattle.usb_tags.specs.declared.UsbTags.{UsbTags}
 use Rattle.usb_serve.specs.Files.{filed}
 use Rattle.usb_serve.specs.Packets.{ReadsPacket}
 use Rattle.usb_serve.specs.Steps.{IsBroken, IsSent, world}
-use Rattle.usb_serve.proofs.Serving.{broken_packet, broken_unread, served_none, served_then}
+use Rattle.usb_serve.proofs.Serving.{broken_packet, broken_unread, fails_at, served_none, served_then}
 use Rattle.usb_serve.proofs.session.serve_packets.Goals as goal
 
 pub loop-turn-init : goal.loop-turn-init
@@ -41,4 +41,5 @@ returns-in_err-serve_packet-clause-broken g c =
     c.read_packet.new.bytes.items c.loop-turn.invariant.written c.loop-turn.invariant.served read
     (subst (λ (d : UsbTags). IsBroken (world d (files c.loop-turn.units)) (world c.serve_packet.new.usb (files c.serve_packet.new.units))
     (g.O.Output.written c.loop-turn.output) (g.O.Output.written c.serve_packet.new.output)) c.receive.ensures.device
-    c.in_err-serve_packet.ensures.broken) c.in_err-serve_packet.ensures.cause)
+    c.in_err-serve_packet.ensures.broken)
+    (fails_at _ _ _ _ (files c.loop-turn.units) _ c.receive.ensures.device c.in_err-serve_packet.ensures.cause))

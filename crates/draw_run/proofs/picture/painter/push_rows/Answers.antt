@@ -11,7 +11,7 @@ unfolding rows_of
 returns-clause-rows c =
     let l = c.loop-line in
     ap (λ (at : Point × List ℕ). at.1)
-    (all_rows c.args.clients start l.point c.args.text.now.items l.text.items (map (λ line. line.now) c.args.lines.now)
+    (all_rows c.args.clients c.args.tags start l.point c.args.text.now.items l.text.items (map (λ line. line.now) c.args.lines.now)
     (map (λ line. line.now) (drop l.line-index c.args.lines.now))
     (ap (map (λ line. line.now)) (drop_all l.line-index c.args.lines.now c.loop-line-test.false)) l.invariant)
 
@@ -20,6 +20,6 @@ unfolding last
 returns-clause-last c =
     let l = c.loop-line in
     ap (λ (at : Point × List ℕ). at.0)
-    (all_rows c.args.clients start l.point c.args.text.now.items l.text.items (map (λ line. line.now) c.args.lines.now)
+    (all_rows c.args.clients c.args.tags start l.point c.args.text.now.items l.text.items (map (λ line. line.now) c.args.lines.now)
     (map (λ line. line.now) (drop l.line-index c.args.lines.now))
     (ap (map (λ line. line.now)) (drop_all l.line-index c.args.lines.now c.loop-line-test.false)) l.invariant)

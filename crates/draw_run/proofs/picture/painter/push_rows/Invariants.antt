@@ -5,5 +5,5 @@ use Rattle.draw_run.proofs.picture.painter.push_rows.Given as goal
 
 abbrev pub invariant-loop-line : goal.invariant-loop-line
 invariant-loop-line l =
-    fold (with_row l.clients) (l.point, l.text.items) (map (λ line. line.now) (drop l.line-index l.lines))
-    ≡ fold (with_row l.clients) (start, l.fn.text.items) (map (λ line. line.now) l.lines)
+    fold (with_row l.clients l.tags) (l.point, l.text.items) (map (λ line. line.now) (drop l.line-index l.lines))
+    ≡ fold (with_row l.clients l.tags) (start, l.fn.text.items) (map (λ line. line.now) l.lines)

@@ -2,7 +2,7 @@ use Rattle.std.proofs.Common.{◌≡◌, ◌∙◌, ℕ, List, ◌++◌, ap}
 use Rattle.stream_array.specs.Rings.{LinesState}
 use Rattle.shared_machine.specs.Shared.{Shared}
 use Rattle.uas_replay.specs.Told.{step_of}
-use Rattle.uas_replay.specs.Walks.{Walk, world_then}
+use Rattle.uas_replay.specs.Walks.{Walk, machine_of, world_then}
 use Rattle.uas_trace.specs.Texts.{outcome_in}
 use Rattle.uas_trace.specs.Traced.{step_line}
 use Rattle.uas_trace.specs.Written.{seen_before, with_writes}
@@ -19,7 +19,10 @@ returns-clause-text c =
     let outcome = c.act-outcome.result in
     let line : c.push_step.new.text.items ≡ step_line step =
     c.in_ok-push_step.ensures ∙ ap (λ (t : List ℕ). t ++ step_line step) c.clear.ensures.items in
-    let seen : before ≡ seen_before world.lines step = c.of-before.ensures ∙ ap (λ (l : LinesState). seen_before l step) c.rings.ensures.rings in
+    let tags : c.tags.result ≡ (machine_of world).tags = c.tags.ensures.tags ∙ ap (λ (m : Shared). m.tags) c.rings.ensures.machine in
+    let seen : before ≡ seen_before (machine_of world).tags world.lines step =
+    c.of-before.ensures ∙ ap (λ (l : LinesState). seen_before c.tags.result l step) c.rings.ensures.rings
+    ∙ ap (λ (n : ℕ). seen_before n world.lines step) tags in
     let stands : rings ≡ (world_then world step).lines = c.rings-rings.ensures.rings ∙ ap (λ (w : Walk). w.world.lines) c.act-outcome.ensures.run in
     let lent : frames ≡ (world_then world step).frames = c.buffers-buffers.ensures.buffers ∙ ap (λ (w : Walk). w.world.frames) c.act-outcome.ensures.run in
     let came : outcome ≡ outcome_in world step = c.act-outcome.ensures.outcome ∙ ap (λ (m : Shared). (step_of m step).1) c.rings.ensures.machine in

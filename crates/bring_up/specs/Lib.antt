@@ -1,0 +1,17 @@
+pub mod Accesses
+pub mod Waits
+pub mod Registers
+pub mod Options
+pub mod Surveys
+pub mod Programs
+pub mod Services
+pub mod CommandRings
+pub mod Slots
+pub mod PortRows
+pub mod Takeovers
+pub mod Table
+pub mod Completions
+pub mod Calls
+pub mod Lending
+pub mod States
+pub mod Limits

@@ -1,5 +1,5 @@
 -- What is told of the checksum that is asked for.
-use Rattle.std.proofs.Common.{◌≡◌, ℕ, Bool, true, false, cond, List, Ok, Err, Result, Option, Some, None, option_map, refl, ap, sym, ◌∙◌}
+use Rattle.std.proofs.Common.{◌≡◌, ℕ, Bool, true, false, cond, List, Ok, Result, Option, Some, None, option_map, ap, sym, ◌∙◌}
 use Rattle.kept_log.specs.declared.KeptFault.{KeptFault}
 use Rattle.kept_log.specs.declared.Loaded.{Loaded}
 use Rattle.kept_log.specs.LoadAt.{load_at}

@@ -1,12 +1,12 @@
 -- A file that is read in parts, and what is told of the whole.
-use Rattle.std.proofs.Common.{◌≡◌, ◌≢◌, ℕ, ◌≤◌, true, List, [], ◌∷◌, ◌++◌, length, take, Option, Some, None, IfSome, refl, ap, ◌∙◌, arith}
+use Rattle.std.proofs.Common.{◌≡◌, ℕ, ◌≤◌, true, List, [], ◌∷◌, ◌++◌, length, take, Option, Some, None, IfSome, refl, ap, ◌∙◌, arith}
 use Rattle.std.specs.Prelude.{nat_eq}
 use Rattle.std.proofs.lemmas.List.{length-take, take-append-le}
 use lib.Pointwise.{pointwise, pointwise_long}
 use Rattle.kept_log.specs.declared.Found.{Found}
 use Rattle.kept_log.specs.Parts.{IsFound, step_asked}
-use Rattle.kept_log.specs.Saved.{saved_of}
-use Rattle.audit_run.specs.declared.AuditFault.TheVariants.{OtherHead, OtherTags}
+use Rattle.kept_log.specs.Saved.{plain_of}
+use Rattle.audit_run.specs.declared.AuditFault.TheVariants.{OtherHead}
 use Rattle.audit_run.specs.Audits.{IsRefusedBy, head_text, is_kept, state_of}
 
 -- HOW A TEXT BEGINS
@@ -29,23 +29,16 @@ weaker first second (Some back) leads is = leads back is
 
 -- A TEXT OF THE THIRD VERSION
 
--- a log of which clients have another number of tags
-pub other_tags : (head : Option ℕ) (front : List ℕ) (left : Option (List ℕ)) (found : Found) → is_kept front ≡ true → found.loaded.log.tags ≢ 16
-    → IfSome left (λ (back : List ℕ). IsFound head (front ++ back) found) → IfSome left (λ (back : List ℕ). IsRefusedBy head (front ++ back) OtherTags)
-other_tags head front left found third other is =
-    weaker (λ (back : List ℕ). IsFound head (front ++ back) found) (λ (back : List ℕ). IsRefusedBy head (front ++ back) OtherTags) left (λ back it.
-    record { loaded = found.loaded; third = kept_on front back (kept_long front third) ∙ third; read = it.loaded; other = other }) is
-
 -- a log of which the checksum that is asked for is none
-pub other_log : (head : Option ℕ) (front : List ℕ) (left : Option (List ℕ)) (found : Found) → is_kept front ≡ true → found.loaded.log.tags ≡ 16
+pub other_log : (head : Option ℕ) (front : List ℕ) (left : Option (List ℕ)) (found : Found) → is_kept front ≡ true
     → ((text : List ℕ) → is_kept text ≡ true → found.step ≡ step_asked head text → head_text head text ≡ None)
     → IfSome left (λ (back : List ℕ). IsFound head (front ++ back) found) → IfSome left (λ (back : List ℕ). IsRefusedBy head (front ++ back) OtherHead)
-other_log head front left found third sixteen other is =
+other_log head front left found third other is =
     weaker (λ (back : List ℕ). IsFound head (front ++ back) found) (λ (back : List ℕ). IsRefusedBy head (front ++ back) OtherHead) left (λ back it.
     let whole : is_kept (front ++ back) ≡ true = kept_on front back (kept_long front third) ∙ third in
     record {
-      log = saved_of found.loaded.log;
+      log = plain_of found.loaded.log;
       state = Some (state_of found.loaded);
-      is = record { loaded = found.loaded; third = whole; read = it.loaded; sixteen = sixteen; log_is = refl; state_is = refl };
+      is = record { loaded = found.loaded; third = whole; read = it.loaded; log_is = refl; state_is = refl };
       other = other (front ++ back) whole it.step;
     }) is

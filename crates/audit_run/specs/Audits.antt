@@ -1,5 +1,5 @@
 -- What is told of a log's text.
-use Rattle.std.specs.Prelude.{◌≡◌, ◌≢◌, ℕ, zero, suc, ◌==◌, Bool, true, false, nat_eq, if◌then◌else◌, List, [], ◌∷◌, ◌++◌, length, filter, map, codes, Option, Some, None, is_some, option_map, Ok, Err}
+use Rattle.std.specs.Prelude.{◌≡◌, ℕ, zero, suc, ◌==◌, Bool, true, false, nat_eq, if◌then◌else◌, List, [], ◌∷◌, ◌++◌, length, filter, map, codes, Option, Some, None, is_some, option_map, Ok, Err}
 use Rattle.std.specs.List.{starts_with}
 use Rattle.std.specs.Fmt.{decimal}
 use Rattle.std.specs.Int.{w32, to_be_bytes}
@@ -8,20 +8,21 @@ use Rattle.scsi_cmd.specs.declared.Reply.{Reply}
 use Rattle.kept_log.specs.declared.Loaded.{Loaded}
 use Rattle.kept_log.specs.Loading.{IsLoaded}
 use Rattle.kept_log.specs.Loading as kept
-use Rattle.kept_log.specs.Saved.{saved_of}
+use Rattle.kept_log.specs.Saved.{plain_of as plain_of_kept}
 use Rattle.kept_log.specs.Sums.{step_in}
 use Rattle.log_text.specs.declared.MigrateFault.{MigrateFault}
 use Rattle.log_text.specs.declared.SavedReply.{SavedReply}
 use Rattle.log_text.specs.Loading.{Loads}
 use Rattle.log_text.specs.Migration.{Migrates, migrated}
 use Rattle.log_text.specs.Reading.{whole_log}
+use Rattle.log_text.specs.Plain.{Plain, plain_of}
 use Rattle.log_text.specs.Text.{Saved}
 use Rattle.audit_run.specs.declared.replay.ReplayFault.{ReplayFault}
 use Rattle.audit_run.specs.replay.Replaying.{IsReplayed, replayed_replies, steps_fault}
 use Rattle.audit_run.specs.declared.AuditFault.{AuditFault}
 use Rattle.audit_run.specs.declared.HeadAt.{HeadAt}
 use Rattle.audit_run.specs.declared.KeptState.{KeptState}
-use Rattle.audit_run.specs.declared.AuditFault.TheVariants.{File, TooLarge, Text, Kept, Old, OtherTags, OtherHead, Replay, Output, NoMemory}
+use Rattle.audit_run.specs.declared.AuditFault.TheVariants.{File, TooLarge, Text, Kept, Old, OtherHead, Replay, Output, NoMemory}
 
 -- LINES
 
@@ -34,16 +35,16 @@ abbrev pub line_text : ℕ → ℕ → List ℕ
 line_text client count = codes "client " ++ (decimal client ++ (codes " replies " ++ (decimal count ++ codes " true\n")))
 
 -- a client's line: how many replies it took
-abbrev pub client_line : Saved → ℕ → List ℕ
+abbrev pub client_line : Plain → ℕ → List ℕ
 client_line log client = line_text client (length (replies_to client log.replies))
 
 -- the lines of so many clients, by number
-abbrev pub audit_lines : Saved → ℕ → List ℕ
+abbrev pub audit_lines : Plain → ℕ → List ℕ
 audit_lines log zero = []
 audit_lines log (suc client) = audit_lines log client ++ client_line log client
 
 -- a line for each client of a log
-abbrev pub audit_text : Saved → List ℕ
+abbrev pub audit_text : Plain → List ℕ
 audit_text log = audit_lines log (length log.units)
 
 -- `beginning of N steps`, where there is no end
@@ -91,34 +92,35 @@ head_text None bytes = Some []
 head_text (Some sum) bytes = option_map (head_line sum) (step_found sum bytes)
 
 -- a text of the first or second version is a log's, which can be brought over to this one
-pub record IsLogOf (bytes : List ℕ) (log : Saved) : Type 0 where
+pub record IsLogOf (bytes : List ℕ) (log : Plain) : Type 0 where
   pub saved : Saved
+  pub moved : Saved
   pub older : is_kept bytes ≡ false
   pub read : whole_log bytes ≡ Ok saved
-  pub brought : migrated saved ≡ Ok log
+  pub brought : migrated saved ≡ Ok moved
+  pub log_is : log ≡ plain_of moved
 
 -- what there is of a log that was kept as it grew
 abbrev pub state_of : Loaded → KeptState
 state_of loaded = record { steps = length loaded.log.entries; has_end = is_some loaded.log.ending; torn = loaded.torn }
 
--- a text of the third version is a log's whose clients have 16 tags each, of which there is so much
-pub record IsKeptLogOf (bytes : List ℕ) (log : Saved) (state : KeptState) : Type 0 where
+-- a text of the third version is a log's, whose clients keep their number of tags, and of which there is so much
+pub record IsKeptLogOf (bytes : List ℕ) (log : Plain) (state : KeptState) : Type 0 where
   pub loaded : Loaded
   pub third : is_kept bytes ≡ true
   pub read : IsLoaded bytes loaded
-  pub sixteen : loaded.log.tags ≡ 16
-  pub log_is : log ≡ saved_of loaded.log
+  pub log_is : log ≡ plain_of_kept loaded.log
   pub state_is : state ≡ state_of loaded
 
 -- a text is a log's, of either kind
-abbrev pub IsFileLog : List ℕ → Saved → Option KeptState → Type 0
+abbrev pub IsFileLog : List ℕ → Plain → Option KeptState → Type 0
 IsFileLog bytes log None = IsLogOf bytes log
 IsFileLog bytes log (Some state) = IsKeptLogOf bytes log state
 
 -- A text that is answered, where this checksum is asked for: it is the log's, the log's steps are all due and accepted in their turn, its
 -- replies are those that come of them, and this is told.
 pub record IsAnswered (head : Option ℕ) (bytes told : List ℕ) : Type 0 where
-  pub log : Saved
+  pub log : Plain
   pub state : Option KeptState
   pub is : IsFileLog bytes log state
   pub steps : steps_fault log ≡ None
@@ -134,23 +136,16 @@ pub record CantBeBrought (bytes : List ℕ) (fault : MigrateFault) : Type 0 wher
   pub read : whole_log bytes ≡ Ok saved
   pub because : Migrates (Err fault) (migrated saved)
 
--- a text of the third version is a log's whose clients have another number of tags
-pub record HasOtherTags (bytes : List ℕ) : Type 0 where
-  pub loaded : Loaded
-  pub third : is_kept bytes ≡ true
-  pub read : IsLoaded bytes loaded
-  pub other : loaded.log.tags ≢ 16
-
 -- a log of which the checksum that is asked for is none
 pub record IsOtherLog (head : Option ℕ) (bytes : List ℕ) : Type 0 where
-  pub log : Saved
+  pub log : Plain
   pub state : Option KeptState
   pub is : IsFileLog bytes log state
   pub other : head_text head bytes ≡ None
 
 -- a log of which it is one, and that isn't the replay of its steps
 pub record CantBeReplayed (head : Option ℕ) (bytes : List ℕ) (fault : ReplayFault) : Type 0 where
-  pub log : Saved
+  pub log : Plain
   pub state : Option KeptState
   pub is : IsFileLog bytes log state
   pub last : List ℕ
@@ -165,7 +160,6 @@ IsRefusedBy head bytes TooLarge = ⊥
 IsRefusedBy head bytes (Text fault) = (is_kept bytes ≡ false) × Loads (Err fault) (whole_log bytes)
 IsRefusedBy head bytes (Kept fault) = (is_kept bytes ≡ true) × kept.IsRefusedBy bytes fault
 IsRefusedBy head bytes (Old fault) = CantBeBrought bytes fault
-IsRefusedBy head bytes OtherTags = HasOtherTags bytes
 IsRefusedBy head bytes OtherHead = IsOtherLog head bytes
 IsRefusedBy head bytes (Replay fault) = CantBeReplayed head bytes fault
 IsRefusedBy head bytes Output = ⊥

@@ -2,11 +2,11 @@
 use Rattle.std.specs.Prelude.{◌≡◌, ℕ, ◌<◌, ◌≤◌, Bool, false, IsTrue, List, ◌++◌, length, Option, Some, IfSome}
 use Rattle.std.specs.Io.KnownBytes.{Appends, Keeps}
 use Rattle.audit_run.specs.declared.TheConstants.{MAX_LOG_BYTES}
-use Rattle.log_text.specs.Text.{Saved}
+use Rattle.log_text.specs.Plain.{Plain}
 use Rattle.audit_run.specs.declared.AuditFault.{AuditFault}
 use Rattle.audit_run.specs.declared.HeadAt.{HeadAt}
 use Rattle.audit_run.specs.declared.KeptState.{KeptState}
-use Rattle.audit_run.specs.declared.AuditFault.TheVariants.{File, TooLarge, Text, Kept, Old, OtherTags, OtherHead, Replay, Output, NoMemory}
+use Rattle.audit_run.specs.declared.AuditFault.TheVariants.{File, TooLarge, Text, Kept, Old, OtherHead, Replay, Output, NoMemory}
 use Rattle.audit_run.specs.Audits.{IsAnswered, IsFileLog, IsRefusedBy, found_text, head_text, is_kept}
 use Rattle.audit_run.specs.Faults.{status_of}
 
@@ -28,7 +28,6 @@ IsFaulty head bytes TooLarge = IsTooLarge bytes
 IsFaulty head bytes (Text fault) = IsRefusedBy head bytes (Text fault)
 IsFaulty head bytes (Kept fault) = IsRefusedBy head bytes (Kept fault)
 IsFaulty head bytes (Old fault) = IsRefusedBy head bytes (Old fault)
-IsFaulty head bytes OtherTags = IsRefusedBy head bytes OtherTags
 IsFaulty head bytes OtherHead = IsRefusedBy head bytes OtherHead
 IsFaulty head bytes (Replay fault) = IsRefusedBy head bytes (Replay fault)
 IsFaulty head bytes Output = ⊥
@@ -41,7 +40,7 @@ pub record IsRefused (head : Option ℕ) (bytes : List ℕ) : Type 0 where
   pub status : status_of fault ≡ 3
 
 -- a file's bytes are a log's, and this is told of the checksum that is asked for
-pub record IsFileOf (head : Option ℕ) (bytes : List ℕ) (log : Saved) (state : Option KeptState) (at : Option HeadAt) : Type 0 where
+pub record IsFileOf (head : Option ℕ) (bytes : List ℕ) (log : Plain) (state : Option KeptState) (at : Option HeadAt) : Type 0 where
   pub within : is_kept bytes ≡ false → length bytes ≤ MAX_LOG_BYTES
   pub is : IsFileLog bytes log state
   pub found : head_text head bytes ≡ Some (found_text at)
@@ -64,7 +63,6 @@ CantRead can_fail TooLarge = ⊥
 CantRead can_fail (Text fault) = ⊥
 CantRead can_fail (Kept fault) = ⊥
 CantRead can_fail (Old fault) = ⊥
-CantRead can_fail OtherTags = ⊥
 CantRead can_fail OtherHead = ⊥
 CantRead can_fail (Replay fault) = ⊥
 CantRead can_fail Output = ⊥
@@ -78,7 +76,6 @@ CantTell head front left is_there can_fail TooLarge = IfSome left (λ back. IsTo
 CantTell head front left is_there can_fail (Text fault) = IfSome left (λ back. IsRefusedBy head (front ++ back) (Text fault)) × IsTrue is_there
 CantTell head front left is_there can_fail (Kept fault) = IfSome left (λ back. IsRefusedBy head (front ++ back) (Kept fault)) × IsTrue is_there
 CantTell head front left is_there can_fail (Old fault) = IfSome left (λ back. IsRefusedBy head (front ++ back) (Old fault)) × IsTrue is_there
-CantTell head front left is_there can_fail OtherTags = IfSome left (λ back. IsRefusedBy head (front ++ back) OtherTags) × IsTrue is_there
 CantTell head front left is_there can_fail OtherHead = IfSome left (λ back. IsRefusedBy head (front ++ back) OtherHead) × IsTrue is_there
 CantTell head front left is_there can_fail (Replay fault) = IfSome left (λ back. IsRefusedBy head (front ++ back) (Replay fault)) × IsTrue is_there
 CantTell head front left is_there can_fail Output = ⊥
@@ -96,8 +93,6 @@ GivesUp head left is_there can_read_fail can_write_fail old new (Kept fault) =
     IfSome left (λ bytes. IsRefusedBy head bytes (Kept fault)) × IsTrue is_there × Keeps old new
 GivesUp head left is_there can_read_fail can_write_fail old new (Old fault) =
     IfSome left (λ bytes. IsRefusedBy head bytes (Old fault)) × IsTrue is_there × Keeps old new
-GivesUp head left is_there can_read_fail can_write_fail old new OtherTags =
-    IfSome left (λ bytes. IsRefusedBy head bytes OtherTags) × IsTrue is_there × Keeps old new
 GivesUp head left is_there can_read_fail can_write_fail old new OtherHead =
     IfSome left (λ bytes. IsRefusedBy head bytes OtherHead) × IsTrue is_there × Keeps old new
 GivesUp head left is_there can_read_fail can_write_fail old new (Replay fault) =

@@ -5,7 +5,7 @@ use Rattle.log_text.specs.declared.MigrateFault.TheVariants as old
 use Rattle.audit_run.specs.declared.replay.ReplayFault.TheVariants as replay
 use Rattle.kept_log.specs.declared.KeptFault.TheVariants as kept
 use Rattle.audit_run.specs.declared.AuditFault.{AuditFault}
-use Rattle.audit_run.specs.declared.AuditFault.TheVariants.{File, TooLarge, Text, Kept, Old, OtherTags, OtherHead, Replay, Output, NoMemory}
+use Rattle.audit_run.specs.declared.AuditFault.TheVariants.{File, TooLarge, Text, Kept, Old, OtherHead, Replay, Output, NoMemory}
 
 -- want of memory is 4, and every other fault 3
 abbrev pub status_of : AuditFault → ℕ
@@ -30,7 +30,6 @@ status_of (Kept (kept.BehindEnd at)) = 3
 status_of (Kept kept.NoMemory) = 4
 status_of (Old old.TooManyClients) = 3
 status_of (Old old.NoMemory) = 4
-status_of OtherTags = 3
 status_of OtherHead = 3
 status_of (Replay (replay.NotDue number)) = 3
 status_of (Replay (replay.Refused number)) = 3
@@ -39,7 +38,7 @@ status_of (Replay replay.NoMemory) = 4
 status_of Output = 3
 status_of NoMemory = 4
 
--- of a log, the fault's name; to the audit the header of a kept log of another number of tags than 16 is a bad one
+-- of a log, the fault's name
 abbrev pub line_of : AuditFault → List ℕ
 line_of File = codes "log: file"
 line_of TooLarge = codes "log: too large"
@@ -62,7 +61,6 @@ line_of (Kept (kept.BehindEnd at)) = codes "log: BehindEnd"
 line_of (Kept kept.NoMemory) = codes "no memory"
 line_of (Old old.TooManyClients) = codes "log: TooManyClients"
 line_of (Old old.NoMemory) = codes "no memory"
-line_of OtherTags = codes "log: BadHeader"
 line_of OtherHead = codes "log: OtherHead"
 line_of (Replay (replay.NotDue number)) = codes "log: NotDue"
 line_of (Replay (replay.Refused number)) = codes "log: Refused"

@@ -5,7 +5,7 @@ ghost use Rattle.audit_run.specs.replay.Replaying.{IsReplayOf};
 ghost use Rattle.audit_run.specs.Audits.{replies_to};
 
 use log_audit::{audit, is_asked_by};
-use log_text::{SavedLog, SavedReply};
+use log_text::{PlainLog, SavedReply};
 use scsi_cmd::Reply;
 use shared_machine::Step;
 use std::alloc::{AllocError, Global};
@@ -16,7 +16,7 @@ use uas_work::Booked;
 pub(crate) fn is_true_of(
     alloc: Global,
     booked: &Booked,
-    log: &SavedLog,
+    log: &PlainLog,
     client: usize,
     replies: &[Reply],
 ) -> Result<bool, AllocError>

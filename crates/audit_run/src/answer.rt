@@ -10,7 +10,7 @@ use crate::replay::replay_log;
 use crate::texts::file_log;
 use crate::{AuditFault, FileLog, HeadAt, KeptState, Told};
 use byte_io::Source;
-use log_text::SavedLog;
+use log_text::PlainLog;
 use std::alloc::{AllocError, Global};
 use std::io::Write;
 use uas_work::Booked;
@@ -49,7 +49,7 @@ pub(crate) fn answered<S: Source, W: Write>(
 }
 
 /// Tells how long a log is, where it is long and that is asked for. A fault of `notes` changes nothing.
-fn note<W: Write>(log: &SavedLog, notes: &mut W, shows_progress: bool)
+fn note<W: Write>(log: &PlainLog, notes: &mut W, shows_progress: bool)
     ensures { shows_progress ≡ false → notes.new ≡ notes.old }
 {
     let steps = log.steps().len();
@@ -63,7 +63,7 @@ fn note<W: Write>(log: &SavedLog, notes: &mut W, shows_progress: bool)
 fn told(
     alloc: Global,
     booked: &Booked,
-    log: &SavedLog,
+    log: &PlainLog,
     state: Option<KeptState>,
     head: Option<HeadAt>,
 ) -> Result<Told, AllocError>
@@ -141,7 +141,7 @@ fn head_line(alloc: Global, sum: u32, step: usize) -> Result<String, AllocError>
 }
 
 /// A line for each client. Asks that the bus is booked by the log.
-fn lines(alloc: Global, booked: &Booked, log: &SavedLog) -> Result<Told, AllocError>
+fn lines(alloc: Global, booked: &Booked, log: &PlainLog) -> Result<Told, AllocError>
     requires { IsReplayOf log.now booked.now }
     ensures text { IfOk result (λ answer. answer.text.items ≡ audit_text log.now) }
     ensures audited { IfOk result (λ answer. answer.is_true ≡ true) }
@@ -159,7 +159,7 @@ fn push_line(
     alloc: Global,
     text: &mut Vec<u8>,
     booked: &Booked,
-    log: &SavedLog,
+    log: &PlainLog,
     client: usize,
 ) -> Result<bool, AllocError>
     requires replay { IsReplayOf log.now booked.now }

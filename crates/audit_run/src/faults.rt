@@ -24,7 +24,6 @@ impl AuditFault {
             | AuditFault::Text(_)
             | AuditFault::Kept(_)
             | AuditFault::Old(_)
-            | AuditFault::OtherTags
             | AuditFault::OtherHead
             | AuditFault::Replay(_)
             | AuditFault::Output => FAULT,
@@ -39,8 +38,7 @@ impl AuditFault {
             AuditFault::File => "log: file",
             AuditFault::TooLarge => "log: too large",
             AuditFault::Text(LogFault::BadHeader)
-            | AuditFault::Kept(KeptFault::Head(LogFault::BadHeader))
-            | AuditFault::OtherTags => "log: BadHeader",
+            | AuditFault::Kept(KeptFault::Head(LogFault::BadHeader)) => "log: BadHeader",
             AuditFault::Text(LogFault::Truncated)
             | AuditFault::Kept(KeptFault::Head(LogFault::Truncated)) => "log: Truncated",
             AuditFault::Text(LogFault::BadField)
@@ -75,9 +73,11 @@ impl AuditFault {
             AuditFault::TooLarge => {
                 "a log's file of the first or second version has at most 1073741824 bytes"
             },
-            AuditFault::Text(LogFault::BadHeader)
-            | AuditFault::Kept(KeptFault::Head(LogFault::BadHeader)) => {
+            AuditFault::Text(LogFault::BadHeader) => {
                 "it doesn't begin as a log of 8 or 16 tags does"
+            }
+            AuditFault::Kept(KeptFault::Head(LogFault::BadHeader)) => {
+                "it doesn't begin as a log of 2 to 16 tags does"
             }
             AuditFault::Text(LogFault::Truncated)
             | AuditFault::Kept(KeptFault::Head(LogFault::Truncated)) => "it ends within a field",
@@ -98,7 +98,6 @@ impl AuditFault {
             AuditFault::Old(MigrateFault::TooManyClients) => {
                 "a log of clients of 8 tags has at most 15 of them, to be brought over"
             }
-            AuditFault::OtherTags => "a log that is kept has clients of 16 tags, to be audited",
             AuditFault::OtherHead => "no whole record of it has this checksum, or it has none",
             AuditFault::Replay(ReplayFault::NotDue(_)) => "a step wasn't due in its turn",
             AuditFault::Replay(ReplayFault::Refused(_)) => "a step is a submission that is refused",

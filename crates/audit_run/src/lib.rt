@@ -1,11 +1,11 @@
 //! The run `audit`: a file of a log, replayed on a new bus, and each client's account in it held against that replay.
 //!
-//! [`run_audit`] reads a log's text, brings it over to clients of 16 tags, takes its steps on a new bus, and audits each client with its
-//! own submissions and replies of the file. What it prints is a line for each client (`audit_text` in specs/Audits.antt), and it prints
+//! [`run_audit`] reads a log's text, brings one of the first version over to clients of 16 tags, takes its steps on a new bus, and audits
+//! each client with its own submissions and replies of the file. What it prints is a line for each client (`audit_text` in specs/Audits.antt), and it prints
 //! them exactly where the text is a log's, its steps are all due and accepted in their turn, and its replies are those that come of
 //! them. Each such client's audit is true: so no line says `false`, and the exit status 1 never comes.
 //!
-//! A log that was kept as it grew (kept_log), of clients of 16 tags, may have no end and a torn tail. Both are told behind the clients' lines. Where a checksum is
+//! A log that was kept as it grew (kept_log), of clients of any number of tags, may have no end and a torn tail. Both are told behind the clients' lines. Where a checksum is
 //! asked for that somebody kept of a log, the step behind which it stands is told last (`head_text`).
 //!
 //! Else the first thing that is wrong is told in one line: of the file, of the text, of the checksum, of the steps, then of the replies
@@ -21,7 +21,7 @@ mod texts;
 
 use crate::replay::ReplayFault;
 use kept_log::KeptFault;
-use log_text::{LogFault, MigrateFault, SavedLog};
+use log_text::{LogFault, MigrateFault, PlainLog};
 pub use run::run_audit;
 
 /// The most bytes of a log's file of the first or second version.
@@ -56,8 +56,6 @@ pub enum AuditFault {
     Kept(KeptFault),
     /// The log can't be brought over.
     Old(MigrateFault),
-    /// The clients of a log that was kept have another number of tags than 16.
-    OtherTags,
     /// The checksum that is asked for is none of the log's.
     OtherHead,
     /// The log isn't the replay of its own steps.
@@ -68,10 +66,10 @@ pub enum AuditFault {
     NoMemory,
 }
 
-/// A log of a file, of clients of 16 tags.
+/// A log of a file.
 #[derive(Debug, Drop)]
 pub(crate) struct FileLog {
-    pub(crate) log: SavedLog,
+    pub(crate) log: PlainLog,
     /// What there is of it, where it was kept as it grew.
     pub(crate) state: Option<KeptState>,
     /// Where the checksum stands that is asked for.

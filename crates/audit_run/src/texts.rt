@@ -1,21 +1,20 @@
 //! The log of a file, of whichever version its text is.
 ghost use Rattle.std.specs.Prelude.{◌≡◌, ℕ, List, ◌++◌, ◌≤◌, ◌<◌, [], IfErr, IfOk, IfSome, IsTrue, OnOk, Option, Some, None, true, false, length};
 ghost use Rattle.std.specs.Io.KnownBytes.{IsAtEnd};
-ghost use Rattle.log_text.specs.declared.Version.TheVariants.{Second};
 ghost use Rattle.kept_log.specs.Parts.{Reads, step_asked};
 ghost use Rattle.audit_run.specs.Audits.{IsFileLog, IsLogOf, IsRefusedBy, found_text, head_text, is_kept, state_of};
 ghost use Rattle.audit_run.specs.Ends.{CantRead, CantTell, IsFileOf, IsOlder};
 
 use crate::{AuditFault, FileLog, HeadAt, KeptState, MAX_LOG_BYTES};
 use byte_io::{Source, StreamFault};
-use kept_log::{Loaded, PartsFault, SavedFault, load_from, read_at_least};
-use log_text::{SavedLog, load_log, migrate};
+use kept_log::{Loaded, PartsFault, load_from, read_at_least};
+use log_text::{PlainLog, load_log, migrate};
 use std::alloc::Global;
 
 /// How a text of the third version begins.
 const KEPT: [u8; 8] = [0x55, 0x41, 0x53, 0x4c, 0x4f, 0x47, 0, 3];
 
-/// The log of a file, of clients of 16 tags, and where the checksum stands in it that is asked for. A text of the third version is read in
+/// The log of a file, of whichever version, and where the checksum stands in it that is asked for. A text of the third version is read in
 /// parts.
 pub(crate) fn file_log<S: Source>(
     alloc: Global,
@@ -23,7 +22,6 @@ pub(crate) fn file_log<S: Source>(
     head: Option<u32>,
 ) -> Result<FileLog, AuditFault>
     ensures ok { IfOk result (λ found. IfSome (S.left source.old) (λ bytes. IsFileOf head bytes found.log found.state found.head)) }
-    ensures tags { IfOk result (λ found. found.log.version ≡ Second) }
     ensures there { OnOk result (IsTrue (S.is_there source.old)) }
     ensures fault { IfErr result (CantTell head [] (S.left source.old) (S.is_there source.old) (S.can_fail source.old)) }
 {
@@ -72,7 +70,6 @@ fn older_in<S: Source>(
     requires ended { IsTrue has_ended → IsAtEnd (S.left source.old) }
     requires there { IsTrue (S.is_there source.old) }
     ensures ok { IfOk result (λ found. IfSome (S.left source.old) (λ left. IsFileOf head (front.items ++ left) found.log found.state found.head)) }
-    ensures tags { IfOk result (λ found. found.log.version ≡ Second) }
     ensures fault { IfErr result (CantTell head front.items (S.left source.old) (S.is_there source.old) (S.can_fail source.old)) }
 {
     let mut bytes = front;
@@ -107,7 +104,6 @@ fn older_log(alloc: Global, bytes: &[u8], head: Option<u32>) -> Result<FileLog, 
     requires { is_kept bytes.now ≡ false }
     ensures ok { IfOk result (λ found. IsFileLog bytes.now found.log found.state) }
     ensures head { IfOk result (λ found. head_text head bytes.now ≡ Some (found_text found.head)) }
-    ensures tags { IfOk result (λ found. found.log.version ≡ Second) }
     ensures fault { IfErr result (IsRefusedBy head bytes.now) }
 {
     let log = match saved_in(alloc, bytes) {
@@ -125,10 +121,9 @@ fn older_log(alloc: Global, bytes: &[u8], head: Option<u32>) -> Result<FileLog, 
 }
 
 /// The log of a text of the first or second version, brought over to clients of 16 tags.
-fn saved_in(alloc: Global, bytes: &[u8]) -> Result<SavedLog, AuditFault>
+fn saved_in(alloc: Global, bytes: &[u8]) -> Result<PlainLog, AuditFault>
     requires { is_kept bytes.now ≡ false }
     ensures ok { IfOk result (λ log. IsLogOf bytes.now log) }
-    ensures tags { IfOk result (λ log. log.version ≡ Second) }
     ensures fault { (head : Option ℕ) → IfErr result (IsRefusedBy head bytes.now) }
 {
     let saved = match load_log(alloc, bytes) {
@@ -136,13 +131,12 @@ fn saved_in(alloc: Global, bytes: &[u8]) -> Result<SavedLog, AuditFault>
         Err(fault) => return Err(AuditFault::Text(fault)),
     };
     match migrate(alloc, &saved) {
-        Ok(log) => Ok(log),
+        Ok(log) => Ok(log.into_plain()),
         Err(fault) => Err(AuditFault::Old(fault)),
     }
 }
 
 /// The log of a text of the third version, of whose front these bytes were read, without its refused steps.
-#[tactic(auto, using(crate::proofs::Files::other_tags))]
 fn kept_in<S: Source>(
     alloc: Global,
     source: &mut S,
@@ -151,7 +145,6 @@ fn kept_in<S: Source>(
 ) -> Result<FileLog, AuditFault>
     requires third { is_kept front.items ≡ true }
     ensures ok { IfOk result (λ found. IfSome (S.left source.old) (λ left. IsFileOf head (front.items ++ left) found.log found.state found.head)) }
-    ensures tags { IfOk result (λ found. found.log.version ≡ Second) }
     ensures fault { IfErr result (CantTell head front.items (S.left source.old) (S.is_there source.old) (S.can_fail source.old)) }
 {
     let found = match load_from(alloc, front, source, head) {
@@ -161,10 +154,8 @@ fn kept_in<S: Source>(
         Err(PartsFault::Read(StreamFault::File)) => return Err(AuditFault::File),
     };
     let (state, step) = (state_of(&found.loaded), found.step);
-    let log = match found.loaded.log.into_saved(alloc) {
-        Ok(log) => log,
-        Err(SavedFault::OtherTags) => return Err(AuditFault::OtherTags),
-        Err(SavedFault::NoMemory) => return Err(AuditFault::NoMemory),
+    let Ok(log) = found.loaded.log.into_plain(alloc) else {
+        return Err(AuditFault::NoMemory);
     };
     let Some(head) = head_at(head, step) else {
         return Err(AuditFault::OtherHead);

@@ -2,29 +2,27 @@
 ghost use Rattle.std.specs.Prelude.{◌≡◌, ◌+◌, ◌<◌, List, [], ◌∷◌, ◌++◌, length, None, IfErr, OnOk};
 ghost use Rattle.shared_machine.specs.declared.Step.{Step};
 ghost use Rattle.shared_machine.specs.Bus.{AllTicketed, HasTicket};
-ghost use Rattle.log_text.specs.declared.Version.TheVariants.{Second};
 ghost use Rattle.audit_run.specs.replay.Replaying.{IsReplayed, StopsBy, first_fault};
 
 use crate::replay::ReplayFault;
 use crate::replay::replies::first_difference;
 use crate::replay::units::made_units;
-use log_text::SavedLog;
+use log_text::PlainLog;
 use shared_machine::Step;
 use std::alloc::Global;
 use uas_work::Booked;
 
-/// Takes the steps of a saved log on a new bus of its units, and books them: the bus, whose log has the same steps and replies. Asks
-/// a log of clients of 16 tags, as `migrate` gives it. The first step that isn't due in its turn is answered by `NotDue`, the first that is refused by
-/// `Refused`, whichever comes first, and then the first reply that is another or is missing on one side by `OtherReplies`;
-/// `NoMemory` as it comes.
-pub fn replay_log(alloc: Global, log: &SavedLog) -> Result<Booked, ReplayFault>
-    requires { log.now.version ≡ Second }
+/// Takes the steps of a log on a new bus of its units and its number of tags, and books them: the bus, whose log has the same steps and
+/// replies. The first step that isn't due in its turn is answered by `NotDue`, the first that is refused by `Refused`, whichever comes
+/// first, and then the first reply that is another or is missing on one side by `OtherReplies`; `NoMemory` as it comes.
+pub fn replay_log(alloc: Global, log: &PlainLog) -> Result<Booked, ReplayFault>
     ensures { IsReplayed log.now result }
 {
     let units = made_units(alloc, log.units())?;
-    let mut booked = Booked::new(alloc, units, log.steps().len())?;
+    let tags = log.tags();
+    let mut booked = Booked::with_tags(alloc, units, log.steps().len(), tags)?;
     book_all(alloc, &mut booked, log.steps())?;
-    match first_difference(booked.log().replies.as_slice(), log.replies()) {
+    match first_difference(tags, booked.log().replies.as_slice(), log.replies()) {
         Some(reply) => Err(ReplayFault::OtherReplies(reply)),
         None => Ok(booked),
     }
@@ -35,6 +33,7 @@ fn book_all(alloc: Global, booked: &mut Booked, steps: &[Step]) -> Result<(), Re
     requires none { booked.old.log.steps ≡ [] }
     requires limit { booked.old.limit ≡ length steps.now }
     requires ticketed { AllTicketed steps.now }
+    ensures tags { OnOk result (booked.new.log.tags ≡ booked.old.log.tags) }
     ensures units { OnOk result (booked.new.log.units ≡ booked.old.log.units) }
     ensures steps { OnOk result (booked.new.log.steps ≡ steps.now) }
     ensures limit { OnOk result (booked.new.limit ≡ booked.old.limit) }
@@ -52,6 +51,7 @@ fn book_all(alloc: Global, booked: &mut Booked, steps: &[Step]) -> Result<(), Re
 fn book(alloc: Global, booked: &mut Booked, at: usize, step: &Step) -> Result<(), ReplayFault>
     requires room { length booked.old.log.steps < booked.old.limit }
     requires ticket { HasTicket step.now }
+    ensures tags { OnOk result (booked.new.log.tags ≡ booked.old.log.tags) }
     ensures units { OnOk result (booked.new.log.units ≡ booked.old.log.units) }
     ensures steps { OnOk result (booked.new.log.steps ≡ booked.old.log.steps ++ step.now ∷ []) }
     ensures limit { OnOk result (booked.new.limit ≡ booked.old.limit) }

@@ -1,20 +1,23 @@
 //! Where the replies of a replay and those of a text differ.
-ghost use Rattle.std.specs.Prelude.{◌≡◌, ◌↔◌, IsTrue, IfNone, IfSome, map};
-ghost use Rattle.uas_profile.specs.declared.TheConstants.{TAGS};
+ghost use Rattle.std.specs.Prelude.{◌≡◌, ◌<◌, ◌↔◌, IsTrue, IfNone, IfSome, map};
 ghost use Rattle.log_text.specs.Kept.{with_client};
 ghost use Rattle.audit_run.specs.replay.Replaying.{DifferFirst};
 
 use log_text::SavedReply;
 use scsi_cmd::Reply;
-use uas_profile::TAGS;
 
-/// The number of the first reply, from 0, that is another in a text, or is missing on one side.
-pub(crate) fn first_difference(replayed: &[Reply], saved: &[SavedReply]) -> Option<usize>
-    ensures none { IfNone result (map (with_client TAGS) replayed.now ≡ saved.now) }
-    ensures first { IfSome result (λ at. DifferFirst at (map (with_client TAGS) replayed.now) saved.now) }
+/// The number of the first reply, from 0, that is another in a text, or is missing on one side. Each client has so many tags.
+pub(crate) fn first_difference(
+    tags: usize,
+    replayed: &[Reply],
+    saved: &[SavedReply],
+) -> Option<usize>
+    requires { 0 < tags }
+    ensures none { IfNone result (map (with_client tags) replayed.now ≡ saved.now) }
+    ensures first { IfSome result (λ at. DifferFirst at (map (with_client tags) replayed.now) saved.now) }
 {
     for (at, reply) in replayed.iter().enumerate() {
-        if at == saved.len() || !is_saved(reply, &saved[at]) {
+        if at == saved.len() || !is_saved(tags, reply, &saved[at]) {
             return Some(at);
         }
     }
@@ -26,8 +29,9 @@ pub(crate) fn first_difference(replayed: &[Reply], saved: &[SavedReply]) -> Opti
 }
 
 /// Whether a reply with the client whose tag it brings back is that of a text.
-fn is_saved(reply: &Reply, saved: &SavedReply) -> bool
-    ensures { IsTrue result ↔ (with_client TAGS reply.now ≡ saved.now) }
+fn is_saved(tags: usize, reply: &Reply, saved: &SavedReply) -> bool
+    requires { 0 < tags }
+    ensures { IsTrue result ↔ (with_client tags reply.now ≡ saved.now) }
 {
-    usize::from(reply.tag()).saturating_sub(1) / TAGS == saved.client && reply.same(&saved.reply)
+    usize::from(reply.tag()).saturating_sub(1) / tags == saved.client && reply.same(&saved.reply)
 }

@@ -1,5 +1,5 @@
 -- The unit of a text's image is the unit that the text tells.
-use Rattle.std.proofs.Common.{◌≡◌, List, ℕ, ap, ◌∙◌}
+use Rattle.std.proofs.Common.{List, ℕ, ap, ◌∙◌}
 use Rattle.block_unit.specs.BlockMaps.{imaged}
 use Rattle.audit_run.proofs.FirstUnits.{imaged-first}
 use Rattle.audit_run.proofs.replay.units.made_unit.Goals as goal

@@ -1,5 +1,5 @@
 -- Units that a text tells are as new, and each fits.
-use Rattle.std.proofs.Common.{◌≡◌, ◌≤◌, All, List, length, map, take, arith, ap, sym, subst, ◌∙◌}
+use Rattle.std.proofs.Common.{All, List, map, arith, ap, sym, subst, ◌∙◌}
 use Rattle.std.proofs.lemmas.List.{take_all}
 use Rattle.block_unit.specs.BlockMaps.{BlockMaps}
 use Rattle.uas_log.specs.Booking.{first_maps}

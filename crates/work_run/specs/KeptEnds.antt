@@ -1,7 +1,6 @@
 -- How the run `work` ends that keeps its log: what is printed, what the file has, and the exit status.
 use Rattle.std.specs.Prelude.{◌≡◌, ℕ, Bool, true, IsTrue, List, ◌++◌, Option, None, Some}
 use Rattle.std.specs.Io.KnownBytes.{Keeps}
-use Rattle.uas_profile.specs.declared.TheConstants.{TAGS}
 use Rattle.uas_log.specs.declared.FirstUnit.{FirstUnit}
 use Rattle.uas_log.specs.declared.Log.{Log}
 use Rattle.kept_log.specs.declared.Why.{Why}
@@ -17,12 +16,12 @@ use Rattle.work_run.specs.WorkEnds.{Audited, fault_of, why_of}
 
 -- WHILE IT GROWS
 
--- Of a file that tells its bytes: they and those that wait for it are the beginning of a log of clients of TAGS tags with these units, up to a
--- place.
-pub record HasKept (tells : Bool) (units : List FirstUnit) (place : Place) (written : Option (List ℕ)) (waiting : List ℕ) : Type 0 where
+-- Of a file that tells its bytes: they and those that wait for it are the beginning of a log of clients of so many tags with these units, up
+-- to a place.
+pub record HasKept (tells : Bool) (tags : ℕ) (units : List FirstUnit) (place : Place) (written : Option (List ℕ)) (waiting : List ℕ) : Type 0 where
   pub given : List ℕ
   pub known : IsTrue tells → written ≡ Some given
-  pub begins : IsBeginning TAGS units place (given ++ waiting)
+  pub begins : IsBeginning tags units place (given ++ waiting)
 
 -- AT ITS END
 
@@ -34,10 +33,10 @@ pub record HasWhole (log : Log) (why : Why) (held : Option (List ℕ)) : Type 0 
 
 -- The lines of clients and audits were printed, of a bus with a log whose threads met no fault; and the file holds the whole text of a log,
 -- where the host tells what its files hold.
-pub record KeptTold (clients rounds : ℕ) (tells : Bool) (held : Option (List ℕ)) (old new : Option (List ℕ)) (status : ℕ) : Type 0 where
+pub record KeptTold (clients tags rounds : ℕ) (tells : Bool) (held : Option (List ℕ)) (old new : Option (List ℕ)) (status : ℕ) : Type 0 where
   pub log : Log
   pub ended : Ended
-  pub audited : Audited clients rounds log true old new status
+  pub audited : Audited clients tags rounds log true old new status
   pub faultless : fault_of ended ≡ None
   pub text : IsTrue tells → ∥ HasWhole log (why_of ended) held ∥₁
 

@@ -3,7 +3,6 @@ use Rattle.std.specs.Prelude.{◌≡◌, ℕ, ◌+◌, ◌-◌, ◌*◌, ◌^◌
 use Rattle.std.specs.Prelude.{replicate, Option, None, Some}
 use Rattle.std.specs.Io.KnownBytes.{Appends, Keeps}
 use Rattle.block_unit.specs.BlockMaps.{BlockMaps, fresh}
-use Rattle.uas_profile.specs.declared.TheConstants.{TAGS}
 use Rattle.scsi_cmd.specs.declared.Reply.{Reply}
 use Rattle.uas_log.specs.declared.Log.{Log}
 use Rattle.uas_log.specs.Booking.{IsReplay}
@@ -35,11 +34,11 @@ audited_status rounds replies audits = if all_whole rounds (tallies_of replies) 
 abbrev pub told_text : Bool → List (List Reply) → List Bool → List ℕ
 told_text shows_audits replies audits = work_text (tallies_of replies) ++ (if shows_audits then audit_text audits else [])
 
--- The clients took these replies of a bus with this log, which is its own replay with 16 tags of each and began with their logical
+-- The clients took these replies of a bus with this log, which is its own replay with so many tags of each and began with their logical
 -- units: their lines were printed, and the status follows from their replies and audits.
-pub record Audited (clients rounds : ℕ) (log : Log) (shows_audits : Bool) (old new : Option (List ℕ)) (status : ℕ) : Type 0 where
+pub record Audited (clients tags rounds : ℕ) (log : Log) (shows_audits : Bool) (old new : Option (List ℕ)) (status : ℕ) : Type 0 where
   pub replay : IsReplay log
-  pub tags : log.tags ≡ TAGS
+  pub tags_are : log.tags ≡ tags
   pub units : log.units ≡ map first_unit (work_units clients)
   pub replies : List (List Reply)
   pub of_each : length replies ≡ clients
@@ -49,14 +48,14 @@ pub record Audited (clients rounds : ℕ) (log : Log) (shows_audits : Bool) (old
   pub follows : status ≡ audited_status rounds replies audits
 
 -- so they did of some bus
-pub record Told (clients rounds : ℕ) (shows_audits : Bool) (old new : Option (List ℕ)) (status : ℕ) : Type 0 where
+pub record Told (clients tags rounds : ℕ) (shows_audits : Bool) (old new : Option (List ℕ)) (status : ℕ) : Type 0 where
   pub log : Log
-  pub audited : Audited clients rounds log shows_audits old new status
+  pub audited : Audited clients tags rounds log shows_audits old new status
 
 -- A run that gives up printed nothing, or couldn't print: then standard output can fail.
-pub record WorkEnds (clients rounds : ℕ) (can_fail : Bool) (old new : Option (List ℕ)) (status : ℕ) : Type 0 where
+pub record WorkEnds (clients tags rounds : ℕ) (can_fail : Bool) (old new : Option (List ℕ)) (status : ℕ) : Type 0 where
   pub statuses : (status ≤ 1) ⊎ ((status ≡ 3) ⊎ (status ≡ 4))
-  pub told : status ≤ 1 → Told clients rounds false old new status
+  pub told : status ≤ 1 → Told clients tags rounds false old new status
   pub fault : status ≡ 3 → IsTrue can_fail
   pub memory : status ≡ 4 → Keeps old new
 

@@ -1,7 +1,7 @@
 //! The audits of the clients, and how they are told.
 
 ghost use Rattle.std.specs.Prelude.{◌≡◌, ◌≤◌, ◌<◌, ◌++◌, IfOk, OnOk, length};
-ghost use Rattle.uas_profile.specs.declared.TheConstants.{USUAL_CLIENTS};
+ghost use Rattle.uas_profile.specs.declared.TheConstants.{MAX_CLIENTS};
 ghost use Rattle.uas_log.specs.Booking.{IsReplay};
 ghost use Rattle.work_run.specs.Audits.{AreAudits, IsToldOf, all_true, audit_line, audit_text};
 
@@ -19,7 +19,7 @@ pub(crate) fn audits_of(
     replies: &[Replies],
 ) -> Result<Vec<bool>, AllocError>
     requires replay { IsReplay log.now }
-    requires few { length replies.now ≤ USUAL_CLIENTS }
+    requires few { length replies.now ≤ MAX_CLIENTS }
     ensures { IfOk result (λ audits. AreAudits log.now rounds replies.now audits.items) }
 {
     let mut audits = Vec::new(alloc);
@@ -39,7 +39,7 @@ fn is_audited(
     replies: &[Reply],
 ) -> Result<bool, AllocError>
     requires replay { IsReplay log.now }
-    requires client { client < USUAL_CLIENTS }
+    requires client { client < MAX_CLIENTS }
     ensures { IfOk result (IsToldOf log.now rounds client replies.now) }
 {
     if client >= log.units.len() {

@@ -47,9 +47,9 @@ pub fn run_kept_work<R: Threads + Wait + Clock + Sync, K: KeptFiles, O: Sink, W:
     faults: &mut W,
     may_show_progress: bool,
 ) -> u8
-    requires { AreClients load.clients }
+    requires { AreClients load.tags load.clients }
     ensures statuses { (result ≤ 1) ⊎ ((result ≡ 3) ⊎ (result ≡ 4)) }
-    ensures told { result ≤ 1 → KeptTold load.clients load.rounds (K.tells files.old) (K.holds files.new kept.entry.file.now)
+    ensures told { result ≤ 1 → KeptTold load.clients load.tags load.rounds (K.tells files.old) (K.holds files.new kept.entry.file.now)
         (O.written output.old) (O.written output.new) result }
     ensures fault { result ≡ 3 → IsTrue (O.can_fail output.old)
         ⊎ (IsTrue (K.can_fail files.old kept.entry.file.now) × Keeps (O.written output.old) (O.written output.new)) }
@@ -75,9 +75,9 @@ fn work<R: Threads + Wait + Clock + Sync, K: KeptFiles, O: Sink>(
     kept: Kept<'_>,
     output: &mut O,
 ) -> Result<Worked, WorkFault>
-    requires { AreClients load.clients }
+    requires { AreClients load.tags load.clients }
     ensures status { IfOk result (λ worked. worked.status ≤ 1) }
-    ensures told { IfOk result (λ worked. KeptTold load.clients load.rounds (K.tells files.old) (K.holds files.new kept.entry.file.now)
+    ensures told { IfOk result (λ worked. KeptTold load.clients load.tags load.rounds (K.tells files.old) (K.holds files.new kept.entry.file.now)
         (O.written output.old) (O.written output.new) worked.status) }
     ensures fault { IfErr result (KeptGivesUp (K.can_fail files.old kept.entry.file.now) (O.can_fail output.old)
         (O.written output.old) (O.written output.new)) }
@@ -104,8 +104,9 @@ fn ran_kept<R: Threads + Wait + Clock + Sync, K: KeptFiles>(
     files: &mut K,
     kept: Kept<'_>,
 ) -> Result<Finished, WorkFault>
-    requires { AreClients load.clients }
+    requires { AreClients load.tags load.clients }
     ensures ended { IfOk result (λ finished. fault_of finished.ended ≡ None) }
+    ensures tags { IfOk result (λ finished. finished.booked.log.tags ≡ load.tags) }
     ensures units { IfOk result (λ finished. finished.booked.log.units ≡ map first_unit (work_units load.clients)) }
     ensures whole { IfOk result (λ finished. IsTrue (K.tells files.old)
         → ∥ HasWhole finished.booked.log (why_of finished.ended) (K.holds files.new kept.entry.file.now) ∥₁) }
@@ -127,12 +128,14 @@ fn ran_with<J: KeptLog + Send + Sync, R: Threads + Wait + Clock + Sync, K: KeptF
     files: &mut K,
     kept: Kept<'_>,
 ) -> Result<Finished, WorkFault>
+    requires tags { booked.log.tags ≡ J.tags }
     requires units { booked.log.units ≡ J.units }
     requires room { booked.limit ≡ step_limit load.clients load.rounds }
     requires name { kept.file.now ≡ J.name }
     requires tells { K.tells files.old ≡ J.tells }
     requires fails { K.can_fail files.old kept.file.now ≡ J.can_fail }
     ensures ended { IfOk result (λ finished. fault_of finished.ended ≡ None) }
+    ensures tags { IfOk result (λ finished. finished.booked.log.tags ≡ J.tags) }
     ensures units { IfOk result (λ finished. finished.booked.log.units ≡ J.units) }
     ensures whole { IfOk result (λ finished. IsTrue (K.tells files.old)
         → ∥ HasWhole finished.booked.log (why_of finished.ended) (K.holds files.new kept.entry.file.now) ∥₁) }
@@ -170,6 +173,7 @@ fn keeper_of<J: KeptLog, K: KeptFiles>(
     files: &mut K,
     kept: Kept<'_>,
 ) -> Result<LockedKeeper<J, K::File>, KeepStop>
+    requires tags { booked.now.log.tags ≡ J.tags }
     requires units { booked.now.log.units ≡ J.units }
     requires name { kept.file.now ≡ J.name }
     requires tells { K.tells files.old ≡ J.tells }
@@ -189,7 +193,9 @@ fn end_log<J: KeptLog, F: KeptFile + Drop>(
     keeper: LockedKeeper<J, F>,
     finished: &Finished,
 ) -> Result<F, KeepStop>
-    requires { finished.now.booked.log.units ≡ J.units }
+    requires positive { 1 ≤ finished.now.booked.log.tags }
+    requires tags { finished.now.booked.log.tags ≡ J.tags }
+    requires units { finished.now.booked.log.units ≡ J.units }
     ensures whole { IfOk result (λ file. IsTrue J.tells → ∥ HasWhole finished.now.booked.log (why_of finished.now.ended) (F.written file) ∥₁) }
     ensures synced { IfOk result (λ file. F.synced file ≡ F.written file) }
     ensures file { IfOk result (λ file. IsTrue (F.is_of file J.name)) }

@@ -14,6 +14,8 @@
 //! that the threads left, which is its own replay and began with the clients' logical units (specs/WorkEnds.antt). That all rounds come
 //! to an end is tested.
 //!
+//! Each client has the number of tags that is asked for, and the log keeps it.
+//!
 //! [`run_saved_work`] prints behind those lines for each client whether its audit is true, and then it saves the log in a file, which has
 //! the text of that very log or what it had (specs/SavedEnds.antt). The log is its own replay, so whoever reads the file can audit again.
 //!
@@ -39,8 +41,10 @@ pub use saved::run_saved_work;
 /// What is to be done.
 #[derive(Clone, Copy, Debug, PartialEq, Eq)]
 pub struct Load {
-    /// How many clients work: 1 to 15.
+    /// How many clients work: 1 to 31.
     pub clients: usize,
+    /// How many tags each of them has: 2 to 16, and 248 of all clients at most.
+    pub tags: usize,
     /// How many rounds each of them takes.
     pub rounds: u32,
 }

@@ -1,6 +1,6 @@
 //! The keeper of a log under its lock: what its file has is the beginning of a log, until it stops.
 ghost use Rattle.std.specs.Prelude.{◌≡◌, ◌≢◌, ℕ, ◌+◌, ◌-◌, ◌≤◌, ◌==◌, Bool, List, Option, None, Some, [], if◌then◌else◌, IfErr, IfOk, IfSome, IsTrue, length};
-ghost use Rattle.uas_profile.specs.declared.TheConstants.{USUAL_CLIENTS, TAGS};
+ghost use Rattle.uas_profile.specs.declared.TheConstants.{MAX_CLIENTS};
 ghost use Rattle.uas_log.specs.declared.FirstUnit.{FirstUnit};
 ghost use Rattle.kept_log.specs.Form.{head_sum, head_text};
 ghost use Rattle.log_keeper.specs.declared.stops.KeepStop.TheVariants.{File};
@@ -16,7 +16,10 @@ use uas_log::Log;
 
 /// Which log is kept, and where. Each run says so.
 pub(crate) trait KeptLog {
-    /// The logical units with which it begins, each of a client of `TAGS` tags.
+    /// How many tags each client has.
+    ghost tags: { ℕ };
+
+    /// The logical units with which it begins.
     ghost units: { List FirstUnit };
 
     /// The name of its file.
@@ -31,6 +34,8 @@ pub(crate) trait KeptLog {
 
 impl KeptLog for Brand {
     ghost use Rattle.std.specs.Prelude.{[], false};
+
+    ghost tags = { 2 };
 
     ghost units = { [] };
 
@@ -50,7 +55,7 @@ pub(crate) struct LockedKeeper<J: KeptLog, F: KeptFile> {
     ghost file: { IsTrue (F.is_of keeper.writer.file J.name) },
     ghost fails: { IsTrue (F.can_fail keeper.writer.file) → IsTrue J.can_fail },
     ghost stopped: { stop ≡ Some File → IsTrue J.can_fail },
-    ghost text: { stop ≡ None → ∥ HasKept J.tells J.units keeper.place (F.written keeper.writer.file) keeper.waiting.items ∥₁ },
+    ghost text: { stop ≡ None → ∥ HasKept J.tells J.tags J.units keeper.place (F.written keeper.writer.file) keeper.waiting.items ∥₁ },
 }
 
 impl<J: KeptLog, F: KeptFile + Drop> LockedKeeper<J, F> {
@@ -59,8 +64,8 @@ impl<J: KeptLog, F: KeptFile + Drop> LockedKeeper<J, F> {
         requires file { IsTrue (F.is_of keeper.writer.file J.name) }
         requires fails { IsTrue (F.can_fail keeper.writer.file) → IsTrue J.can_fail }
         requires empty { IsTrue J.tells → F.written keeper.writer.file ≡ Some [] }
-        requires head { keeper.waiting.items ≡ head_text TAGS J.units }
-        requires place { keeper.place ≡ record { steps = 0; replies = 0; sum = head_sum TAGS J.units } }
+        requires head { keeper.waiting.items ≡ head_text J.tags J.units }
+        requires place { keeper.place ≡ record { steps = 0; replies = 0; sum = head_sum J.tags J.units } }
         ensures every { result.keeper.writer.every ≡ keeper.writer.every }
     {
         LockedKeeper {
@@ -72,7 +77,7 @@ impl<J: KeptLog, F: KeptFile + Drop> LockedKeeper<J, F> {
 
     /// Takes the records of all steps that a log has behind those that were taken, unless it has stopped; it stops at a fault.
     pub(crate) fn gather(&mut self, alloc: Global, log: &Log)
-        requires few { length log.now.units ≤ USUAL_CLIENTS }
+        requires few { length log.now.units ≤ MAX_CLIENTS }
         requires tags { 1 ≤ log.now.tags }
         ensures added { self.old.stop ≡ None → Added log.now self.old.keeper.place self.old.keeper.waiting.items
             self.new.keeper.place self.new.keeper.waiting.items }
@@ -112,8 +117,9 @@ impl<J: KeptLog, F: KeptFile + Drop> LockedKeeper<J, F> {
     /// Writes what its file doesn't have yet of a log, and why that ended: the file, which is synced; or why it stopped.
     pub(crate) fn finish(self, alloc: Global, log: &Log, why: Why) -> Result<F, KeepStop>
         requires units { log.now.units ≡ J.units }
-        requires few { length log.now.units ≤ USUAL_CLIENTS }
-        requires tags { log.now.tags ≡ TAGS }
+        requires few { length log.now.units ≤ MAX_CLIENTS }
+        requires positive { 1 ≤ log.now.tags }
+        requires tags { log.now.tags ≡ J.tags }
         ensures whole { IfOk result (λ file. IsTrue J.tells → ∥ HasWhole log.now why (F.written file) ∥₁) }
         ensures synced { IfOk result (λ file. F.synced file ≡ F.written file) }
         ensures file { IfOk result (λ file. IsTrue (F.is_of file J.name)) }

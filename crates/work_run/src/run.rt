@@ -40,7 +40,7 @@ pub(crate) struct Worked {
     pub(crate) millis: Option<u64>,
 }
 
-/// The run `work`: lets so many clients, 1 to 15, take their rounds in threads, and prints a line of each. Where it is asked for, the
+/// The run `work`: lets so many clients, 1 to 31, take their rounds in threads, and prints a line of each. Where it is asked for, the
 /// pace is shown on `faults` at the end. It answers the exit status: 1 where a command of a client didn't end GOOD, a READ didn't
 /// bring what was written or a client's audit is false, 3 at a fault of standard output, 4 for want of memory or where the log is full, else 0.
 pub fn run_work<R: Threads + Wait + Clock + Sync, O: Sink, W: Write>(
@@ -51,8 +51,8 @@ pub fn run_work<R: Threads + Wait + Clock + Sync, O: Sink, W: Write>(
     faults: &mut W,
     may_show_progress: bool,
 ) -> u8
-    requires { AreClients load.clients }
-    ensures ends { WorkEnds load.clients load.rounds (O.can_fail output.old) (O.written output.old) (O.written output.new) result }
+    requires { AreClients load.tags load.clients }
+    ensures ends { WorkEnds load.clients load.tags load.rounds (O.can_fail output.old) (O.written output.old) (O.written output.new) result }
     ensures quiet { may_show_progress ≡ false → result ≤ 1 → faults.new ≡ faults.old }
 {
     match work(rt, alloc, load, output) {
@@ -72,9 +72,9 @@ fn work<R: Threads + Wait + Clock + Sync, O: Sink>(
     load: Load,
     output: &mut O,
 ) -> Result<Worked, WorkFault>
-    requires { AreClients load.clients }
+    requires { AreClients load.tags load.clients }
     ensures status { IfOk result (λ worked. worked.status ≤ 1) }
-    ensures told { IfOk result (λ worked. Told load.clients load.rounds false (O.written output.old) (O.written output.new) worked.status) }
+    ensures told { IfOk result (λ worked. Told load.clients load.tags load.rounds false (O.written output.old) (O.written output.new) worked.status) }
     ensures fault { IfErr result (GivesUp (O.can_fail output.old) (O.written output.old) (O.written output.new)) }
 {
     let start = Instant::now(rt).ok();
@@ -97,10 +97,11 @@ pub(crate) fn tell_work<O: Sink>(
     shows_audits: bool,
     output: &mut O,
 ) -> Result<Worked, WorkFault>
-    requires clients { AreClients load.clients }
+    requires clients { AreClients load.tags load.clients }
+    requires tags { finished.now.booked.log.tags ≡ load.tags }
     requires units { finished.now.booked.log.units ≡ map first_unit (work_units load.clients) }
     ensures status { IfOk result (λ worked. worked.status ≤ 1) }
-    ensures told { IfOk result (λ worked. Audited load.clients load.rounds finished.now.booked.log shows_audits
+    ensures told { IfOk result (λ worked. Audited load.clients load.tags load.rounds finished.now.booked.log shows_audits
         (O.written output.old) (O.written output.new) worked.status) }
     ensures fault { IfErr result (GivesUp (O.can_fail output.old) (O.written output.old) (O.written output.new)) }
 {
@@ -125,8 +126,9 @@ pub(crate) fn ran<R: Threads + Wait + Sync>(
     alloc: Global,
     load: Load,
 ) -> Result<Finished, WorkFault>
-    requires { AreClients load.clients }
+    requires { AreClients load.tags load.clients }
     ensures ended { IfOk result (λ finished. fault_of finished.ended ≡ None) }
+    ensures tags { IfOk result (λ finished. finished.booked.log.tags ≡ load.tags) }
     ensures units { IfOk result (λ finished. finished.booked.log.units ≡ map first_unit (work_units load.clients)) }
     ensures fault { IfErr result (λ fault. (can_fail : Bool) → (text : Option (List ℕ)) → GivesUp can_fail text text fault) }
 {
@@ -168,7 +170,8 @@ pub(crate) fn ran_by<R: Threads + Wait + Sync, G: Gate + Sync>(
     gate: &G,
 ) -> Result<Finished, AllocError>
     requires { booked.limit ≡ step_limit load.clients load.rounds }
-    ensures { IfOk result (λ finished. finished.booked.log.units ≡ booked.log.units) }
+    ensures tags { IfOk result (λ finished. finished.booked.log.tags ≡ booked.log.tags) }
+    ensures units { IfOk result (λ finished. finished.booked.log.units ≡ booked.log.units) }
 {
     spawn_all(rt, alloc, booked, gate, plan_of(load)).map_err(unstarted)
 }
@@ -190,13 +193,15 @@ fn plan_of(load: Load) -> Plan
     }
 }
 
-/// The bus of so many zeroed units, whose log has room for the steps of all rounds.
+/// The bus of so many zeroed units and so many tags of each client, whose log has room for the steps of all rounds.
 pub(crate) fn booked(alloc: Global, load: Load) -> Result<Booked, AllocError>
-    requires { AreClients load.clients }
+    requires { AreClients load.tags load.clients }
+    ensures tags { IfOk result (λ booked. booked.log.tags ≡ load.tags) }
     ensures units { IfOk result (λ booked. booked.log.units ≡ map first_unit (work_units load.clients)) }
     ensures room { IfOk result (λ booked. booked.limit ≡ step_limit load.clients load.rounds) }
 {
-    Booked::new(alloc, work_units(alloc, load.clients)?, step_limit(load))
+    let units = work_units(alloc, load.clients)?;
+    Booked::with_tags(alloc, units, step_limit(load), load.tags)
 }
 
 /// So many units of zeroed blocks, none of them bad.
@@ -212,7 +217,7 @@ fn work_units(alloc: Global, clients: usize) -> Result<Vec<Unit>, AllocError>
 
 /// One more than the steps that are booked of all rounds, or the most that a log may hold.
 fn step_limit(load: Load) -> usize
-    requires { AreClients load.clients }
+    requires { AreClients load.tags load.clients }
     ensures fits { result < 2 ^ 32 }
     ensures steps { result ≡ step_limit load.clients load.rounds }
 {

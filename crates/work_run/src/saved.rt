@@ -3,9 +3,10 @@
 ghost use Rattle.std.specs.Prelude.{◌≡◌, ◌≤◌, ◌⊎◌, ⊤, Some, [], false, map, IsTrue, IfOk, IfErr, OnOk, OnErr};
 ghost use Rattle.std.specs.Io.KnownBytes.{Keeps};
 ghost use Rattle.byte_io.specs.Disks.{AreClients};
-ghost use Rattle.log_text.specs.Kept.{IsSavable, saved_log};
-ghost use Rattle.log_text.specs.Text.{log_text};
-ghost use Rattle.work_run.specs.SavedEnds.{NotSaved, Saved, SavedGivesUp, SavingGivesUp, Unsaved, file_fault};
+ghost use Rattle.uas_profile.specs.declared.TheConstants.{TAGS};
+ghost use Rattle.log_text.specs.Kept.{IsSavable};
+ghost use Rattle.log_file.specs.FileText.{file_text};
+ghost use Rattle.work_run.specs.SavedEnds.{NotSaved, Saved, SavedGivesUp, SavingGivesUp, Unsaved, file_fault, saving_fault};
 ghost use Rattle.uas_work.specs.Booked.{first_unit};
 ghost use Rattle.work_run.specs.WorkEnds.{work_units};
 
@@ -16,6 +17,7 @@ use crate::telling::tell;
 use booked_limits::booked_logs_fit;
 use byte_io::{Files, Sink, StreamFault};
 use log_file::{begin_file, save_begun};
+use log_keeper::KeepStop;
 use std::alloc::Global;
 use std::io::Write;
 use std::rt::Clock;
@@ -39,15 +41,15 @@ pub fn run_saved_work<R: Threads + Wait + Clock + Sync, F: Files, O: Sink, W: Wr
     faults: &mut W,
     may_show_progress: bool,
 ) -> u8
-    requires { AreClients load.clients }
+    requires { AreClients load.tags load.clients }
     ensures statuses { (result ≤ 1) ⊎ ((result ≡ 3) ⊎ (result ≡ 4)) }
-    ensures saved { result ≤ 1 → Saved load.clients load.rounds (F.tells files.old) (F.holds files.new file.now)
+    ensures saved { result ≤ 1 → Saved load.clients load.tags load.rounds (F.tells files.old) (F.holds files.new file.now)
         (O.written output.old) (O.written output.new) result }
     ensures created { result ≤ 1 → IsTrue (F.can_create files.old file.now) }
     ensures fault { result ≡ 3 → IsTrue (O.can_fail output.old)
-        ⊎ NotSaved load.clients load.rounds (F.can_fail files.old file.now) (O.written output.old) (O.written output.new) }
+        ⊎ NotSaved load.clients load.tags load.rounds (F.can_fail files.old file.now) (O.written output.old) (O.written output.new) }
     ensures memory { result ≡ 4 → Keeps (O.written output.old) (O.written output.new)
-        ⊎ Unsaved load.clients load.rounds (λ log. ⊤) (O.written output.old) (O.written output.new) }
+        ⊎ Unsaved load.clients load.tags load.rounds (λ log. ⊤) (O.written output.old) (O.written output.new) }
     ensures held { 3 ≤ result → IsTrue (F.tells files.old) → F.holds files.new ≡ F.holds files.old }
     ensures quiet { may_show_progress ≡ false → result ≤ 1 → faults.new ≡ faults.old }
 {
@@ -70,12 +72,12 @@ fn work<R: Threads + Wait + Clock + Sync, F: Files, O: Sink>(
     file: &str,
     output: &mut O,
 ) -> Result<Worked, WorkFault>
-    requires { AreClients load.clients }
+    requires { AreClients load.tags load.clients }
     ensures status { IfOk result (λ worked. worked.status ≤ 1) }
-    ensures saved { IfOk result (λ worked. Saved load.clients load.rounds (F.tells files.old) (F.holds files.new file.now)
+    ensures saved { IfOk result (λ worked. Saved load.clients load.tags load.rounds (F.tells files.old) (F.holds files.new file.now)
         (O.written output.old) (O.written output.new) worked.status) }
     ensures created { OnOk result (IsTrue (F.can_create files.old file.now)) }
-    ensures fault { IfErr result (SavedGivesUp load.clients load.rounds (F.can_fail files.old file.now) (O.can_fail output.old)
+    ensures fault { IfErr result (SavedGivesUp load.clients load.tags load.rounds (F.can_fail files.old file.now) (O.can_fail output.old)
         (O.written output.old) (O.written output.new)) }
     ensures held { OnErr result (IsTrue (F.tells files.old) → F.holds files.new ≡ F.holds files.old) }
 {
@@ -108,16 +110,17 @@ fn told_and_saved<F: Files, O: Sink>(
     begun: F::Writer,
     output: &mut O,
 ) -> Result<Worked, WorkFault>
-    requires clients { AreClients load.clients }
+    requires clients { AreClients load.tags load.clients }
+    requires tags { finished.now.booked.log.tags ≡ load.tags }
     requires units { finished.now.booked.log.units ≡ map first_unit (work_units load.clients) }
     requires bytes { IsTrue (F.tells files.old) → F.Writer.written begun ≡ Some [] }
     requires there { IsTrue (F.Writer.is_there begun) }
     requires file { IsTrue (F.Writer.is_of begun file.now) }
     requires fails { IsTrue (F.Writer.can_fail begun) → IsTrue (F.can_fail files.old file.now) }
     ensures status { IfOk result (λ worked. worked.status ≤ 1) }
-    ensures saved { IfOk result (λ worked. Saved load.clients load.rounds (F.tells files.old) (F.holds files.new file.now)
+    ensures saved { IfOk result (λ worked. Saved load.clients load.tags load.rounds (F.tells files.old) (F.holds files.new file.now)
         (O.written output.old) (O.written output.new) worked.status) }
-    ensures fault { IfErr result (SavedGivesUp load.clients load.rounds (F.can_fail files.old file.now) (O.can_fail output.old)
+    ensures fault { IfErr result (SavedGivesUp load.clients load.tags load.rounds (F.can_fail files.old file.now) (O.can_fail output.old)
         (O.written output.old) (O.written output.new)) }
     ensures held { OnErr result (IsTrue (F.tells files.old) → F.holds files.new ≡ F.holds files.old) }
 {
@@ -140,7 +143,7 @@ fn told_and_saved<F: Files, O: Sink>(
     }
 }
 
-/// Saves a log that has a text in a file that was begun. At a fault every file holds what it held.
+/// Saves a log in a file that was begun. At a fault every file holds what it held.
 fn save<F: Files>(
     alloc: Global,
     log: &Log,
@@ -148,18 +151,29 @@ fn save<F: Files>(
     file: &str,
     begun: F::Writer,
 ) -> Result<(), WorkFault>
-    requires savable { IsSavable log.now }
+    requires savable { log.now.tags ≡ TAGS → IsSavable log.now }
     requires bytes { IsTrue (F.tells files.old) → F.Writer.written begun ≡ Some [] }
     requires there { IsTrue (F.Writer.is_there begun) }
     requires file { IsTrue (F.Writer.is_of begun file.now) }
     requires fails { IsTrue (F.Writer.can_fail begun) → IsTrue (F.can_fail files.old file.now) }
-    ensures text { OnOk result (IsTrue (F.tells files.old) → F.holds files.new file.now ≡ Some (log_text (saved_log log.now))) }
+    ensures text { OnOk result (IsTrue (F.tells files.old) → F.holds files.new file.now ≡ Some (file_text log.now)) }
     ensures fault { IfErr result (SavingGivesUp log.now (F.can_fail files.old file.now)) }
     ensures held { OnErr result (IsTrue (F.tells files.old) → F.holds files.new ≡ F.holds files.old) }
 {
     match save_begun(alloc, log, files, file, begun) {
         Ok(()) => Ok(()),
-        Err(fault) => Err(file_fault(fault)),
+        Err(stop) => Err(saving_fault(stop)),
+    }
+}
+
+/// The fault of a log that isn't saved.
+fn saving_fault(stop: KeepStop) -> WorkFault
+    ensures { result ≡ saving_fault stop }
+{
+    match stop {
+        KeepStop::Limits => WorkFault::LogFull,
+        KeepStop::NoMemory => WorkFault::Run(RunFault::NoMemory),
+        KeepStop::File => WorkFault::LogFile,
     }
 }
 

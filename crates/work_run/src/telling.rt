@@ -22,10 +22,11 @@ pub(crate) fn tell<O: Sink>(
     shows_audits: bool,
     output: &mut O,
 ) -> Result<u8, WorkFault>
-    requires clients { AreClients load.clients }
+    requires clients { AreClients load.tags load.clients }
+    requires tags { finished.now.booked.log.tags ≡ load.tags }
     requires units { finished.now.booked.log.units ≡ map first_unit (work_units load.clients) }
     ensures status { IfOk result (λ status. status ≤ 1) }
-    ensures told { IfOk result (λ status. Audited load.clients load.rounds finished.now.booked.log shows_audits
+    ensures told { IfOk result (λ status. Audited load.clients load.tags load.rounds finished.now.booked.log shows_audits
         (O.written output.old) (O.written output.new) status) }
     ensures fault { IfErr result (GivesUp (O.can_fail output.old) (O.written output.old) (O.written output.new)) }
 {
@@ -33,7 +34,9 @@ pub(crate) fn tell<O: Sink>(
         return Err(WorkFault::Run(RunFault::NoMemory));
     };
     let tallies = tallies_of(alloc, replies).map_err(no_memory)?;
-    let audits = audits_of(alloc, finished.booked.log(), load.rounds, replies).map_err(no_memory)?;
+    let Ok(audits) = audits_of(alloc, finished.booked.log(), load.rounds, replies) else {
+        return Err(WorkFault::Run(RunFault::NoMemory));
+    };
     let mut text = work_text(alloc, &tallies).map_err(no_memory)?;
     if shows_audits {
         push_audits(alloc, &mut text, &audits).map_err(no_memory)?;

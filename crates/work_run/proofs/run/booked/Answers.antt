@@ -4,5 +4,5 @@ use Rattle.uas_work.specs.Booked.{IsNew}
 use Rattle.work_run.proofs.Units.{units_new}
 use Rattle.work_run.proofs.run.booked.Goals as goal
 
-pub new-requires-clause-fresh : goal.new-requires-clause-fresh
-new-requires-clause-fresh c = subst (All IsNew) (sym c.in_ok-work_units.ensures) (units_new c.args.load.clients)
+pub with_tags-requires-clause-fresh : goal.with_tags-requires-clause-fresh
+with_tags-requires-clause-fresh c = subst (All IsNew) (sym c.in_ok-units.ensures) (units_new c.args.load.clients)

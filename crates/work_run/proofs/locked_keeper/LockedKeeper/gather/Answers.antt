@@ -11,7 +11,7 @@ invariant_of-self-in_default g c =
       file = rw c.in_default.ensures.writer old.file;
       fails = rw c.in_default.ensures.writer old.fails;
       stopped = old.stopped;
-      text = λ is. ∥∥₁_map {B = HasKept g.J.KeptLog.tells g.J.KeptLog.units c.gather.new.self.place (g.F.KeptFile.written c.gather.new.self.writer.file)
+      text = λ is. ∥∥₁_map {B = HasKept g.J.KeptLog.tells g.J.KeptLog.tags g.J.KeptLog.units c.gather.new.self.place (g.F.KeptFile.written c.gather.new.self.writer.file)
           c.gather.new.self.waiting.items} (old.text is) (λ kept.
-          rw c.in_default.ensures.writer (has_more _ _ c.args.log.now _ _ _ _ _ kept c.in_default.ensures.added));
+          rw c.in_default.ensures.writer (has_more _ _ _ c.args.log.now _ _ _ _ _ kept c.in_default.ensures.added));
     }

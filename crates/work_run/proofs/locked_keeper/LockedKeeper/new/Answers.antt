@@ -7,5 +7,5 @@ invariant_of-result g c = record {
   file = c.requires.file;
   fails = c.requires.fails;
   stopped = λ is. absurd cc;
-  text = λ is. ∣ has_begun _ _ _ _ _ c.requires.empty c.requires.head c.requires.place ∣₁;
+  text = λ is. ∣ has_begun _ _ _ _ _ _ c.requires.empty c.requires.head c.requires.place ∣₁;
 }

@@ -11,7 +11,7 @@ invariant_of-self g c =
       file = rw c.settle.ensures.file old.file;
       fails = rw c.settle.ensures.same old.fails;
       stopped = old.stopped;
-      text = λ is. ∥∥₁_map {B = HasKept g.J.KeptLog.tells g.J.KeptLog.units c.settle.new.self.place (g.F.KeptFile.written c.settle.new.self.writer.file)
+      text = λ is. ∥∥₁_map {B = HasKept g.J.KeptLog.tells g.J.KeptLog.tags g.J.KeptLog.units c.settle.new.self.place (g.F.KeptFile.written c.settle.new.self.writer.file)
           c.settle.new.self.waiting.items} (old.text is) (λ kept.
-          rw c.settle.ensures.place (has_written _ _ _ _ _ _ _ kept c.in-Ok.ensures.bytes c.in-Ok.ensures.none));
+          rw c.settle.ensures.place (has_written _ _ _ _ _ _ _ _ kept c.in-Ok.ensures.bytes c.in-Ok.ensures.none));
     }

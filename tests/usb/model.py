@@ -479,6 +479,7 @@ class Session:
             self.met("stalled")
             self.end_at_once(number, endpoint, STALL, 0, stream)
         else:
+            self.doubt_room(place, length)
             self.kept.pop(place, None)
             self.doubt_other_way(place)
             if length == 0:
@@ -606,6 +607,12 @@ class Session:
             if kept:
                 kept.in_doubt = True
             self.doubt_other_way(endpoint << 8 | stream)
+
+    def doubt_room(self, place, length):
+        """A tag has so much memory for both ways. The page leaves open what becomes of more."""
+        other = self.held.get({DATA_IN: DATA_OUT, DATA_OUT: DATA_IN}.get(place >> 8, 0) << 8 | place & 0xFF)
+        if other and min(length, MOST) + min(other.length, MOST) > MOST:
+            raise Doubt
 
     def doubt_other_way(self, place):
         """One answer may be kept for the data of a tag, or one for each way."""

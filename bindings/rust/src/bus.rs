@@ -48,8 +48,8 @@ pub struct Drained {
     pub quiet: bool,
 }
 
-/// Up to 15 clients' disks behind one controller. Client c has the tags 16c + 1 to 16c + 15 for commands and 16c + 16 for task
-/// management; tickets are below 2^60 and rise for each client. A client's replies and blocks are those of a disk that it had alone.
+/// Up to 31 clients' disks behind one controller. Client c of N tags has the tags Nc + 1 to Nc + N - 1 for commands and Nc + N for
+/// task management; tickets are below 2^60 and rise for each client. A client's replies and blocks are those of a disk that it had alone.
 /// It can be sent to another thread, and isn't shared between threads: put it behind a lock.
 ///
 /// ```

@@ -2,9 +2,9 @@
 //!
 //! - [`Trb`], [`Unit`], [`Operation`], [`Sense`]: the codecs of TRBs (xHCI 1.2, 6.4), information units (INCITS 471), CDBs and
 //!   sense data (SPC, SBC); [`Ring`], [`Buffer`], [`Doorbell`], [`Context`]: where things lie, and what is written there.
-//! - [`Device`]: a disk of up to 15 logical units; information units go in, information units and data come out.
+//! - [`Device`]: a disk of up to 31 logical units; information units go in, information units and data come out.
 //! - [`Controller`]: what stands behind a driver, an xHCI controller and its disk; rings and doorbells go in, events come out.
-//! - [`Driver`]: what stands in front of a controller, the host of up to 15 clients; events go in, doorbells come out.
+//! - [`Driver`]: what stands in front of a controller, the host of up to 31 clients; events go in, doorbells come out.
 //! - [`Bus`]: host, xHCI controller and device as one machine of atomic steps.
 //!
 //! A [`Driver`] and a [`Controller`], joined by copying bytes, are a [`Bus`].

@@ -2,7 +2,7 @@
 /* A program without a C library, as firmware is: it gives the library a region of memory, and asks a disk for its capacity. Its last line
  * tells how much of the region was in use at most.
  *
- *   cc -ffreestanding -nostdlib -static -Iinclude examples/firmware.c examples/region.c $(bindings/archive device) -o firmware && ./firmware */
+ *   cc -ffreestanding -fno-stack-protector -nostdlib -static -Iinclude examples/firmware.c examples/region.c $(bindings/archive device) -o firmware && ./firmware */
 #include "region.h"
 #include "uas.h"
 
@@ -10,7 +10,11 @@ enum { TAG = 1 };
 
 static unsigned char memory[640 << 10];
 
-/* The four functions beside the region's that the library calls. */
+/* The four functions beside the region's that the library calls. A compiler must not make calls of them out of their own loops. */
+#if defined __GNUC__ && !defined __clang__
+#pragma GCC optimize("no-tree-loop-distribute-patterns")
+#endif
+
 void *memcpy(void *restrict to, const void *restrict from, size_t size)
 {
     unsigned char *at = to;

@@ -1,4 +1,4 @@
-pub mod Filled
+pub mod DiskSet
 pub mod Kept
 pub mod ReadOnly
 pub mod Told

@@ -6,7 +6,8 @@ use Rattle.scsi_cmd.specs.declared.Sense.{Sense}
 use Rattle.scsi_cmd.specs.Fields.{field_of_four, field_of_two, is_bit_set}
 use Rattle.scsi_cmd.specs.Meaning.{asked, asks_for_protection}
 use Rattle.scsi_cmd.specs.Sense.{invalid_field_in_cdb}
-use Rattle.host_commands.specs.declared.CommandSet.TheVariants.{Profile, Host}
+use Rattle.disk_units.specs.declared.pages.DiskPage.{DiskPage}
+use Rattle.host_commands.specs.declared.CommandSet.TheVariants.{Profile, Host, Disk}
 use Rattle.host_commands.specs.declared.HostCommand.{HostCommand}
 use Rattle.host_commands.specs.declared.HostCommand.TheVariants.{TestUnitReady, RequestSense, Read6, Write6, Inquiry, ModeSense6, StartStopUnit, ReadCapacity10}
 use Rattle.host_commands.specs.declared.HostCommand.TheVariants.{Read10, Write10, Verify10, SynchronizeCache10, ModeSense10, Read16, Write16, Verify16}
@@ -16,7 +17,7 @@ use Rattle.host_commands.specs.declared.fields.Extent.{Extent}
 use Rattle.host_commands.specs.declared.BlockDescriptor.{BlockDescriptor}
 use Rattle.host_commands.specs.declared.ModeForm.{ModeForm}
 use Rattle.host_commands.specs.declared.ModePages.{ModePages}
-use Rattle.host_commands.specs.declared.names.UnitNames.{UnitNames}
+use Rattle.disk_units.specs.declared.names.UnitNames.{UnitNames}
 use Rattle.host_commands.specs.declared.UnitAttention.{UnitAttention}
 use Rattle.host_commands.specs.declared.VitalPage.{VitalPage}
 use Rattle.host_commands.specs.declared.Work.{Work}
@@ -27,7 +28,7 @@ use Rattle.host_commands.specs.Commands.{has_service_actions, named_command}
 use Rattle.host_commands.specs.OperationCodes.{named_action, named_either}
 use Rattle.host_commands.specs.Fields.{action_in, code_in, short_extent, sixteen_extent, ten_extent, twelve_extent}
 use Rattle.host_commands.specs.Laws.{ReadOnlyIsKept}
-use Rattle.host_commands.specs.Meaning.{asked_of, codes_asked, command_asked, goes_through, one_code, report_luns_asked, in_range, inquiry_asked, mode_sense_asked, named_asked, page_asked, pages_asked, reads, synchronizes, transferred, verifies, writes}
+use Rattle.host_commands.specs.Meaning.{asked_of, codes_asked, command_asked, disk_command_asked, disk_named_asked, disk_page_asked, goes_through, one_code, report_luns_asked, in_range, inquiry_asked, mode_sense_asked, named_asked, page_asked, pages_asked, reads, synchronizes, transferred, verifies, writes}
 use Rattle.host_commands.specs.Profile.{profile_work, profile_works}
 use Rattle.host_commands.specs.Protection.{allowed, changes_blocks, write_protected}
 use Rattle.host_commands.specs.Shapes.{Shape}
@@ -153,6 +154,24 @@ named-keeps : (command : Option HostCommand) (cdb : List ℕ) (maximum : ℕ) (s
 named-keeps None cdb maximum shape count attention is = refused _
 named-keeps (Some command) cdb maximum shape count attention is = command-keeps command cdb maximum shape count attention is
 
+-- THE DISK SET
+
+disk-page-keeps : (present : Bool) (allocation : ℕ) (page : Option DiskPage) → Keeps (disk_page_asked present allocation page)
+disk-page-keeps present allocation None = refused _
+disk-page-keeps present allocation (Some page) = done _ refl
+
+disk-command-keeps : (command : HostCommand) (cdb : List ℕ) (shape : Shape) (count : ℕ) (attention : Option UnitAttention) → shape.read_only ≡ true
+    → Keeps (disk_command_asked command cdb shape count attention)
+disk-command-keeps Inquiry cdb shape count attention is =
+    one_of _ _ _ (disk-page-keeps true _ _) (one_of _ _ _ (done _ refl) (refused _))
+disk-command-keeps ReadCapacity16 cdb shape count attention is = one_of _ _ _ (refused _) (done _ refl)
+disk-command-keeps command cdb shape count attention is = command-keeps command cdb shape.disk.most shape count attention is
+
+disk-named-keeps : (command : Option HostCommand) (cdb : List ℕ) (shape : Shape) (count : ℕ) (attention : Option UnitAttention) → shape.read_only ≡ true
+    → Keeps (disk_named_asked command cdb shape count attention)
+disk-named-keeps None cdb shape count attention is = refused _
+disk-named-keeps (Some command) cdb shape count attention is = disk-command-keeps command cdb shape count attention is
+
 -- THE PROFILE'S SET
 
 allowed-keeps : (work : Work) → Keeps (allowed true work)
@@ -173,3 +192,4 @@ unfolding asked_of
 kept cdb Profile shape count attention is = (works-keeps (asked cdb shape.blocks) shape is).so
 kept cdb (Host maximum) shape count attention is =
     (named-keeps (named_command (code_in cdb) (action_in cdb)) cdb maximum shape count attention is).so
+kept cdb Disk shape count attention is = (disk-named-keeps (named_command (code_in cdb) (action_in cdb)) cdb shape count attention is).so

@@ -5,10 +5,12 @@ use Rattle.scsi_cmd.specs.Fields.{zeros}
 use Rattle.scsi_cmd.specs.Sense.{invalid_field_in_cdb}
 use Rattle.host_commands.specs.Protection.{write_protected}
 use Rattle.host_commands.specs.declared.BlockLength.TheVariants.{Bytes512}
-use Rattle.host_commands.specs.declared.CommandSet.TheVariants.{Host}
+use Rattle.host_commands.specs.declared.CommandSet.TheVariants.{Host, Disk}
 use Rattle.host_commands.specs.declared.UnitAttention.TheVariants.{Reset}
 use Rattle.host_commands.specs.declared.Work.{Work}
 use Rattle.host_commands.specs.declared.Work.TheVariants.{Nothing, Gives, Reads, Writes, Synchronizes, Verifies, Compares}
+use Rattle.disk_units.specs.Data.{disk_page_bytes, inquiry_data}
+use Rattle.disk_units.specs.Units.{usual_unit}
 use Rattle.host_commands.specs.Data.{given_bytes}
 use Rattle.host_commands.specs.Meaning.{asked_of}
 use Rattle.host_commands.specs.ModeData.{mode_bytes}
@@ -24,7 +26,7 @@ read_only_disk : Shape
 read_only_disk = record disk { read_only = true }
 
 named_disk : Shape
-named_disk = record disk { names = record { vendor = codes "ACME    "; product = codes "VDISK           " } }
+named_disk = record disk { names = record { vendor = codes "ACME    "; product = codes "VDISK           "; revision = codes "0001" } }
 
 -- the bytes that a command gives in the host set of at most 128 blocks
 abbrev bytes_told : Result Work Sense → List ℕ
@@ -148,3 +150,32 @@ named_identification : bytes_told (asked_of ((0x12 ∷ 1 ∷ 0x83 ∷ 0 ∷ 36 �
     ≡ (0 ∷ 0x83 ∷ 0 ∷ 0x30 ∷ 2 ∷ 1 ∷ 0 ∷ 0x20 ∷ []) ++ codes "ACME    VDISK           0000"
 unfolding asked_of page_bytes named_disk disk
 named_identification = refl
+
+-- THE DISK SET: the host set's commands, with data of a disk's own
+
+-- 96 bytes of INQUIRY data
+disk_standard : bytes_told (asked_of ((0x12 ∷ 0 ∷ 0 ∷ 0 ∷ 96 ∷ []) ++ zeros 11) Disk named_disk 3 None)
+    ≡ (0 ∷ 0 ∷ 6 ∷ 2 ∷ 0x5b ∷ 0 ∷ 0 ∷ 2 ∷ []) ++ codes "ACME    VDISK           0001" ++ zeros 22
+    ++ (0 ∷ 0xa0 ∷ 0x17 ∷ 0x40 ∷ 4 ∷ 0x60 ∷ 4 ∷ 0xc0 ∷ []) ++ zeros 30
+unfolding asked_of inquiry_data named_disk disk
+disk_standard = refl
+
+-- page 86h, which the host set hasn't
+disk_extended : bytes_told (asked_of ((0x12 ∷ 1 ∷ 0x86 ∷ 0 ∷ 8 ∷ []) ++ zeros 11) Disk disk 3 None) ≡ 0 ∷ 0x86 ∷ 0 ∷ 0x3c ∷ 0 ∷ 1 ∷ 1 ∷ 0 ∷ []
+unfolding asked_of disk_page_bytes disk
+disk_extended = refl
+
+no_extended : asked_of ((0x12 ∷ 1 ∷ 0x86 ∷ 0 ∷ 8 ∷ []) ++ zeros 11) (Host 128) disk 3 None ≡ Err invalid_field_in_cdb
+unfolding asked_of disk
+no_extended = refl
+
+-- 256 blocks by READ(6) of a disk of which 256 may move
+many_read : asked_of ((0x08 ∷ zeros 5) ++ zeros 10) Disk (record disk { blocks = 256; disk = record usual_unit { most = 256 } }) 3 None ≡ Ok (Reads 0 256)
+unfolding asked_of disk
+many_read = refl
+
+-- MODE SENSE(6) of page 08h, read only, of 65,536 blocks
+disk_caching : bytes_told (asked_of ((0x1a ∷ 0 ∷ 8 ∷ 0 ∷ 255 ∷ []) ++ zeros 11) Disk (record read_only_disk { blocks = 65536 }) 3 None)
+    ≡ (0x1f ∷ 0 ∷ 0x90 ∷ 8 ∷ 0 ∷ 1 ∷ 0 ∷ 0 ∷ 0 ∷ 0 ∷ 2 ∷ 0 ∷ 8 ∷ 0x12 ∷ 4 ∷ []) ++ zeros 17
+unfolding asked_of mode_bytes read_only_disk disk
+disk_caching = refl

@@ -10,8 +10,8 @@ use Rattle.host_commands.specs.declared.VitalPage.{VitalPage}
 use Rattle.host_commands.specs.declared.VitalPage.TheVariants.{SupportedPages, UnitSerialNumber, DeviceIdentification, BlockLimits}
 use Rattle.host_commands.specs.declared.VitalPage.TheVariants.{BlockDeviceCharacteristics, LogicalBlockProvisioning}
 use Rattle.host_commands.specs.Commands.{of_maintenance, of_six, of_sixteen, of_ten, of_twelve}
-use Rattle.host_commands.specs.declared.names.UnitNames.{UnitNames}
-use Rattle.host_commands.specs.Names.{AreNames}
+use Rattle.disk_units.specs.declared.names.UnitNames.{UnitNames}
+use Rattle.disk_units.specs.Names.{AreNames}
 use Rattle.host_commands.specs.Pages.{page_bytes}
 use Rattle.host_commands.specs.Told.{IsTold, PagesAreListed, PagesTellThemselves, TakenAreTold, TellsItself, ToldAreTaken}
 

@@ -9,7 +9,7 @@ use Rattle.host_commands.specs.declared.BlockLength.TheVariants.{Bytes512}
 use Rattle.host_commands.specs.declared.CommandSet.TheVariants.{Host}
 use Rattle.host_commands.specs.declared.Data.{Data}
 use Rattle.host_commands.specs.declared.Data.TheVariants.{Inquiry as InquiryData, VitalProductData, RequestSense as SenseData, LogicalUnits, Mode, OperationCodes}
-use Rattle.host_commands.specs.declared.Data.TheVariants.{OperationCode, TaskManagementFunctions, Capacity, LongCapacity}
+use Rattle.host_commands.specs.declared.Data.TheVariants.{OperationCode, TaskManagementFunctions, Capacity, LongCapacity, Disk as DiskSet}
 use Rattle.host_commands.specs.declared.HostCommand.{HostCommand}
 use Rattle.host_commands.specs.declared.HostCommand.TheVariants.{TestUnitReady, RequestSense, Read6, Write6, Inquiry, ModeSense6, StartStopUnit, ReadCapacity10}
 use Rattle.host_commands.specs.declared.HostCommand.TheVariants.{Read10, Write10, Verify10, SynchronizeCache10, ModeSense10, Read16, Write16, Verify16}
@@ -52,6 +52,7 @@ data_numbers (OperationCode command timeouts) = 6 ∷ command_number command ∷
 data_numbers (TaskManagementFunctions extended) = 7 ∷ one_if extended ∷ []
 data_numbers (Capacity last_block block_length) = 8 ∷ []
 data_numbers (LongCapacity last_block block_length) = 9 ∷ []
+data_numbers (DiskSet given) = 10 ∷ []
 
 abbrev numbers : Result Work Sense → List ℕ
 numbers (Ok Nothing) = 0 ∷ []

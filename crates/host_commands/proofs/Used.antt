@@ -14,7 +14,7 @@ use Rattle.host_commands.specs.declared.HostCommand.TheVariants.{SynchronizeCach
 use Rattle.host_commands.specs.declared.HostCommand.TheVariants.{ReportSupportedTaskManagementFunctions, Read12, Write12, Verify12}
 use Rattle.host_commands.specs.declared.ModeForm.{ModeForm}
 use Rattle.host_commands.specs.declared.ModeForm.TheVariants.{Six, Ten}
-use Rattle.host_commands.specs.declared.names.UnitNames.{UnitNames}
+use Rattle.disk_units.specs.declared.names.UnitNames.{UnitNames}
 use Rattle.host_commands.specs.declared.UnitAttention.{UnitAttention}
 use Rattle.host_commands.specs.declared.Work.{Work}
 use Rattle.host_commands.specs.declared.Work.TheVariants.{Nothing, Gives, Synchronizes, Verifies, Compares}
@@ -24,7 +24,7 @@ use Rattle.host_commands.specs.Meaning.{asked_of, asked_of_none, codes_asked, co
 use Rattle.host_commands.specs.Meaning.{mode_sense_asked, named_asked, operation_codes_asked, page_asked, pages_asked, reads, report_luns_asked, request_sense_asked}
 use Rattle.host_commands.specs.Meaning.{saving_not_supported, sense_told, start_stop_asked, synchronizes, task_functions_asked, transferred, verifies, writes}
 use Rattle.host_commands.specs.ModeData.{pages_of}
-use Rattle.host_commands.specs.Names.{usual_names}
+use Rattle.disk_units.specs.Names.{usual_names}
 use Rattle.host_commands.specs.OperationCodes.{action_of}
 use Rattle.host_commands.specs.Pages.{page_of}
 use Rattle.host_commands.specs.Shapes.{Shape}
@@ -32,17 +32,17 @@ use Rattle.host_commands.specs.Told.{code_of}
 use Rattle.host_commands.specs.Usage.{AgreeWhereRead, IsCdbOf, UsageIsWhatIsRead, UsageIsWhatIsReadOfNone, is_read}
 use Rattle.host_commands.proofs.UsedBits.{eight, four, high_four, high_three, high_two, low_five, low_three, middle_two, protects, sixteen, ten, twelve, two, whole}
 
-three : {A B C D : Type 0} (f : A → B → C → D) {x y : A} {u v : B} {s t : C} → x ≡ y → u ≡ v → s ≡ t → f x u s ≡ f y v t
+pub three : {A B C D : Type 0} (f : A → B → C → D) {x y : A} {u v : B} {s t : C} → x ≡ y → u ≡ v → s ≡ t → f x u s ≡ f y v t
 three {A = A} {B = B} f {y = y} {v = v} {s = s} p q r = ap₂ (λ (a : A) (b : B). f a b s) p q ∙ ap (f y v) r
 
 -- two CDBs of a command that agree where it is read
-record Pair (command : HostCommand) (one other : List ℕ) : Type 0 where
-  one_is : IsCdbOf command one
-  other_is : IsCdbOf command other
-  agree : AgreeWhereRead command one other
+pub record Pair (command : HostCommand) (one other : List ℕ) : Type 0 where
+  pub one_is : IsCdbOf command one
+  pub other_is : IsCdbOf command other
+  pub agree : AgreeWhereRead command one other
 
 -- a byte whose bits are all told
-byte : (command : HostCommand) (one other : List ℕ) → Pair command one other → (usage : List ℕ) → usage_of command ≡ usage → (place : ℕ)
+pub byte : (command : HostCommand) (one other : List ℕ) → Pair command one other → (usage : List ℕ) → usage_of command ≡ usage → (place : ℕ)
     → slice_index usage place ≡ 0xff → (place == 1) ≡ false → slice_index one place ≡ slice_index other place
 byte command one other pair usage is place full behind =
     whole command one other pair.one_is pair.other_is pair.agree place (ap (λ (u : List ℕ). slice_index u place) is ∙ full) behind
@@ -212,7 +212,7 @@ capacity_by shape action allocation =
 
 -- EVERY COMMAND
 
-command_same : (command : HostCommand) (one other : List ℕ) (maximum count : ℕ) (shape : Shape) (attention : Option UnitAttention) → Pair command one other
+pub command_same : (command : HostCommand) (one other : List ℕ) (maximum count : ℕ) (shape : Shape) (attention : Option UnitAttention) → Pair command one other
     → command_asked command one maximum shape count attention ≡ command_asked command other maximum shape count attention
 command_same TestUnitReady one other maximum count shape attention pair = refl
 command_same RequestSense one other maximum count shape attention pair = sense_same one other (sense_told attention) pair
@@ -298,12 +298,12 @@ by_code Read12 action is = refl
 by_code Write12 action is = refl
 by_code Verify12 action is = refl
 
-named : (command : HostCommand) (cdb : List ℕ) → IsCdbOf command cdb → named_command (code_in cdb) (action_in cdb) ≡ Some command
+pub named : (command : HostCommand) (cdb : List ℕ) → IsCdbOf command cdb → named_command (code_in cdb) (action_in cdb) ≡ Some command
 named command cdb is = ap (λ (code : ℕ). named_command code (action_in cdb)) is.code ∙ by_code command (action_in cdb) is.action
 
 pub usage_is_read : UsageIsWhatIsRead
 unfolding asked_of
-usage_is_read command one other maximum count shape attention one_is other_is agree =
+usage_is_read maximum command one other count shape attention one_is other_is agree =
     let pair : Pair command one other = record { one_is = one_is; other_is = other_is; agree = agree } in
     ap (λ (c : Option HostCommand). named_asked c one maximum shape count attention) (named command one one_is)
     ∙ command_same command one other maximum count shape attention pair
@@ -311,14 +311,14 @@ usage_is_read command one other maximum count shape attention one_is other_is ag
 
 -- WHERE NO LOGICAL UNIT IS
 
-abbrev none_by : List ℕ → ℕ → ℕ → ℕ → Result Work Sense
+abbrev pub none_by : List ℕ → ℕ → ℕ → ℕ → Result Work Sense
 none_by cdb maximum count code =
     if code == 0x12 then inquiry_asked cdb false 0 usual_names maximum
     else (if code == 0xa0 then report_luns_asked cdb count
     else (if code == 0x03 then request_sense_asked cdb unit_not_supported
     else Err unit_not_supported))
 
-none_same : (command : HostCommand) (one other : List ℕ) (maximum count : ℕ) → Pair command one other
+pub none_same : (command : HostCommand) (one other : List ℕ) (maximum count : ℕ) → Pair command one other
     → none_by one maximum count (code_of command) ≡ none_by other maximum count (code_of command)
 none_same RequestSense one other maximum count pair = sense_same one other unit_not_supported pair
 none_same Inquiry one other maximum count pair = inquiry_same one other false 0 usual_names maximum pair
@@ -327,6 +327,6 @@ none_same command one other maximum count pair = refl
 
 pub usage_is_read_of_none : UsageIsWhatIsReadOfNone
 unfolding asked_of_none
-usage_is_read_of_none command one other maximum count one_is other_is agree =
+usage_is_read_of_none maximum command one other count one_is other_is agree =
     let pair : Pair command one other = record { one_is = one_is; other_is = other_is; agree = agree } in
     ap (none_by one maximum count) one_is.code ∙ none_same command one other maximum count pair ∙ sym (ap (none_by other maximum count) other_is.code)

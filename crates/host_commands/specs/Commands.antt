@@ -4,7 +4,7 @@ use Rattle.scsi_cmd.specs.Fields.{zeros}
 use Rattle.host_commands.specs.declared.Attention.{Attention}
 use Rattle.host_commands.specs.declared.Attention.TheVariants.{Ignored, Given, Reported}
 use Rattle.host_commands.specs.declared.CommandSet.{CommandSet}
-use Rattle.host_commands.specs.declared.CommandSet.TheVariants.{Profile, Host}
+use Rattle.host_commands.specs.declared.CommandSet.TheVariants.{Profile, Host, Disk}
 use Rattle.host_commands.specs.declared.HostCommand.{HostCommand}
 use Rattle.host_commands.specs.declared.HostCommand.TheVariants.{TestUnitReady, RequestSense, Read6, Write6, Inquiry, ModeSense6, StartStopUnit, ReadCapacity10}
 use Rattle.host_commands.specs.declared.HostCommand.TheVariants.{Read10, Write10, Verify10, SynchronizeCache10, ModeSense10, Read16, Write16, Verify16}
@@ -157,3 +157,4 @@ host_attention code =
 abbrev pub attention_of : ℕ → CommandSet → Attention
 attention_of code Profile = if code == 0x12 then Ignored else Reported
 attention_of code (Host maximum) = host_attention code
+attention_of code Disk = host_attention code

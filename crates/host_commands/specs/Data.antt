@@ -1,13 +1,14 @@
 -- The bytes of data, whole and cut to an allocation length (SPC, SBC).
-use Rattle.std.specs.Prelude.{ℕ, zero, suc, ◌+◌, ◌*◌, ◌≤◌, List, [], ◌∷◌, ◌++◌, Bool, codes, take}
+use Rattle.std.specs.Prelude.{ℕ, zero, suc, ◌+◌, ◌*◌, ◌≤◌, List, [], ◌∷◌, ◌++◌, Bool, take}
 use Rattle.scsi_cmd.specs.Data.{peripheral_byte}
 use Rattle.scsi_cmd.specs.Fields.{four_bytes, eight_bytes, zeros}
 use Rattle.scsi_cmd.specs.Sense.{sense_bytes}
 use Rattle.uas_profile.specs.declared.TheConstants.{MAX_UNITS}
+use Rattle.disk_units.specs.Data.{disk_bytes}
 use Rattle.host_commands.specs.declared.Data.{Data}
 use Rattle.host_commands.specs.declared.Data.TheVariants.{Inquiry, VitalProductData, RequestSense, LogicalUnits, Mode, OperationCodes, OperationCode}
-use Rattle.host_commands.specs.declared.Data.TheVariants.{TaskManagementFunctions, Capacity, LongCapacity}
-use Rattle.host_commands.specs.declared.names.UnitNames.{UnitNames}
+use Rattle.host_commands.specs.declared.Data.TheVariants.{TaskManagementFunctions, Capacity, LongCapacity, Disk}
+use Rattle.disk_units.specs.declared.names.UnitNames.{UnitNames}
 use Rattle.host_commands.specs.Fields.{four_bytes_at_most}
 use Rattle.host_commands.specs.ModeData.{mode_bytes}
 use Rattle.host_commands.specs.OperationCodes.{all_commands_bytes, one_command, task_functions}
@@ -17,7 +18,7 @@ use Rattle.host_commands.specs.Shapes.{block_bytes}
 -- standard INQUIRY data: 8 bytes of header, 8 of vendor, 16 of product, 4 of revision
 abbrev pub named_inquiry : Bool → UnitNames → List ℕ
 named_inquiry present names =
-    (peripheral_byte present ∷ 0 ∷ 6 ∷ 2 ∷ 0x1f ∷ 0 ∷ 0 ∷ 2 ∷ []) ++ names.vendor ++ names.product ++ codes "0001"
+    (peripheral_byte present ∷ 0 ∷ 6 ∷ 2 ∷ 0x1f ∷ 0 ∷ 0 ∷ 2 ∷ []) ++ names.vendor ++ names.product ++ names.revision
 
 -- so many LUNs from this number on, each 00, the number and six zeros
 abbrev pub luns_from : ℕ → ℕ → List ℕ
@@ -42,6 +43,7 @@ data_bytes (OperationCode command timeouts) = one_command command timeouts
 data_bytes (TaskManagementFunctions extended) = task_functions extended
 data_bytes (Capacity last_block block_length) = four_bytes_at_most last_block ++ four_bytes (block_bytes block_length)
 data_bytes (LongCapacity last_block block_length) = eight_bytes last_block ++ four_bytes (block_bytes block_length) ++ zeros 20
+data_bytes (Disk given) = disk_bytes given
 
 -- there are at most 15 logical units
 abbrev pub IsOfDevice : Data → Type 0
@@ -55,6 +57,7 @@ IsOfDevice (OperationCode command timeouts) = Unit {0}
 IsOfDevice (TaskManagementFunctions extended) = Unit {0}
 IsOfDevice (Capacity last_block block_length) = Unit {0}
 IsOfDevice (LongCapacity last_block block_length) = Unit {0}
+IsOfDevice (Disk given) = Unit {0}
 
 -- at most so many bytes of it
 abbrev pub given_bytes : Data → ℕ → List ℕ

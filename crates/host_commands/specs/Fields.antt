@@ -1,5 +1,5 @@
 -- Fields of CDBs and of data that scsi_cmd doesn't have.
-use Rattle.std.specs.Prelude.{ℕ, ◌+◌, ◌*◌, ◌/◌, ◌%◌, ◌^◌, ◌-◌, min, if◌then◌else◌, ◌==◌, List, [], ◌∷◌, slice_index, replicate}
+use Rattle.std.specs.Prelude.{ℕ, ◌+◌, ◌*◌, ◌%◌, ◌^◌, ◌-◌, min, if◌then◌else◌, ◌==◌, List, slice_index, replicate}
 use Rattle.scsi_cmd.specs.Fields.{field_of_eight, field_of_four, field_of_two, four_bytes}
 use Rattle.host_commands.specs.declared.fields.Extent.{Extent}
 
@@ -41,12 +41,3 @@ ones n = replicate n 0xff
 -- a number in a field of four bytes, or FFFFFFFFh where it doesn't fit
 abbrev pub four_bytes_at_most : ℕ → List ℕ
 four_bytes_at_most n = four_bytes (min n (2 ^ 32 - 1))
-
--- eight decimal digits: 123 is `00000123`
-abbrev pub digit : ℕ → ℕ
-digit n = 48 + n % 10
-
-abbrev pub eight_digits : ℕ → List ℕ
-eight_digits n =
-    digit (n / 10000000) ∷ digit (n / 1000000) ∷ digit (n / 100000) ∷ digit (n / 10000)
-    ∷ digit (n / 1000) ∷ digit (n / 100) ∷ digit (n / 10) ∷ digit n ∷ []

@@ -1,6 +1,4 @@
 -- What hosts ask of a disk, and the bytes that it gives.
-pub mod Printable
-pub mod Names
 pub mod Shapes
 pub mod Protection
 pub mod Fields

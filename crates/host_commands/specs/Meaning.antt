@@ -7,9 +7,9 @@ use Rattle.scsi_cmd.specs.Meaning.{asks_for_other_action, asks_for_protection}
 use Rattle.scsi_cmd.specs.Sense.{illegal_request, invalid_field_in_cdb, invalid_operation_code, out_of_range, reset_occurred, unit_not_supported}
 use Rattle.host_commands.specs.declared.BlockDescriptor.{BlockDescriptor}
 use Rattle.host_commands.specs.declared.CommandSet.{CommandSet}
-use Rattle.host_commands.specs.declared.CommandSet.TheVariants.{Profile, Host}
+use Rattle.host_commands.specs.declared.CommandSet.TheVariants.{Profile, Host, Disk}
 use Rattle.host_commands.specs.declared.Data.TheVariants.{Inquiry as InquiryData, VitalProductData, RequestSense as SenseData, LogicalUnits, Mode, OperationCodes}
-use Rattle.host_commands.specs.declared.Data.TheVariants.{OperationCode, TaskManagementFunctions, Capacity, LongCapacity}
+use Rattle.host_commands.specs.declared.Data.TheVariants.{OperationCode, TaskManagementFunctions, Capacity, LongCapacity, Disk as DiskSet}
 use Rattle.host_commands.specs.declared.HostCommand.{HostCommand}
 use Rattle.host_commands.specs.declared.HostCommand.TheVariants.{TestUnitReady, RequestSense, Read6, Write6, Inquiry, ModeSense6, StartStopUnit, ReadCapacity10}
 use Rattle.host_commands.specs.declared.HostCommand.TheVariants.{Read10, Write10, Verify10, SynchronizeCache10, ModeSense10, Read16, Write16, Verify16}
@@ -26,15 +26,20 @@ use Rattle.host_commands.specs.declared.Work.TheVariants.{Nothing, Gives, Reads,
 use Rattle.host_commands.specs.Commands.{has_service_actions, named_command}
 use Rattle.host_commands.specs.Data.{IsOfDevice}
 use Rattle.host_commands.specs.declared.fields.Extent.{Extent}
-use Rattle.host_commands.specs.declared.names.UnitNames.{UnitNames}
+use Rattle.disk_units.specs.declared.names.UnitNames.{UnitNames}
 use Rattle.host_commands.specs.Fields.{action_in, code_in, short_extent, sixteen_extent, ten_extent, twelve_extent}
 use Rattle.host_commands.specs.ModeData.{pages_of}
-use Rattle.host_commands.specs.Names.{usual_names}
+use Rattle.disk_units.specs.Names.{usual_names}
+use Rattle.disk_units.specs.Pages.{disk_page, long_capacity, standard_inquiry}
+use Rattle.disk_units.specs.Units.{usual_unit}
+use Rattle.disk_units.specs.declared.pages.DiskData.TheVariants.{Page}
+use Rattle.disk_units.specs.declared.pages.DiskPage.{DiskPage}
+use Rattle.disk_units.specs.declared.unit.DiskUnit.{DiskUnit}
 use Rattle.host_commands.specs.OperationCodes.{named_action, named_either}
 use Rattle.host_commands.specs.Pages.{page_of}
 use Rattle.host_commands.specs.Profile.{profile_asked, profile_asked_of_none}
 use Rattle.host_commands.specs.Protection.{write_protected}
-use Rattle.host_commands.specs.Shapes.{Shape}
+use Rattle.host_commands.specs.Shapes.{Shape, block_bytes}
 
 -- BLOCKS
 
@@ -219,6 +224,35 @@ abbrev pub named_asked : Option HostCommand → List ℕ → ℕ → Shape → �
 named_asked None cdb maximum shape count attention = Err invalid_operation_code
 named_asked (Some command) cdb maximum shape count attention = command_asked command cdb maximum shape count attention
 
+-- THE DISK SET: the host set's commands, of which a READ or WRITE moves as many blocks as the logical unit says, INQUIRY has a disk's data and
+-- pages, and READ CAPACITY(16) tells of the medium's blocks too
+
+abbrev pub disk_page_asked : Bool → ℕ → Option DiskPage → Result Work Sense
+disk_page_asked present allocation None = Err invalid_field_in_cdb
+disk_page_asked present allocation (Some page) = Ok (Gives (DiskSet (Page page present)) allocation)
+
+abbrev pub disk_inquiry_asked : List ℕ → Bool → DiskUnit → UnitNames → ℕ → ℕ → Result Work Sense
+disk_inquiry_asked cdb present disk names number bytes =
+    if is_bit_set (slice_index cdb 1) 0
+    then disk_page_asked present (field_of_two cdb 3) (disk_page (slice_index cdb 2) disk names number bytes)
+    else (if slice_index cdb 2 == 0 then Ok (Gives (DiskSet (standard_inquiry present disk names)) (field_of_two cdb 3))
+    else Err invalid_field_in_cdb)
+
+abbrev pub disk_capacity_asked : List ℕ → Shape → Result Work Sense
+disk_capacity_asked cdb shape =
+    if asks_for_other_action cdb then Err invalid_field_in_cdb
+    else Ok (Gives (DiskSet (long_capacity shape.disk (shape.blocks - 1) (block_bytes shape.block_length))) (field_of_four cdb 10))
+
+abbrev pub disk_command_asked : HostCommand → List ℕ → Shape → ℕ → Option UnitAttention → Result Work Sense
+disk_command_asked Inquiry cdb shape count attention =
+    disk_inquiry_asked cdb true shape.disk shape.names shape.serial (block_bytes shape.block_length)
+disk_command_asked ReadCapacity16 cdb shape count attention = disk_capacity_asked cdb shape
+disk_command_asked command cdb shape count attention = command_asked command cdb shape.disk.most shape count attention
+
+abbrev pub disk_named_asked : Option HostCommand → List ℕ → Shape → ℕ → Option UnitAttention → Result Work Sense
+disk_named_asked None cdb shape count attention = Err invalid_operation_code
+disk_named_asked (Some command) cdb shape count attention = disk_command_asked command cdb shape count attention
+
 -- THE QUESTION
 
 -- In a command set, of a logical unit of a device that has so many. Worked in the host set of at most 128 blocks: 0a 00 00 01 01 00
@@ -227,6 +261,7 @@ unfoldable pub asked_of : List ℕ → CommandSet → Shape → ℕ → Option U
 asked_of cdb Profile shape count attention = profile_asked cdb shape
 asked_of cdb (Host maximum) shape count attention =
     named_asked (named_command (code_in cdb) (action_in cdb)) cdb maximum shape count attention
+asked_of cdb Disk shape count attention = disk_named_asked (named_command (code_in cdb) (action_in cdb)) cdb shape count attention
 
 -- where no logical unit is: INQUIRY, REPORT LUNS and REQUEST SENSE are answered, and nothing else is
 abbrev pub host_asked_of_none : List ℕ → ℕ → ℕ → Result Work Sense
@@ -236,16 +271,23 @@ host_asked_of_none cdb maximum count =
     else (if code_in cdb == 0x03 then request_sense_asked cdb unit_not_supported
     else Err unit_not_supported))
 
+-- the same in the disk set, where INQUIRY has the data of a disk of which nothing is said
+abbrev pub disk_asked_of_none : List ℕ → ℕ → Result Work Sense
+disk_asked_of_none cdb count =
+    if code_in cdb == 0x12 then disk_inquiry_asked cdb false usual_unit usual_names 0 512 else host_asked_of_none cdb 128 count
+
 unfoldable pub asked_of_none : List ℕ → CommandSet → ℕ → Result Work Sense
 asked_of_none cdb Profile count = profile_asked_of_none cdb
 asked_of_none cdb (Host maximum) count = host_asked_of_none cdb maximum count
+asked_of_none cdb Disk count = disk_asked_of_none cdb count
 
 -- WHAT IS TRUE OF THE WORK
 
--- the most blocks that a READ or a WRITE moves
-abbrev pub most_moved : CommandSet → ℕ
-most_moved Profile = 128
-most_moved (Host maximum) = maximum
+-- the most blocks that a READ or a WRITE of a logical unit moves
+abbrev pub most_moved : CommandSet → Shape → ℕ
+most_moved Profile shape = 128
+most_moved (Host maximum) shape = maximum
+most_moved Disk shape = shape.disk.most
 
 -- its blocks are on a logical unit of so many, it moves at most so many of them, and its data are a device's
 abbrev pub IsWorkOn : ℕ → ℕ → Work → Type 0

@@ -5,8 +5,8 @@ use Rattle.scsi_cmd.specs.Fields.{four_bytes, eight_bytes, zeros}
 use Rattle.host_commands.specs.declared.VitalPage.{VitalPage}
 use Rattle.host_commands.specs.declared.VitalPage.TheVariants.{SupportedPages, UnitSerialNumber, DeviceIdentification, BlockLimits}
 use Rattle.host_commands.specs.declared.VitalPage.TheVariants.{BlockDeviceCharacteristics, LogicalBlockProvisioning}
-use Rattle.host_commands.specs.declared.names.UnitNames.{UnitNames}
-use Rattle.host_commands.specs.Fields.{eight_digits}
+use Rattle.disk_units.specs.declared.names.UnitNames.{UnitNames}
+use Rattle.disk_units.specs.Digits.{eight_digits}
 
 -- the page of a page code, for a logical unit of this serial number and names, and reads and writes of at most so many blocks
 abbrev pub page_of : ℕ → ℕ → UnitNames → ℕ → Option VitalPage

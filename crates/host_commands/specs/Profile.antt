@@ -9,7 +9,7 @@ use Rattle.scsi_cmd.specs.Work.{asked_without_unit}
 use Rattle.host_commands.specs.declared.Data.TheVariants.{Inquiry, Capacity, LongCapacity}
 use Rattle.host_commands.specs.declared.Work.{Work}
 use Rattle.host_commands.specs.declared.Work.TheVariants.{Nothing, Gives, Reads, Writes, Synchronizes}
-use Rattle.host_commands.specs.Names.{usual_names}
+use Rattle.disk_units.specs.Names.{usual_names}
 use Rattle.host_commands.specs.Protection.{allowed}
 use Rattle.host_commands.specs.Shapes.{Shape}
 

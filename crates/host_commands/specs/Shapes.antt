@@ -1,13 +1,16 @@
 -- Logical units and command sets, and the numbers that they can't have.
-use Rattle.std.specs.Prelude.{◌≡◌, ℕ, ◌%◌, ◌^◌, ◌==◌, nat_lt, Bool, false, not, ◌||◌, if◌then◌else◌, Result, Ok, Err}
+use Rattle.std.specs.Prelude.{◌≡◌, ℕ, ◌%◌, ◌^◌, ◌==◌, nat_lt, Bool, false, not, ◌||◌, if◌then◌else◌, Option, None, Some, Result, Ok, Err}
 use Rattle.host_commands.specs.declared.BlockLength.{BlockLength}
 use Rattle.host_commands.specs.declared.BlockLength.TheVariants.{Bytes512, Bytes4096}
 use Rattle.host_commands.specs.declared.CommandSet.{CommandSet}
 use Rattle.host_commands.specs.declared.CommandSet.TheVariants.{Host}
 use Rattle.host_commands.specs.declared.ShapeFault.{ShapeFault}
 use Rattle.host_commands.specs.declared.ShapeFault.TheVariants.{SerialNumber, NoBlock, TooManyBlocks, TransferLength}
-use Rattle.host_commands.specs.declared.names.UnitNames.{UnitNames}
-use Rattle.host_commands.specs.Names.{usual_names}
+use Rattle.disk_units.specs.declared.names.UnitNames.{UnitNames}
+use Rattle.disk_units.specs.Names.{usual_names}
+use Rattle.disk_units.specs.Units.{disk_fault, usual_unit}
+use Rattle.disk_units.specs.declared.DiskFault.{DiskFault}
+use Rattle.disk_units.specs.declared.unit.DiskUnit.{DiskUnit}
 
 -- the bytes of a block
 abbrev pub block_bytes : BlockLength → ℕ
@@ -18,18 +21,28 @@ block_bytes Bytes4096 = 4096
 abbrev pub serial_number : ℕ → Result ℕ ShapeFault
 serial_number number = if nat_lt number 100000000 then Ok number else Err SerialNumber
 
--- a logical unit: how many blocks of how many bytes, its serial number, whether it refuses what changes blocks, and its names
+-- a logical unit: how many blocks of how many bytes, its serial number, whether it refuses what changes blocks, its names, and what is said of it
+-- in the disk set
 pub record Shape : Type 0 where
   pub blocks : ℕ
   pub block_length : BlockLength
   pub serial : ℕ
   pub read_only : Bool
   pub names : UnitNames
+  pub disk : DiskUnit
 
--- one that may be written and has the usual names
+-- one that may be written, has the usual names, and of which nothing else is said
 abbrev pub plain_shape : ℕ → BlockLength → ℕ → Shape
 plain_shape blocks block_length serial =
-    record { blocks = blocks; block_length = block_length; serial = serial; read_only = false; names = usual_names }
+    record { blocks = blocks; block_length = block_length; serial = serial; read_only = false; names = usual_names; disk = usual_unit }
+
+-- one of the disk set, unless what is said of it has a fault
+abbrev pub disk_unless : Option DiskFault → Shape → DiskUnit → Result Shape DiskFault
+disk_unless None shape disk = Ok (record shape { disk = disk })
+disk_unless (Some fault) shape disk = Err fault
+
+abbrev pub with_disk : Shape → DiskUnit → Result Shape DiskFault
+with_disk shape disk = disk_unless (disk_fault disk (block_bytes shape.block_length)) shape disk
 
 pub record IsPlain (shape : Shape) : Type 0 where
   pub read_only : shape.read_only ≡ false

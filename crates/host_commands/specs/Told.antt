@@ -4,9 +4,9 @@ use Rattle.std.specs.List.{list_any}
 use Rattle.host_commands.specs.declared.HostCommand.{HostCommand}
 use Rattle.host_commands.specs.declared.VitalPage.{VitalPage}
 use Rattle.host_commands.specs.declared.VitalPage.TheVariants.{SupportedPages}
-use Rattle.host_commands.specs.declared.names.UnitNames.{UnitNames}
+use Rattle.disk_units.specs.declared.names.UnitNames.{UnitNames}
 use Rattle.host_commands.specs.Commands.{all_commands, named_command, usage_of}
-use Rattle.host_commands.specs.Names.{AreNames}
+use Rattle.disk_units.specs.Names.{AreNames}
 use Rattle.host_commands.specs.OperationCodes.{action_of}
 use Rattle.host_commands.specs.Pages.{page_bytes, page_of}
 

@@ -1,6 +1,7 @@
 -- The bits of a CDB that are told as used, against those that are looked at (SPC, CDB USAGE DATA).
 use Rattle.std.specs.Prelude.{◌≡◌, ◌≢◌, ℕ, ◌+◌, ◌^◌, ◌<◌, ◌==◌, nat_lt, Bool, true, false, not, ◌&&◌, ◌||◌, List, length, slice_index, slice_set, Option, None}
 use Rattle.scsi_cmd.specs.Fields.{is_bit_set}
+use Rattle.host_commands.specs.declared.CommandSet.{CommandSet}
 use Rattle.host_commands.specs.declared.CommandSet.TheVariants.{Host}
 use Rattle.host_commands.specs.declared.HostCommand.{HostCommand}
 use Rattle.host_commands.specs.declared.HostCommand.TheVariants.{Read10, Read12, Read16, Verify10, Verify12, Verify16, Write10, Write12, Write16}
@@ -43,19 +44,25 @@ abbrev pub AgreeWhereRead : HostCommand → List ℕ → List ℕ → Type 0
 AgreeWhereRead command one other =
     (place bit : ℕ) → bit < 8 → is_read command place bit ≡ true → is_bit_set (slice_index one place) bit ≡ is_bit_set (slice_index other place) bit
 
--- Such CDBs ask for the same: all that is looked at is told.
-abbrev pub UsageIsWhatIsRead : Type 0
-UsageIsWhatIsRead =
-    (command : HostCommand) (one other : List ℕ) (maximum count : ℕ) (shape : Shape) (attention : Option UnitAttention)
+-- Such CDBs ask for the same in a command set: all that is looked at is told.
+abbrev pub IsByUsage : CommandSet → Type 0
+IsByUsage set =
+    (command : HostCommand) (one other : List ℕ) (count : ℕ) (shape : Shape) (attention : Option UnitAttention)
     → IsCdbOf command one → IsCdbOf command other → AgreeWhereRead command one other
-    → asked_of one (Host maximum) shape count attention ≡ asked_of other (Host maximum) shape count attention
+    → asked_of one set shape count attention ≡ asked_of other set shape count attention
 
 -- and where no logical unit is
-abbrev pub UsageIsWhatIsReadOfNone : Type 0
-UsageIsWhatIsReadOfNone =
-    (command : HostCommand) (one other : List ℕ) (maximum count : ℕ)
+abbrev pub IsByUsageOfNone : CommandSet → Type 0
+IsByUsageOfNone set =
+    (command : HostCommand) (one other : List ℕ) (count : ℕ)
     → IsCdbOf command one → IsCdbOf command other → AgreeWhereRead command one other
-    → asked_of_none one (Host maximum) count ≡ asked_of_none other (Host maximum) count
+    → asked_of_none one set count ≡ asked_of_none other set count
+
+abbrev pub UsageIsWhatIsRead : Type 0
+UsageIsWhatIsRead = (maximum : ℕ) → IsByUsage (Host maximum)
+
+abbrev pub UsageIsWhatIsReadOfNone : Type 0
+UsageIsWhatIsReadOfNone = (maximum : ℕ) → IsByUsageOfNone (Host maximum)
 
 -- THE OTHER WAY: each bit that is told is looked at, but for those that change nothing
 

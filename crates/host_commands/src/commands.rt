@@ -184,7 +184,7 @@ pub fn attention_of(code: u8, set: &CommandSet) -> Attention
         } else {
             Attention::Reported
         }
-        CommandSet::Host { .. } => host_attention(code),
+        CommandSet::Host { .. } | CommandSet::Disk => host_attention(code),
     }
 }
 

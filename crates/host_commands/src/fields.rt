@@ -1,12 +1,13 @@
 //! Fields of CDBs and of data: big endian numbers.
 ghost use Rattle.std.specs.Prelude.{◌≡◌, ◌+◌, ◌<◌, ◌≤◌, ◌++◌, length};
 ghost use Rattle.arrayvec.specs.ArrayVec.{array_vec_len};
-ghost use Rattle.scsi_cmd.specs.Fields.{eight_bytes, field_of_eight, field_of_four, field_of_two, four_bytes, is_bit_set};
-ghost use Rattle.host_commands.specs.Fields.{action_in, digit, eight_digits, four_bytes_at_most, short_extent, sixteen_extent, ten_extent, twelve_extent};
+ghost use Rattle.scsi_cmd.specs.Fields.{field_of_eight, field_of_four, field_of_two, is_bit_set};
+ghost use Rattle.host_commands.specs.Fields.{action_in, four_bytes_at_most, short_extent, sixteen_extent, ten_extent, twelve_extent};
 ghost use Rattle.host_commands.specs.declared.TheConstants.{MOST_DATA_BYTES};
 
 use crate::MOST_DATA_BYTES;
 use arrayvec::ArrayVec;
+use disk_units::four_bytes;
 
 /// The service action is in these bits of byte 1, and the highest part of a short block number too.
 const LOW_FIVE_BITS: u8 = 0x1f;
@@ -92,47 +93,11 @@ pub(crate) fn has_bit(byte: u8, bit: u8) -> bool
     byte >> bit & 1 == 1
 }
 
-pub(crate) fn four_bytes(number: u32) -> [u8; 4]
-    ensures { result ≡ four_bytes number }
-{
-    number.to_be_bytes()
-}
-
-pub(crate) fn eight_bytes(number: u64) -> [u8; 8]
-    ensures { result ≡ eight_bytes number }
-{
-    let [a, b, c, d] = four_bytes((number >> 32) as u32);
-    let [e, f, g, h] = four_bytes((number & 0xffff_ffff) as u32);
-    [a, b, c, d, e, f, g, h]
-}
-
 /// A number in four bytes, or FFFFFFFFh where it doesn't fit.
 pub(crate) fn four_bytes_at_most(number: u64) -> [u8; 4]
     ensures { result ≡ four_bytes_at_most number }
 {
     four_bytes(number.min(u64::from(u32::MAX)) as u32)
-}
-
-/// Eight decimal digits.
-pub(crate) fn eight_digits(number: u32) -> [u8; 8]
-    ensures { result ≡ eight_digits number }
-{
-    [
-        digit(number / 10_000_000),
-        digit(number / 1_000_000),
-        digit(number / 100_000),
-        digit(number / 10_000),
-        digit(number / 1_000),
-        digit(number / 100),
-        digit(number / 10),
-        digit(number),
-    ]
-}
-
-fn digit(number: u32) -> u8
-    ensures { result ≡ digit number }
-{
-    b'0' + (number % 10) as u8
 }
 
 /// Appends bytes, for which there is room.

@@ -1,5 +1,6 @@
 //! The commands that give data of the logical unit or of the device, and START STOP UNIT.
 ghost use Rattle.std.specs.Prelude.{◌≡◌, ℕ, ◌-◌, ◌≤◌, if◌then◌else◌, IfOk};
+ghost use Rattle.scsi_cmd.specs.Meaning.{asks_for_other_action};
 ghost use Rattle.host_commands.specs.Meaning.{IsWorkOn, codes_asked, descriptor_asked, inquiry_asked, long_capacity_asked, mode_sense_asked};
 ghost use Rattle.host_commands.specs.Meaning.{operation_codes_asked, page_asked, report_luns_asked, request_sense_asked, sense_told};
 ghost use Rattle.host_commands.specs.Meaning.{start_stop_asked, task_functions_asked};
@@ -226,12 +227,18 @@ pub(crate) fn read_capacity(shape: &LogicalUnitShape) -> Work
     }
 }
 
+pub(crate) fn asks_for_other_action(cdb: &[u8; 16]) -> bool
+    ensures { result ≡ asks_for_other_action cdb.now }
+{
+    action_in(cdb) != READ_CAPACITY_16
+}
+
 /// READ CAPACITY(16): another service action of its operation code is a fault.
 pub(crate) fn read_long_capacity(cdb: &[u8; 16], shape: &LogicalUnitShape) -> Result<Work, Sense>
     ensures work { result ≡ long_capacity_asked cdb.now shape.now }
     ensures on { (blocks most : ℕ) → IfOk result (IsWorkOn blocks most) }
 {
-    if action_in(cdb) != READ_CAPACITY_16 {
+    if asks_for_other_action(cdb) {
         return Err(Sense::INVALID_FIELD_IN_CDB);
     }
     Ok(Work::Gives {

@@ -1,10 +1,12 @@
 //! What the CDBs of a command set ask.
 ghost use Rattle.std.specs.Prelude.{◌≡◌, ◌≤◌, IfOk};
-ghost use Rattle.host_commands.specs.Meaning.{IsWorkOn, asked_of, asked_of_none, command_asked, host_asked_of_none, most_moved};
+ghost use Rattle.host_commands.specs.Meaning.{IsWorkOn, asked_of, asked_of_none, command_asked, disk_asked_of_none, disk_command_asked};
+ghost use Rattle.host_commands.specs.Meaning.{host_asked_of_none, most_moved};
 ghost use Rattle.uas_profile.specs.declared.TheConstants.{MAX_UNITS};
 
 use crate::blocks::{goes_through, protects, reads, synchronizes, verifies, writes};
 use crate::commands::{INQUIRY, REPORT_LUNS, REQUEST_SENSE, named_command};
+use crate::disk::{read_disk_capacity, read_disk_inquiry};
 use crate::fields::{action_in, short_extent, sixteen_extent, ten_extent, twelve_extent, two_at};
 use crate::given::{
     read_capacity, read_inquiry, read_long_capacity, read_mode_sense, read_operation_codes,
@@ -12,7 +14,7 @@ use crate::given::{
 };
 use crate::profile::{read_profile, read_profile_of_none};
 use crate::{
-    CommandSet, HostCommand, LogicalUnitShape, ModeForm, SerialNumber, TransferLength,
+    CommandSet, DiskUnit, HostCommand, LogicalUnitShape, ModeForm, SerialNumber, TransferLength,
     UnitAttention, UnitNames, Work,
 };
 use scsi_cmd::Sense;
@@ -30,7 +32,7 @@ pub fn read(
 ) -> Result<Work, Sense>
     requires { logical_units ≤ MAX_UNITS }
     ensures work { result ≡ asked_of cdb.now set.now shape.now logical_units attention }
-    ensures on { IfOk result (IsWorkOn shape.now.blocks (most_moved set.now)) }
+    ensures on { IfOk result (IsWorkOn shape.now.blocks (most_moved set.now shape.now)) }
 {
     match set {
         CommandSet::Profile => read_profile(cdb, shape),
@@ -41,6 +43,10 @@ pub fn read(
                 }
                 None => Err(Sense::INVALID_OPERATION_CODE),
             }
+        }
+        CommandSet::Disk => match named_command(cdb[0], action_in(cdb)) {
+            Some(command) => read_disk_command(command, cdb, shape, logical_units, attention),
+            None => Err(Sense::INVALID_OPERATION_CODE),
         }
     }
 }
@@ -60,6 +66,20 @@ pub fn read_without_logical_unit(
     match set {
         CommandSet::Profile => read_profile_of_none(cdb),
         CommandSet::Host { maximum } => read_host_of_none(cdb, *maximum, logical_units),
+        CommandSet::Disk => read_disk_of_none(cdb, logical_units),
+    }
+}
+
+fn read_disk_of_none(cdb: &[u8; 16], logical_units: u8) -> Result<Work, Sense>
+    requires { logical_units ≤ MAX_UNITS }
+    ensures work { result ≡ disk_asked_of_none cdb.now logical_units }
+    ensures on { IfOk result (IsWorkOn 0 0) }
+{
+    let usual = DiskUnit::usual();
+    if cdb[0] == INQUIRY {
+        read_disk_inquiry(cdb, false, &usual, UnitNames::usual(), 0, 512)
+    } else {
+        read_host_of_none(cdb, usual.most, logical_units)
     }
 }
 
@@ -83,6 +103,39 @@ fn read_host_of_none(
         REPORT_LUNS => read_report_luns(cdb, logical_units),
         REQUEST_SENSE => read_request_sense(cdb, Sense::UNIT_NOT_SUPPORTED),
         _ => Err(Sense::UNIT_NOT_SUPPORTED),
+    }
+}
+
+/// What a command of the disk set asks.
+fn read_disk_command(
+    command: HostCommand,
+    cdb: &[u8; 16],
+    shape: &LogicalUnitShape,
+    logical_units: u8,
+    attention: Option<UnitAttention>,
+) -> Result<Work, Sense>
+    requires { logical_units ≤ MAX_UNITS }
+    ensures work { result ≡ disk_command_asked command cdb.now shape.now logical_units attention }
+    ensures on { IfOk result (IsWorkOn shape.now.blocks shape.now.disk.most) }
+{
+    match command {
+        HostCommand::Inquiry => read_disk_inquiry(
+            cdb,
+            true,
+            shape.disk(),
+            shape.names(),
+            shape.serial().number(),
+            shape.block_length().bytes(),
+        ),
+        HostCommand::ReadCapacity16 => read_disk_capacity(cdb, shape),
+        _ => read_command(
+            command,
+            cdb,
+            shape.disk().most,
+            shape,
+            logical_units,
+            attention,
+        ),
     }
 }
 

@@ -1,7 +1,9 @@
 //! Laws of the command sets.
 ghost use Rattle.host_commands.specs.Laws.{ProfileIsKept, ProfileIsKeptOfNone, ReadOnlyIsKept};
 ghost use Rattle.host_commands.specs.Told.{PagesAreListed, PagesTellThemselves, TakenAreTold, ToldAreTaken};
-ghost use Rattle.host_commands.specs.Usage.{ToldBitsAreRead, UsageIsWhatIsRead, UsageIsWhatIsReadOfNone};
+ghost use Rattle.host_commands.specs.Usage.{IsByUsage, IsByUsageOfNone, ToldBitsAreRead, UsageIsWhatIsRead, UsageIsWhatIsReadOfNone};
+
+use crate::CommandSet;
 
 /// Law: on a logical unit of at most 2^32 blocks of 512 bytes that may be written and has the usual names, and where no logical unit is, the profile's set asks for what
 /// `scsi_cmd` says, with the same first fault and the same bytes of data.
@@ -21,10 +23,12 @@ pub fn lists_are_true()
 {}
 
 /// Law: the usage data of a command of the host set tell each bit of its CDBs that is looked at. CDBs of a command that agree in those bits, DPO
-/// and the FUA of READ left out, ask for the same, with the same first fault; and each of those bits makes a difference.
+/// and the FUA of READ left out, ask for the same, with the same first fault, in the disk set too; and each of those bits makes a difference.
 pub fn usage_is_what_is_read()
     ensures there { UsageIsWhatIsRead }
     ensures none { UsageIsWhatIsReadOfNone }
+    ensures disk { IsByUsage CommandSet.Disk }
+    ensures no_disk { IsByUsageOfNone CommandSet.Disk }
     ensures told { ToldBitsAreRead }
 {}
 

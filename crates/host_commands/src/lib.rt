@@ -4,6 +4,7 @@
 //! | Set | Commands |
 //! |---|---|
 //! | `Profile` | the nine of `scsi_cmd`, with the same answers byte for byte |
+//! | `Disk` | those of `Host`; INQUIRY and READ CAPACITY(16) tell what `disk_units` has of a logical unit, and its own number of blocks moves |
 //! | `Host` | those, and VERIFY, REPORT LUNS, MODE SENSE, REQUEST SENSE, START STOP UNIT, READ and WRITE of 6 and 12 bytes, SYNCHRONIZE CACHE(16), vital product data, supported operation codes and task management functions (SPC, SBC) |
 //!
 //! A command is a [`Work`], whichever CDB asked for it: nothing, data of the logical unit, blocks that are read, written,
@@ -25,28 +26,31 @@
 //! `specs/Meaning.antt`, [`write_data`] writes `data_bytes` of `specs/Data.antt`, and on blocks of 512 bytes the set `Profile`
 //! asks for what `scsi_cmd` says (`profile_is_kept`).
 //!
-//! It stands on `scsi_cmd` for sense data and the profile's commands and on `arrayvec` for the bytes. It takes no memory.
+//! It stands on `scsi_cmd` for sense data and the profile's commands, on `disk_units` for names and the disk set's data, and on `arrayvec` for the
+//! bytes. It takes no memory.
 #![tactic(auto)]
 
 mod blocks;
 mod commands;
+mod disk;
 mod fields;
 mod given;
 mod host;
 mod laws;
 mod mode;
-mod names;
 mod operation_codes;
-mod padding;
 mod pages;
 mod profile;
 mod shapes;
 mod writer;
 
 pub use commands::{attention_of, named_command};
+pub use disk_units::{
+    DiskData, DiskFault, DiskPage, DiskUnit, Eui, FormFactor, Naa, NameFault, Product, Revision,
+    Rotation, SerialText, TransferLength, UnitNames, Uuid, Vendor,
+};
 pub use host::{read, read_without_logical_unit};
 pub use laws::{lists_are_true, profile_is_kept, read_only_is_kept, usage_is_what_is_read};
-pub use names::{NameFault, Product, UnitNames, Vendor};
 use scsi_cmd::Sense;
 use std::marker::Model;
 use thiserror::Error;
@@ -78,7 +82,7 @@ impl Model for SerialNumber {
 }
 
 /// A logical unit as its commands see it: 1 to 2^48 blocks (`MOST_BLOCKS`) of one length, its serial number, whether it is read only,
-/// and its names.
+/// its names, and what is said of it in the disk set.
 #[derive(Clone, Copy, Debug, PartialEq, Eq)]
 pub struct LogicalUnitShape {
     blocks: u64,
@@ -86,6 +90,7 @@ pub struct LogicalUnitShape {
     serial: SerialNumber,
     read_only: bool,
     names: UnitNames,
+    disk: DiskUnit,
 }
 
 impl Model for LogicalUnitShape {
@@ -94,29 +99,11 @@ impl Model for LogicalUnitShape {
 
     ghost Value = { Shape };
 
-    ghost view = { λ unit. record { blocks = unit.blocks; block_length = unit.block_length; serial = unit.serial; read_only = unit.read_only; names = unit.names } };
+    ghost view = { λ unit. record { blocks = unit.blocks; block_length = unit.block_length; serial = unit.serial; read_only = unit.read_only; names = unit.names; disk = unit.disk } };
 
     ghost invariant = { λ unit. (1 ≤ unit.blocks) × (unit.blocks ≤ 2 ^ 48) };
 
-    ghost inverse = { λ shape. record { blocks = shape.blocks; block_length = shape.block_length; serial = shape.serial; read_only = shape.read_only; names = shape.names } };
-}
-
-/// The most blocks that one READ or WRITE of the host set moves: a multiple of 8 from 8 to 65,528. Contracts see the number.
-#[derive(Clone, Copy, Debug, PartialEq, Eq)]
-pub struct TransferLength {
-    blocks: u16,
-}
-
-impl Model for TransferLength {
-    ghost use Rattle.std.specs.Prelude.{ℕ, ◌≤◌};
-
-    ghost Value = { ℕ };
-
-    ghost view = { λ length. length.blocks };
-
-    ghost invariant = { λ length. (8 ≤ length.blocks) × (length.blocks ≤ 65528) };
-
-    ghost inverse = { λ blocks. record { blocks = blocks } };
+    ghost inverse = { λ shape. record { blocks = shape.blocks; block_length = shape.block_length; serial = shape.serial; read_only = shape.read_only; names = shape.names; disk = shape.disk } };
 }
 
 /// The commands that a device knows.
@@ -126,6 +113,8 @@ pub enum CommandSet {
     Profile,
     /// Those that hosts send, of at most so many blocks.
     Host { maximum: TransferLength },
+    /// The same, of logical units that serve virtual disks: each says itself what there is to tell of it, and how many blocks move.
+    Disk,
 }
 
 /// Why a logical unit or a command set can't be as asked: the first of these that holds.
@@ -313,6 +302,8 @@ pub enum Data {
         last_block: u64,
         block_length: BlockLength,
     },
+    /// Of the disk set: standard INQUIRY data, a page of vital product data, READ CAPACITY(16).
+    Disk(DiskData),
 }
 
 /// The most bytes of data: all operation codes with their timeouts.

@@ -7,9 +7,10 @@ ghost use Rattle.host_commands.specs.OperationCodes.{descriptor_size, one_comman
 ghost use Rattle.host_commands.specs.declared.TheConstants.{MOST_DATA_BYTES};
 
 use crate::commands::{ALL_COMMANDS, has_service_actions};
-use crate::fields::{four_bytes, put};
+use crate::fields::put;
 use crate::{HostCommand, MOST_DATA_BYTES};
 use arrayvec::ArrayVec;
+use disk_units::four_bytes;
 
 /// The command timeouts descriptor: 10 bytes follow, and no timeout is said.
 const TIMEOUTS: [u8; 12] = [0, 0x0a, 0, 0, 0, 0, 0, 0, 0, 0, 0, 0];

@@ -6,9 +6,10 @@ ghost use Rattle.scsi_cmd.specs.Fields.{eight_bytes};
 ghost use Rattle.host_commands.specs.Pages.{name_designator, page_bytes, vendor_designator};
 ghost use Rattle.host_commands.specs.declared.TheConstants.{MOST_DATA_BYTES};
 
-use crate::fields::{eight_bytes, eight_digits, four_bytes, put};
+use crate::fields::put;
 use crate::{MOST_DATA_BYTES, SerialNumber, UnitNames, VitalPage};
 use arrayvec::ArrayVec;
+use disk_units::{eight_bytes, eight_digits, four_bytes};
 
 /// Peripheral qualifier and device type where no logical unit is (SPC).
 const NO_UNIT: u8 = 0x7f;

@@ -1,10 +1,10 @@
 //! Logical units and command sets, made of numbers that are tested once.
 ghost use Rattle.std.specs.Prelude.{◌≡◌, ◌^◌, ◌<◌, ◌≤◌};
-ghost use Rattle.host_commands.specs.Shapes.{Shape, block_bytes, host_set, serial_number, shape_of};
+ghost use Rattle.host_commands.specs.Shapes.{Shape, block_bytes, host_set, serial_number, shape_of, with_disk};
 
 use crate::{
-    BlockLength, CommandSet, LogicalUnitShape, MOST_BLOCKS, Product, SERIAL_NUMBERS, SerialNumber,
-    ShapeFault, TransferLength, UnitNames, Vendor,
+    BlockLength, CommandSet, DiskFault, DiskUnit, LogicalUnitShape, MOST_BLOCKS, Product, Revision,
+    SERIAL_NUMBERS, SerialNumber, ShapeFault, TransferLength, UnitNames, Vendor,
 };
 
 impl BlockLength {
@@ -70,6 +70,7 @@ impl LogicalUnitShape {
                 serial,
                 read_only: false,
                 names: UnitNames::usual(),
+                disk: DiskUnit::usual(),
             })
         }
     }
@@ -83,11 +84,45 @@ impl LogicalUnitShape {
 
     /// The same, of this vendor and product.
     pub fn named(self, vendor: Vendor, product: Product) -> LogicalUnitShape
-        ensures { result ≡ record self { names = record { vendor = vendor; product = product } } }
+        ensures { result ≡ record self { names = record self.names { vendor = vendor; product = product } } }
     {
+        let revision = self.names.revision;
         LogicalUnitShape {
-            names: UnitNames { vendor, product },
+            names: UnitNames {
+                vendor,
+                product,
+                revision,
+            },
             ..self
+        }
+    }
+
+    /// The same, of this revision.
+    pub fn revised(self, revision: Revision) -> LogicalUnitShape
+        ensures { result ≡ record self { names = record self.names { revision = revision } } }
+    {
+        let UnitNames {
+            vendor,
+            product,
+            ..
+        } = self.names;
+        LogicalUnitShape {
+            names: UnitNames {
+                vendor,
+                product,
+                revision,
+            },
+            ..self
+        }
+    }
+
+    /// The same, of which this is said in the disk set. Refused with the first fault of that (`DiskUnit::fault`).
+    pub fn as_disk(self, disk: DiskUnit) -> Result<LogicalUnitShape, DiskFault>
+        ensures { result ≡ with_disk self disk }
+    {
+        match disk.fault(self.block_length.bytes()) {
+            Some(fault) => Err(fault),
+            None => Ok(LogicalUnitShape { disk, ..self }),
         }
     }
 
@@ -121,20 +156,18 @@ impl LogicalUnitShape {
         self.read_only
     }
 
-    /// Its vendor and product.
+    /// Its vendor, product and revision.
     pub fn names(&self) -> UnitNames
         ensures { result ≡ self.now.names }
     {
         self.names
     }
-}
 
-impl TransferLength {
-    /// How many blocks.
-    pub fn blocks(self) -> u16
-        ensures { result ≡ self }
+    /// What is said of it in the disk set.
+    pub fn disk(&self) -> &DiskUnit
+        ensures { result.now ≡ self.now.disk }
     {
-        self.blocks
+        &self.disk
     }
 }
 
@@ -144,13 +177,9 @@ impl CommandSet {
     pub fn host(maximum_transfer_blocks: u16) -> Result<CommandSet, ShapeFault>
         ensures { result ≡ host_set maximum_transfer_blocks }
     {
-        if maximum_transfer_blocks == 0 || maximum_transfer_blocks % 8 != 0 {
-            return Err(ShapeFault::TransferLength);
+        match TransferLength::new(maximum_transfer_blocks) {
+            Ok(maximum) => Ok(CommandSet::Host { maximum }),
+            Err(_) => Err(ShapeFault::TransferLength),
         }
-        Ok(CommandSet::Host {
-            maximum: TransferLength {
-                blocks: maximum_transfer_blocks,
-            },
-        })
     }
 }

@@ -1,17 +1,19 @@
 //! From data to their bytes.
 ghost use Rattle.std.specs.Prelude.{◌≡◌, ◌+◌, ◌≤◌, ◌++◌, length};
 ghost use Rattle.arrayvec.specs.ArrayVec.{array_vec_len};
+ghost use Rattle.disk_units.specs.Data.{disk_bytes};
 ghost use Rattle.host_commands.specs.Data.{IsOfDevice, data_bytes, given_bytes, named_inquiry, report_luns};
 ghost use Rattle.host_commands.specs.OperationCodes.{task_functions};
 ghost use Rattle.host_commands.specs.declared.TheConstants.{MOST_DATA_BYTES};
 ghost use Rattle.uas_profile.specs.declared.TheConstants.{MAX_UNITS};
 
-use crate::fields::{eight_bytes, four_bytes, four_bytes_at_most, put};
+use crate::fields::{four_bytes_at_most, put};
 use crate::mode::write_mode;
 use crate::operation_codes::{write_all_commands, write_one_command};
 use crate::pages::{peripheral_byte, write_page};
 use crate::{Data, MOST_DATA_BYTES, UnitNames};
 use arrayvec::ArrayVec;
+use disk_units::{DiskData, MOST_DISK_BYTES, eight_bytes, four_bytes, write_disk_data};
 use uas_profile::MAX_UNITS;
 
 /// The task management functions of the device: ABORT TASK, LOGICAL UNIT RESET, QUERY TASK.
@@ -50,6 +52,7 @@ fn write_whole(given: &Data, into: &mut ArrayVec<u8, MOST_DATA_BYTES>)
             put(into, &four_bytes_at_most(*last_block));
             put(into, &four_bytes(u32::from(block_length.bytes())));
         }
+        Data::Disk(disk) => write_disk(disk, into),
         Data::LongCapacity {
             last_block,
             block_length,
@@ -61,6 +64,16 @@ fn write_whole(given: &Data, into: &mut ArrayVec<u8, MOST_DATA_BYTES>)
     }
 }
 
+/// The data of a logical unit of the disk set.
+fn write_disk(given: &DiskData, into: &mut ArrayVec<u8, MOST_DATA_BYTES>)
+    requires { array_vec_len into.old ≡ 0 }
+    ensures { into.new.items ≡ disk_bytes given.now }
+{
+    let mut bytes: ArrayVec<u8, MOST_DISK_BYTES> = ArrayVec::new();
+    write_disk_data(given, &mut bytes);
+    put(into, &bytes);
+}
+
 /// Standard INQUIRY data: header, vendor, product, revision.
 fn write_inquiry(present: bool, names: &UnitNames, into: &mut ArrayVec<u8, MOST_DATA_BYTES>)
     requires empty { array_vec_len into.old ≡ 0 }
@@ -69,7 +82,7 @@ fn write_inquiry(present: bool, names: &UnitNames, into: &mut ArrayVec<u8, MOST_
     put(into, &[peripheral_byte(present), 0, 6, 2, 0x1f, 0, 0, 2]);
     put(into, &names.vendor.bytes());
     put(into, &names.product.bytes());
-    put(into, b"0001");
+    put(into, &names.revision.bytes());
 }
 
 /// REPORT LUNS: the length of the list, then each LUN.

@@ -246,6 +246,7 @@ data_words (given.OperationCode command timeouts) allocation = described command
 data_words (given.TaskManagementFunctions extended) allocation = flag_word extended (codes " extended") ++ allocation_words allocation
 data_words (given.Capacity last_block block_length) allocation = []
 data_words (given.LongCapacity last_block block_length) allocation = allocation_words allocation
+data_words (given.Disk disk) allocation = allocation_words allocation
 
 unfoldable pub work_words : Work → List ℕ
 work_words work.Nothing = []

@@ -105,7 +105,8 @@ fn push_data(text: &mut Vec<u8>, given: &Data, allocation: u32) -> Result<(), Al
         | Data::RequestSense(_)
         | Data::LogicalUnits { .. }
         | Data::TaskManagementFunctions { extended: false }
-        | Data::LongCapacity { .. } => {}
+        | Data::LongCapacity { .. }
+        | Data::Disk(_) => {}
     }
     push_allocation(text, allocation)
 }

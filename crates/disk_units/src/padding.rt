@@ -1,8 +1,8 @@
-//! Names filled up with spaces.
+//! Texts in fields of a fixed length.
 ghost use Rattle.std.specs.Prelude.{◌≡◌, ◌-◌, ◌≤◌, ◌++◌, true, length, replicate, IfOk};
 ghost use Rattle.std.specs.List.{list_all};
-ghost use Rattle.host_commands.specs.Names.{name_of};
-ghost use Rattle.host_commands.specs.Printable.{is_printable};
+ghost use Rattle.disk_units.specs.Names.{name_fault, name_of};
+ghost use Rattle.disk_units.specs.Printable.{is_printable};
 
 use crate::NameFault;
 
@@ -12,25 +12,34 @@ pub(crate) fn padded<const N: usize>(text: &[u8]) -> Result<[u8; N], NameFault>
     ensures name { result ≡ name_of N text.now }
     ensures printable { IfOk result (λ name. list_all is_printable name ≡ true) }
 {
-    if text.is_empty() {
-        return Err(NameFault::Empty);
+    match name_fault(text, N) {
+        Some(fault) => Err(fault),
+        None => Ok(filled(text, b' ')),
     }
-    if text.len() > N {
-        return Err(NameFault::TooLong);
-    }
-    if !are_printable(text) {
-        return Err(NameFault::NotPrintable);
-    }
-    Ok(filled(text))
 }
 
-/// A text filled up with spaces.
-#[tactic(auto, using(crate::proofs::Filled::filling))]
-fn filled<const N: usize>(text: &[u8]) -> [u8; N]
-    requires { length text.now ≤ N }
-    ensures { result ≡ text.now ++ replicate (N - length text.now) 0x20 }
+/// The first fault of a text for a field of so many bytes.
+pub(crate) fn name_fault(text: &[u8], most: usize) -> Option<NameFault>
+    ensures { result ≡ name_fault most text.now }
 {
-    let mut name = [b' '; N];
+    if text.is_empty() {
+        Some(NameFault::Empty)
+    } else if text.len() > most {
+        Some(NameFault::TooLong)
+    } else if !are_printable(text) {
+        Some(NameFault::NotPrintable)
+    } else {
+        None
+    }
+}
+
+/// Bytes filled up with this one.
+#[tactic(auto, using(crate::proofs::Filled::filling))]
+pub(crate) fn filled<const N: usize>(text: &[u8], with: u8) -> [u8; N]
+    requires { length text.now ≤ N }
+    ensures { result ≡ text.now ++ replicate (N - length text.now) with }
+{
+    let mut name = [with; N];
     name[..text.len()].copy_from_slice(text);
     name
 }

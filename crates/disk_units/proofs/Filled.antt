@@ -3,7 +3,7 @@ use Rattle.std.proofs.Common.{◌≡◌, ℕ, zero, suc, ◌&&◌, true, List, �
 use Rattle.std.proofs.lemmas.List.{drop-replicate}
 use Rattle.std.proofs.lemmas.List.Folds.{list_all-append}
 use Rattle.std.specs.List.{list_all}
-use Rattle.host_commands.specs.Printable.{is_printable}
+use Rattle.disk_units.specs.Printable.{is_printable}
 
 -- spaces are printable
 spaces_printable : (n : ℕ) → list_all is_printable (replicate n 0x20) ≡ true

@@ -1,0 +1,3 @@
+pub mod Filled
+mod Rows
+pub mod Told

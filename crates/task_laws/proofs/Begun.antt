@@ -21,7 +21,7 @@ use Rattle.host_commands.specs.Data.{given_bytes}
 use Rattle.host_commands.specs.Laws.{answer_in_profile, in_profile}
 use Rattle.host_commands.specs.Meaning.{asked_of_none}
 use Rattle.host_commands.specs.Profile.{profile_work, profile_works_of_none}
-use Rattle.host_commands.specs.Names.{usual_names}
+use Rattle.disk_units.specs.Names.{usual_names}
 use Rattle.host_commands.specs.Shapes.{Shape, plain_shape}
 use Rattle.host_commands.proofs.Kept.{profile_kept_of_none}
 use Rattle.uas_profile.specs.declared.TheConstants.{BLOCK_BYTES}
@@ -125,17 +125,17 @@ abbrev pub is_sync : Op → Bool
 is_sync (Sync lba count) = true
 is_sync other = false
 
--- so many blocks of 512 bytes
-abbrev pub shape_with : ℕ → ℕ → Shape
-shape_with blocks serial = plain_shape blocks Bytes512 serial
+-- so many blocks of 512 bytes, with the serial number of another, and what is said of that in the disk set
+abbrev pub shape_with : ℕ → Shape → Shape
+shape_with blocks shown = record (plain_shape blocks Bytes512 shown.serial) { disk = shown.disk }
 
 -- a command without a fault begins alike, but for SYNCHRONIZE CACHE
-pub begins_alike : (counts : List ℕ) (number blocks serial : ℕ) (op : Op) (slot : SlotState) → is_sync op ≡ false → slice_get counts number ≡ Some blocks →
-    in_profile (profile_work op (shape_with blocks serial)) ≡ work_of op blocks →
+pub begins_alike : (counts : List ℕ) (number blocks : ℕ) (shown : Shape) (op : Op) (slot : SlotState) → is_sync op ≡ false → slice_get counts number ≡ Some blocks →
+    in_profile (profile_work op (shape_with blocks shown)) ≡ work_of op blocks →
     IfSome (task_in (Some number) (Ok op) (first_progress (work_bytes (work_of op blocks)))) (IsSoundTask counts) → SameSlot counts None slot →
     SameSlot counts (task_in (Some number) (Ok op) (first_progress (work_bytes (work_of op blocks))))
-    (started_work slot number (shape_with blocks serial) (profile_work op (shape_with blocks serial)))
-begins_alike counts number blocks serial op slot other there kept =
+    (started_work slot number (shape_with blocks shown) (profile_work op (shape_with blocks shown)))
+begins_alike counts number blocks shown op slot other there kept =
     let on : work_on counts op (Some number) ≡ Ok (work_of op blocks) = ap (λ found. option_map_or (λ count. Ok (work_of op count)) found (Err unit_not_supported)) there in
     by_op op other kept on
   where
@@ -150,10 +150,10 @@ begins_alike counts number blocks serial op slot other there kept =
         subst (λ (works : Result Work Sense). SameWork works (Some number) 0 (Some (Blocks number (job_at (Writes through) lba count 0) (first_stage (Writes through)))) slot.given)
         (sym on) refl
 
-    by_op : (op : Op) → is_sync op ≡ false → in_profile (profile_work op (shape_with blocks serial)) ≡ work_of op blocks → work_on counts op (Some number) ≡ Ok (work_of op blocks) →
+    by_op : (op : Op) → is_sync op ≡ false → in_profile (profile_work op (shape_with blocks shown)) ≡ work_of op blocks → work_on counts op (Some number) ≡ Ok (work_of op blocks) →
         IfSome (task_in (Some number) (Ok op) (first_progress (work_bytes (work_of op blocks)))) (IsSoundTask counts) → SameSlot counts None slot →
         SameSlot counts (task_in (Some number) (Ok op) (first_progress (work_bytes (work_of op blocks))))
-        (started_work slot number (shape_with blocks serial) (profile_work op (shape_with blocks serial)))
+        (started_work slot number (shape_with blocks shown) (profile_work op (shape_with blocks shown)))
     by_op TestUnitReady other kept on sound old = record { chunk = old.chunk; room = old.room; out = old.out; task = refl }
     by_op (Inquiry allocation) other kept on sound old = gives_too counts (Some number) (Inquiry allocation) _ _ slot (ap items_of kept) on sound old
     by_op ReadCapacity other kept on sound old = gives_too counts (Some number) ReadCapacity _ _ slot (ap items_of kept) on sound old

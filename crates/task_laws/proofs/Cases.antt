@@ -10,7 +10,7 @@ use Rattle.scsi_cmd.specs.declared.Work.TheVariants.{Nothing, Gives as GivesWork
 use Rattle.host_commands.specs.declared.BlockLength.TheVariants.{Bytes512}
 use Rattle.host_commands.specs.declared.UnitAttention.{UnitAttention}
 use Rattle.host_commands.specs.declared.UnitAttention.TheVariants.{Reset}
-use Rattle.host_commands.specs.Shapes.{IsPlain, plain_shape}
+use Rattle.host_commands.specs.Shapes.{IsPlain, Shape, plain_shape}
 use Rattle.uas_profile.specs.declared.TheConstants.{CHUNK_BLOCKS}
 use Rattle.uas_target.specs.declared.DeviceAnswer.{DeviceAnswer}
 use Rattle.uas_target.specs.declared.DeviceTask.{DeviceTask}
@@ -26,42 +26,42 @@ use Rattle.task_laws.specs.Same.{SameMove, SameSlot, SameUnit, SameWork, job_at,
 
 -- A LOGICAL UNIT
 
--- of so many blocks of 512 bytes
-abbrev pub unit_with : ℕ → ℕ → Option UnitAttention → LogicalUnit
-unit_with blocks serial attention = record { shape = plain_shape blocks Bytes512 serial; attention = attention }
+-- of so many blocks of 512 bytes, with the serial number of another, and what is said of that in the disk set
+abbrev pub unit_with : ℕ → Shape → Option UnitAttention → LogicalUnit
+unit_with blocks shown attention = record { shape = record (plain_shape blocks Bytes512 shown.serial) { disk = shown.disk }; attention = attention }
 
 -- without an attention, and with that of a reset
 pub record UnitCases (P : BlockMaps → LogicalUnit → BlockMaps → Type 0) : Type 0 where
-  pub quiet : (maps : BlockMaps) (serial : ℕ) → maps.count ≤ 2 ^ 32 → IsSized maps → P (with_attention maps false) (unit_with maps.count serial None) maps
-  pub reset : (maps : BlockMaps) (serial : ℕ) → maps.count ≤ 2 ^ 32 → IsSized maps → P (with_attention maps true) (unit_with maps.count serial (Some Reset)) maps
+  pub quiet : (maps : BlockMaps) (shown : Shape) → maps.count ≤ 2 ^ 32 → IsSized maps → P (with_attention maps false) (unit_with maps.count shown None) maps
+  pub reset : (maps : BlockMaps) (shown : Shape) → maps.count ≤ 2 ^ 32 → IsSized maps → P (with_attention maps true) (unit_with maps.count shown (Some Reset)) maps
 
-by_attention : (P : BlockMaps → LogicalUnit → BlockMaps → Type 0) → UnitCases P → (maps : BlockMaps) (serial : ℕ) (attention : Option UnitAttention) →
-    maps.count ≤ 2 ^ 32 → IsSized maps → IfSome attention (λ found. found ≡ Reset) → P (with_attention maps (is_some attention)) (unit_with maps.count serial attention) maps
-by_attention P cases maps serial None few sized reset = cases.quiet maps serial few sized
-by_attention P cases maps serial (Some attention) few sized reset =
-    subst (λ found. P (with_attention maps true) (unit_with maps.count serial (Some found)) maps) (sym reset) (cases.reset maps serial few sized)
+by_attention : (P : BlockMaps → LogicalUnit → BlockMaps → Type 0) → UnitCases P → (maps : BlockMaps) (shown : Shape) (attention : Option UnitAttention) →
+    maps.count ≤ 2 ^ 32 → IsSized maps → IfSome attention (λ found. found ≡ Reset) → P (with_attention maps (is_some attention)) (unit_with maps.count shown attention) maps
+by_attention P cases maps shown None few sized reset = cases.quiet maps shown few sized
+by_attention P cases maps shown (Some attention) few sized reset =
+    subst (λ found. P (with_attention maps true) (unit_with maps.count shown (Some found)) maps) (sym reset) (cases.reset maps shown few sized)
 
 -- it is what it is shown to be
 unit_is : (unit : LogicalUnit) (count : ℕ) → IsPlain unit.shape → unit.shape.blocks ≡ count → unit.shape.block_length ≡ Bytes512
-    → unit ≡ unit_with count unit.shape.serial unit.attention
+    → unit ≡ unit_with count unit.shape unit.attention
 unit_is unit count plain many short =
     λ i. record {
-      shape = record { blocks = many i; block_length = short i; serial = unit.shape.serial; read_only = plain.read_only i; names = plain.names i };
+      shape = record { blocks = many i; block_length = short i; serial = unit.shape.serial; read_only = plain.read_only i; names = plain.names i; disk = unit.shape.disk };
       attention = unit.attention;
     }
 
 pub unit_cases : (P : BlockMaps → LogicalUnit → BlockMaps → Type 0) → UnitCases P → (device : BlockMaps) (unit : LogicalUnit) (maps : BlockMaps) →
     SameUnit device unit maps → P device unit maps
 unit_cases P cases device unit maps same =
-    let found : unit ≡ unit_with maps.count unit.shape.serial unit.attention = unit_is unit maps.count same.plain same.blocks same.block_length in
+    let found : unit ≡ unit_with maps.count unit.shape unit.attention = unit_is unit maps.count same.plain same.blocks same.block_length in
     subst (λ here. P here unit maps) (sym same.same)
     (subst (λ here. P (with_attention maps (is_some unit.attention)) here maps) (sym found)
-    (by_attention P cases maps unit.shape.serial unit.attention same.few same.sized same.reset))
+    (by_attention P cases maps unit.shape unit.attention same.few same.sized same.reset))
 
 -- what is so of both is so of the same logical units
-pub SameUnit-with : (maps : BlockMaps) (serial : ℕ) (attention : Option UnitAttention) → maps.count ≤ 2 ^ 32 → IsSized maps →
-    IfSome attention (λ found. found ≡ Reset) → SameUnit (with_attention maps (is_some attention)) (unit_with maps.count serial attention) maps
-SameUnit-with maps serial attention few sized reset = record { blocks = refl; plain = record { read_only = refl; names = refl }; block_length = refl; few = few; sized = sized; reset = reset; same = refl }
+pub SameUnit-with : (maps : BlockMaps) (shown : Shape) (attention : Option UnitAttention) → maps.count ≤ 2 ^ 32 → IsSized maps →
+    IfSome attention (λ found. found ≡ Reset) → SameUnit (with_attention maps (is_some attention)) (unit_with maps.count shown attention) maps
+SameUnit-with maps shown attention few sized reset = record { blocks = refl; plain = record { read_only = refl; names = refl }; block_length = refl; few = few; sized = sized; reset = reset; same = refl }
 
 -- A SLOT
 

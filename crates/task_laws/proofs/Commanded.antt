@@ -13,6 +13,7 @@ use Rattle.scsi_cmd.specs.Sense.{out_of_range}
 use Rattle.scsi_cmd.specs.Work.{work_asked, work_bytes, work_of}
 use Rattle.device_server.specs.declared.Answer.TheVariants.{Check, Good}
 use Rattle.device_server.specs.Server.{first_progress, progress_asked, synchronized, unit_asked}
+use Rattle.host_commands.specs.Shapes.{Shape}
 use Rattle.host_commands.specs.declared.BlockLength.TheVariants.{Bytes512}
 use Rattle.host_commands.specs.declared.UnitAttention.{UnitAttention}
 use Rattle.host_commands.specs.declared.UnitAttention.TheVariants.{Reset}
@@ -49,36 +50,36 @@ use Rattle.task_laws.proofs.Works.{same_work}
 -- THE LOGICAL UNIT
 
 -- of this number, with its blocks and its attention
-pub record Place (device : Device) (backed : Backed) (number : ℕ) (maps : BlockMaps) (serial : ℕ) (attention : Option UnitAttention) : Type 0 where
+pub record Place (device : Device) (backed : Backed) (number : ℕ) (maps : BlockMaps) (shown : Shape) (attention : Option UnitAttention) : Type 0 where
   pub device_at : slice_get device.units number ≡ Some (with_attention maps (is_some attention))
-  pub unit_at : slice_get backed.machine.units number ≡ Some (unit_with maps.count serial attention)
+  pub unit_at : slice_get backed.machine.units number ≡ Some (unit_with maps.count shown attention)
   pub maps_at : slice_get backed.maps number ≡ Some maps
   pub few : maps.count ≤ 2 ^ 32
   pub sized : IsSized maps
   pub reset : IfSome attention (λ found. found ≡ Reset)
 
-abbrev pub found_at : (device : Device) (backed : Backed) (number : ℕ) (maps : BlockMaps) (serial : ℕ) (attention : Option UnitAttention) →
-    Place device backed number maps serial attention → Found device backed number
-found_at device backed number maps serial attention place = record {
+abbrev pub found_at : (device : Device) (backed : Backed) (number : ℕ) (maps : BlockMaps) (shown : Shape) (attention : Option UnitAttention) →
+    Place device backed number maps shown attention → Found device backed number
+found_at device backed number maps shown attention place = record {
   device_unit = with_attention maps (is_some attention);
-  unit = unit_with maps.count serial attention;
+  unit = unit_with maps.count shown attention;
   maps = maps;
   device_at = place.device_at;
   unit_at = place.unit_at;
   maps_at = place.maps_at;
-  same = SameUnit-with maps serial attention place.few place.sized place.reset;
+  same = SameUnit-with maps shown attention place.few place.sized place.reset;
 }
 
 -- a command that asks for nothing leaves the blocks as they are, and the attention perhaps not
-pub at_once : (device : Device) (backed : Backed) (number : ℕ) (maps : BlockMaps) (serial : ℕ) (attention next : Option UnitAttention) (tag : ℕ)
-    (task : Option DeviceTask) (slot : SlotState) → Place device backed number maps serial attention → Same device backed →
+pub at_once : (device : Device) (backed : Backed) (number : ℕ) (maps : BlockMaps) (shown : Shape) (attention next : Option UnitAttention) (tag : ℕ)
+    (task : Option DeviceTask) (slot : SlotState) → Place device backed number maps shown attention → Same device backed →
     IfSome next (λ found. found ≡ Reset) →
     (SameSlot (counts_of device.units) (task_of device tag) (slot_of backed.machine tag) → SameSlot (counts_of device.units) task slot) →
-    Same (device_with device number (with_attention maps (is_some next)) tag task) (done_soon (backed_at backed number (unit_with maps.count serial next) tag slot) tag)
-at_once device backed number maps serial attention next tag task slot place same reset now =
-    let found : Found device backed number = found_at device backed number maps serial attention place in
-    let unit : LogicalUnit = unit_with maps.count serial next in
-    let both : SameUnit (with_attention maps (is_some next)) unit maps = SameUnit-with maps serial next place.few place.sized reset in
+    Same (device_with device number (with_attention maps (is_some next)) tag task) (done_soon (backed_at backed number (unit_with maps.count shown next) tag slot) tag)
+at_once device backed number maps shown attention next tag task slot place same reset now =
+    let found : Found device backed number = found_at device backed number maps shown attention place in
+    let unit : LogicalUnit = unit_with maps.count shown next in
+    let both : SameUnit (with_attention maps (is_some next)) unit maps = SameUnit-with maps shown next place.few place.sized reset in
     let kept : slice_set backed.maps number maps ≡ backed.maps = set_found backed.maps number maps place.maps_at in
     let by_maps : List BlockMaps → Backed = λ others. record { machine = (backed_at backed number unit tag slot).machine; maps = others } in
     let after : Device = device_with device number (with_attention maps (is_some next)) tag task in
@@ -161,26 +162,26 @@ sync_slot counts number lba named slot old some =
     λ i. record { chunk = old.chunk i; task = Some (task i); turn = slot.turn; out = old.out i; given = slot.given; bytes = slot.bytes }
 
 -- The device with blocks brings them to the medium as it receives the command, the other asks for it, and that is done soon.
-sync_begins : (device : Device) (backed : Backed) (number : ℕ) (maps : BlockMaps) (serial : ℕ) (attention : Option UnitAttention) (tag lba count : ℕ) →
-    Place device backed number maps serial attention → Same device backed → IsThere tag backed.machine.slots → task_of device tag ≡ None →
+sync_begins : (device : Device) (backed : Backed) (number : ℕ) (maps : BlockMaps) (shown : Shape) (attention : Option UnitAttention) (tag lba count : ℕ) →
+    Place device backed number maps shown attention → Same device backed → IsThere tag backed.machine.slots → task_of device tag ≡ None →
     range_fault lba count maps.count ≡ None →
     Same (device_with device number (synced (with_attention maps (is_some attention)) lba count) tag (Some (TargetEnded (Some number) (Status Good))))
-    (done_soon (backed_at backed number (unit_with maps.count serial attention) tag
+    (done_soon (backed_at backed number (unit_with maps.count shown attention) tag
     (with_task (slot_of backed.machine tag)
-    (Some (job_task number Synchronizes Bytes512 lba (blocks_synchronized (shape_with maps.count serial) lba count))))) tag)
-sync_begins device backed number maps serial attention tag lba count place same here free none =
+    (Some (job_task number Synchronizes Bytes512 lba (blocks_synchronized (shape_with maps.count shown) lba count))))) tag)
+sync_begins device backed number maps shown attention tag lba count place same here free none =
     let range = within_range lba count maps.count none in
     let named : ℕ = cond (count == 0) (maps.count - lba) count in
     let job : Job = record { kind = Synchronizes; block_bytes = BLOCK_BYTES; lba = lba; count = named; done = 0 } in
     let old : SlotState = slot_of backed.machine tag in
     let slot : SlotState = slot_with (Some (Blocks number job Asking)) old in
-    let unit : LogicalUnit = unit_with maps.count serial attention in
+    let unit : LogicalUnit = unit_with maps.count shown attention in
     let one : BlockMaps = synced (with_attention maps (is_some attention)) lba count in
     let now : BlockMaps = synced maps lba named in
     let out : Out = record { request = SyncRequest number lba named; len = 0 } in
     let ended : SlotState = slot_with (Some (Ended (Some number) (Status Good))) (record old { turn = (old.turn + 1) % 2 ^ 32 }) in
     let task : Option DeviceTask = Some (TargetEnded (Some number) (Status Good)) in
-    let found : Found device backed number = found_at device backed number maps serial attention place in
+    let found : Found device backed number = found_at device backed number maps shown attention place in
     let before : SameSlot (counts_of device.units) None old = free_slot device backed tag same here free in
     let is : with_task old (Some (job_task number Synchronizes Bytes512 lba named)) ≡ slot =
     sync_slot (counts_of device.units) number lba named old before (some_covered maps.count lba count range.0) in
@@ -215,45 +216,45 @@ unsynced (Read16 lba count fua) unit blocks other = refl
 unsynced (Write16 lba count fua) unit blocks other = refl
 unsynced (ReadCapacity16 allocation) unit blocks other = refl
 
-counted : (device : Device) (backed : Backed) (number : ℕ) (maps : BlockMaps) (serial : ℕ) (attention : Option UnitAttention) →
-    Place device backed number maps serial attention → slice_get (counts_of device.units) number ≡ Some maps.count
-counted device backed number maps serial attention place =
+counted : (device : Device) (backed : Backed) (number : ℕ) (maps : BlockMaps) (shown : Shape) (attention : Option UnitAttention) →
+    Place device backed number maps shown attention → slice_get (counts_of device.units) number ≡ Some maps.count
+counted device backed number maps shown attention place =
     slice_get-counts_of device.units number (with_attention maps (is_some attention)) place.device_at ∙ ap (λ n. Some n) (with_attention-count maps (is_some attention))
 
-other_begins : (device : Device) (backed : Backed) (number : ℕ) (maps : BlockMaps) (serial : ℕ) (attention : Option UnitAttention) (tag : ℕ) (op : Op) →
-    is_sync op ≡ false → Place device backed number maps serial attention → Same device backed → IsThere tag backed.machine.slots → task_of device tag ≡ None →
-    in_profile (profile_work op (shape_with maps.count serial)) ≡ work_of op maps.count →
+other_begins : (device : Device) (backed : Backed) (number : ℕ) (maps : BlockMaps) (shown : Shape) (attention : Option UnitAttention) (tag : ℕ) (op : Op) →
+    is_sync op ≡ false → Place device backed number maps shown attention → Same device backed → IsThere tag backed.machine.slots → task_of device tag ≡ None →
+    in_profile (profile_work op (shape_with maps.count shown)) ≡ work_of op maps.count →
     IfSome (task_in (Some number) (Ok op) (first_progress (work_bytes (work_of op maps.count)))) (IsSoundTask (counts_of device.units)) →
     Same (device_with device number (synchronized (with_attention maps (is_some attention)) (work_of op maps.count)) tag
     (task_in (Some number) (Ok op) (first_progress (work_bytes (work_of op maps.count)))))
-    (done_soon (backed_at backed number (unit_with maps.count serial attention) tag
-    (started_work (slot_of backed.machine tag) number (shape_with maps.count serial) (profile_work op (shape_with maps.count serial)))) tag)
-other_begins device backed number maps serial attention tag op other place same here free kept sound =
+    (done_soon (backed_at backed number (unit_with maps.count shown attention) tag
+    (started_work (slot_of backed.machine tag) number (shape_with maps.count shown) (profile_work op (shape_with maps.count shown)))) tag)
+other_begins device backed number maps shown attention tag op other place same here free kept sound =
     let slot : SlotState = slot_of backed.machine tag in
-    let after : SlotState = started_work slot number (shape_with maps.count serial) (profile_work op (shape_with maps.count serial)) in
+    let after : SlotState = started_work slot number (shape_with maps.count shown) (profile_work op (shape_with maps.count shown)) in
     let task : Option DeviceTask = task_in (Some number) (Ok op) (first_progress (work_bytes (work_of op maps.count))) in
-    subst (λ unit. Same (device_with device number unit tag task) (done_soon (backed_at backed number (unit_with maps.count serial attention) tag after) tag))
+    subst (λ unit. Same (device_with device number unit tag task) (done_soon (backed_at backed number (unit_with maps.count shown attention) tag after) tag))
     (sym (unsynced op (with_attention maps (is_some attention)) maps.count other))
-    (at_once device backed number maps serial attention attention tag task after place same place.reset
-    (λ was. begins_alike (counts_of device.units) number maps.count serial op slot other (counted device backed number maps serial attention place) kept sound
+    (at_once device backed number maps shown attention attention tag task after place same place.reset
+    (λ was. begins_alike (counts_of device.units) number maps.count shown op slot other (counted device backed number maps shown attention place) kept sound
     (free_slot device backed tag same here free)))
 
 -- what both make of what a CDB asks
-pub begins_same : (device : Device) (backed : Backed) (number : ℕ) (maps : BlockMaps) (serial : ℕ) (attention : Option UnitAttention) (tag : ℕ)
-    (asks : Result Op Sense) → Place device backed number maps serial attention → Same device backed → IsThere tag backed.machine.slots → task_of device tag ≡ None →
-    answer_in_profile (profile_works (shape_with maps.count serial) asks) ≡ work_asked maps.count asks →
+pub begins_same : (device : Device) (backed : Backed) (number : ℕ) (maps : BlockMaps) (shown : Shape) (attention : Option UnitAttention) (tag : ℕ)
+    (asks : Result Op Sense) → Place device backed number maps shown attention → Same device backed → IsThere tag backed.machine.slots → task_of device tag ≡ None →
+    answer_in_profile (profile_works (shape_with maps.count shown) asks) ≡ work_asked maps.count asks →
     ((op : Op) → asks ≡ Ok op → op_fault op maps.count ≡ None) →
     IfSome (task_in (Some number) asks (progress_asked (work_asked maps.count asks))) (IsSoundTask (counts_of device.units)) →
     Same (device_with device number (unit_asked (with_attention maps (is_some attention)) (work_asked maps.count asks)) tag
     (task_in (Some number) asks (progress_asked (work_asked maps.count asks))))
-    (done_soon (backed_at backed number (unit_with maps.count serial attention) tag
-    (started (slot_of backed.machine tag) number (shape_with maps.count serial) (profile_works (shape_with maps.count serial) asks))) tag)
-begins_same device backed number maps serial attention tag (Err sense) place same here free kept faults sound =
-    at_once device backed number maps serial attention attention tag (Some (TargetEnded (Some number) (Status (Check sense))))
+    (done_soon (backed_at backed number (unit_with maps.count shown attention) tag
+    (started (slot_of backed.machine tag) number (shape_with maps.count shown) (profile_works (shape_with maps.count shown) asks))) tag)
+begins_same device backed number maps shown attention tag (Err sense) place same here free kept faults sound =
+    at_once device backed number maps shown attention attention tag (Some (TargetEnded (Some number) (Status (Check sense))))
     (with_task (slot_of backed.machine tag) (Some (Ended (Some number) (Status (Check sense))))) place same place.reset
     (λ was. record { chunk = was.chunk; room = was.room; out = was.out; task = refl })
-begins_same device backed number maps serial attention tag (Ok (Sync lba count)) place same here free kept faults sound =
-    sync_begins device backed number maps serial attention tag lba count place same here free (faults (Sync lba count) refl)
-begins_same device backed number maps serial attention tag (Ok other) place same here free kept faults sound =
-    other_begins device backed number maps serial attention tag other refl place same here free
-    (same_work (in_profile (profile_work other (shape_with maps.count serial))) (work_of other maps.count) kept) sound
+begins_same device backed number maps shown attention tag (Ok (Sync lba count)) place same here free kept faults sound =
+    sync_begins device backed number maps shown attention tag lba count place same here free (faults (Sync lba count) refl)
+begins_same device backed number maps shown attention tag (Ok other) place same here free kept faults sound =
+    other_begins device backed number maps shown attention tag other refl place same here free
+    (same_work (in_profile (profile_work other (shape_with maps.count shown))) (work_of other maps.count) kept) sound

@@ -137,10 +137,10 @@ attention_given maps unit flag same = subst (λ device. SameUnit device unit map
 
 resets_cases : UnitCases ResetsAlike
 resets_cases = record {
-  quiet = λ maps serial few sized.
-      attention_given maps (unit_with maps.count serial (Some Reset)) false (SameUnit-with maps serial (Some Reset) few sized refl);
-  reset = λ maps serial few sized.
-      attention_given maps (unit_with maps.count serial (Some Reset)) true (SameUnit-with maps serial (Some Reset) few sized refl);
+  quiet = λ maps shown few sized.
+      attention_given maps (unit_with maps.count shown (Some Reset)) false (SameUnit-with maps shown (Some Reset) few sized refl);
+  reset = λ maps shown few sized.
+      attention_given maps (unit_with maps.count shown (Some Reset)) true (SameUnit-with maps shown (Some Reset) few sized refl);
 }
 
 reset_there : (device : Device) (backed : Backed) (number : ℕ) → Same device backed → (found : Found device backed number) →

@@ -15,6 +15,7 @@ use Rattle.device_server.specs.declared.Answer.TheVariants.{Check}
 use Rattle.device_server.specs.declared.Progress.{Progress}
 use Rattle.device_server.specs.declared.Progress.TheVariants.{Ended as EndedWith}
 use Rattle.device_server.specs.Server.{progress_asked, unit_asked}
+use Rattle.host_commands.specs.Shapes.{Shape}
 use Rattle.host_commands.specs.declared.Attention.TheVariants.{Ignored, Reported}
 use Rattle.host_commands.specs.declared.CommandSet.TheVariants.{Profile}
 use Rattle.host_commands.specs.declared.UnitAttention.{UnitAttention}
@@ -57,9 +58,9 @@ use Rattle.task_laws.proofs.Managed.{answers_code, coded_alike, managed_alike}
 -- A COMMAND TO A LOGICAL UNIT
 
 -- what each device makes of its logical unit and of the tag
-abbrev BothBegun : Device → Backed → ℕ → ℕ → ℕ → ℕ → Result Op Sense → BlockMaps × Progress → Option UnitAttention × SlotState → Type 0
-BothBegun device backed number tag blocks serial asks one two =
-    Same (device_with device number one.0 tag (task_in (Some number) asks one.1)) (done_soon (backed_at backed number (unit_with blocks serial two.0) tag two.1) tag)
+abbrev BothBegun : Device → Backed → ℕ → ℕ → ℕ → Shape → Result Op Sense → BlockMaps × Progress → Option UnitAttention × SlotState → Type 0
+BothBegun device backed number tag blocks shown asks one two =
+    Same (device_with device number one.0 tag (task_in (Some number) asks one.1)) (done_soon (backed_at backed number (unit_with blocks shown two.0) tag two.1) tag)
 
 -- without an attention that a command reports, it is done as far as its data
 target_begins : (maps : BlockMaps) (flag : Bool) (cdb : List ℕ) → (not (is_inquiry cdb) && flag) ≡ false →
@@ -84,44 +85,44 @@ target_sound device number maps flag cdb at quiet =
     (begun_sound (counts_of device.units) number (with_attention maps flag) cdb (slice_get-counts_of device.units number (with_attention maps flag) at))
 
 -- both do it
-both_asked : (device : Device) (backed : Backed) (number : ℕ) (maps : BlockMaps) (serial many : ℕ) (attention : Option UnitAttention) (tag : ℕ) (cdb : List ℕ) →
-    Place device backed number maps serial attention → Same device backed → IsThere tag backed.machine.slots → task_of device tag ≡ None →
+both_asked : (device : Device) (backed : Backed) (number : ℕ) (maps : BlockMaps) (shown : Shape) (many : ℕ) (attention : Option UnitAttention) (tag : ℕ) (cdb : List ℕ) →
+    Place device backed number maps shown attention → Same device backed → IsThere tag backed.machine.slots → task_of device tag ≡ None →
     (not (is_inquiry cdb) && is_some attention) ≡ false →
-    BothBegun device backed number tag maps.count serial (asked cdb maps.count) (begun_by (with_attention maps (is_some attention)) cdb (asked cdb maps.count))
-    (attention, started (slot_of backed.machine tag) number (shape_with maps.count serial) (asked_of cdb Profile (shape_with maps.count serial) many attention))
+    BothBegun device backed number tag maps.count shown (asked cdb maps.count) (begun_by (with_attention maps (is_some attention)) cdb (asked cdb maps.count))
+    (attention, started (slot_of backed.machine tag) number (shape_with maps.count shown) (asked_of cdb Profile (shape_with maps.count shown) many attention))
 unfolding asked_of
-both_asked device backed number maps serial many attention tag cdb place same here free quiet =
+both_asked device backed number maps shown many attention tag cdb place same here free quiet =
     let asks : Result Op Sense = asked cdb maps.count in
-    let two : Option UnitAttention × SlotState = (attention, started (slot_of backed.machine tag) number (shape_with maps.count serial) (profile_works (shape_with maps.count serial) asks)) in
-    subst (λ one. BothBegun device backed number tag maps.count serial asks one two) (sym (target_begins maps (is_some attention) cdb quiet))
-    (begins_same device backed number maps serial attention tag asks place same here free
-    (profile_kept cdb (shape_with maps.count serial) many attention (record { read_only = refl; names = refl }) refl place.few) (asked_in_range cdb maps.count)
+    let two : Option UnitAttention × SlotState = (attention, started (slot_of backed.machine tag) number (shape_with maps.count shown) (profile_works (shape_with maps.count shown) asks)) in
+    subst (λ one. BothBegun device backed number tag maps.count shown asks one two) (sym (target_begins maps (is_some attention) cdb quiet))
+    (begins_same device backed number maps shown attention tag asks place same here free
+    (profile_kept cdb (shape_with maps.count shown) many attention (record { read_only = refl; names = refl }) refl place.few) (asked_in_range cdb maps.count)
     (target_sound device number maps (is_some attention) cdb place.device_at quiet))
 
 -- the device without blocks tells an attention of a reset alone, and only where the command reports it
-machine_quiet : (blocks serial number many : ℕ) (cdb : List ℕ) (slot : SlotState) → tasks.begun (unit_with blocks serial None) number Profile many cdb slot
-    ≡ (None, started slot number (shape_with blocks serial) (asked_of cdb Profile (shape_with blocks serial) many None))
-machine_quiet blocks serial number many cdb slot =
-    let asks : Result HostWork Sense = asked_of cdb Profile (shape_with blocks serial) many None in
-    elim (is_inquiry cdb) as (λ b. tasks.begun_as (cond b Ignored Reported) (unit_with blocks serial None) number slot asks
-    ≡ (None, started slot number (shape_with blocks serial) asks)) [
+machine_quiet : (blocks : ℕ) (shown : Shape) (number many : ℕ) (cdb : List ℕ) (slot : SlotState) → tasks.begun (unit_with blocks shown None) number Profile many cdb slot
+    ≡ (None, started slot number (shape_with blocks shown) (asked_of cdb Profile (shape_with blocks shown) many None))
+machine_quiet blocks shown number many cdb slot =
+    let asks : Result HostWork Sense = asked_of cdb Profile (shape_with blocks shown) many None in
+    elim (is_inquiry cdb) as (λ b. tasks.begun_as (cond b Ignored Reported) (unit_with blocks shown None) number slot asks
+    ≡ (None, started slot number (shape_with blocks shown) asks)) [
       | true ↦ refl
       | false ↦ refl
     ]
 
-machine_inquiry : (blocks serial number many : ℕ) (cdb : List ℕ) (slot : SlotState) → is_inquiry cdb ≡ true →
-    tasks.begun (unit_with blocks serial (Some Reset)) number Profile many cdb slot
-    ≡ (Some Reset, started slot number (shape_with blocks serial) (asked_of cdb Profile (shape_with blocks serial) many (Some Reset)))
-machine_inquiry blocks serial number many cdb slot is =
-    ap (λ b. tasks.begun_as (cond b Ignored Reported) (unit_with blocks serial (Some Reset)) number slot
-    (asked_of cdb Profile (shape_with blocks serial) many (Some Reset))) is
+machine_inquiry : (blocks : ℕ) (shown : Shape) (number many : ℕ) (cdb : List ℕ) (slot : SlotState) → is_inquiry cdb ≡ true →
+    tasks.begun (unit_with blocks shown (Some Reset)) number Profile many cdb slot
+    ≡ (Some Reset, started slot number (shape_with blocks shown) (asked_of cdb Profile (shape_with blocks shown) many (Some Reset)))
+machine_inquiry blocks shown number many cdb slot is =
+    ap (λ b. tasks.begun_as (cond b Ignored Reported) (unit_with blocks shown (Some Reset)) number slot
+    (asked_of cdb Profile (shape_with blocks shown) many (Some Reset))) is
 
-machine_reported : (blocks serial number many : ℕ) (cdb : List ℕ) (slot : SlotState) → is_inquiry cdb ≡ false →
-    tasks.begun (unit_with blocks serial (Some Reset)) number Profile many cdb slot
+machine_reported : (blocks : ℕ) (shown : Shape) (number many : ℕ) (cdb : List ℕ) (slot : SlotState) → is_inquiry cdb ≡ false →
+    tasks.begun (unit_with blocks shown (Some Reset)) number Profile many cdb slot
     ≡ (None, with_task slot (Some (Ended (Some number) (Status (Check reset_occurred)))))
-machine_reported blocks serial number many cdb slot is =
-    ap (λ b. tasks.begun_as (cond b Ignored Reported) (unit_with blocks serial (Some Reset)) number slot
-    (asked_of cdb Profile (shape_with blocks serial) many (Some Reset))) is
+machine_reported blocks shown number many cdb slot is =
+    ap (λ b. tasks.begun_as (cond b Ignored Reported) (unit_with blocks shown (Some Reset)) number slot
+    (asked_of cdb Profile (shape_with blocks shown) many (Some Reset))) is
 
 target_reported : (maps : BlockMaps) (cdb : List ℕ) → is_inquiry cdb ≡ false →
     begun_by (with_attention maps true) cdb (asked cdb maps.count) ≡ (with_attention maps false, EndedWith (Check reset_occurred))
@@ -142,38 +143,38 @@ CommandedAlike device backed number tag many cdb one unit maps =
     (record unit { attention = (tasks.begun unit number Profile many cdb (slot_of backed.machine tag)).0 }) tag
     (tasks.begun unit number Profile many cdb (slot_of backed.machine tag)).1) tag)
 
-commanded_quiet : (device : Device) (backed : Backed) (number tag many : ℕ) (cdb : List ℕ) (maps : BlockMaps) (serial : ℕ) → Same device backed →
+commanded_quiet : (device : Device) (backed : Backed) (number tag many : ℕ) (cdb : List ℕ) (maps : BlockMaps) (shown : Shape) → Same device backed →
     IsThere tag backed.machine.slots → task_of device tag ≡ None → maps.count ≤ 2 ^ 32 → IsSized maps →
-    CommandedAlike device backed number tag many cdb (with_attention maps false) (unit_with maps.count serial None) maps
+    CommandedAlike device backed number tag many cdb (with_attention maps false) (unit_with maps.count shown None) maps
 unfolding with_attention
-commanded_quiet device backed number tag many cdb maps serial same here free few sized device_at unit_at maps_at =
-    let place : Place device backed number maps serial None =
+commanded_quiet device backed number tag many cdb maps shown same here free few sized device_at unit_at maps_at =
+    let place : Place device backed number maps shown None =
     record { device_at = device_at; unit_at = unit_at; maps_at = maps_at; few = few; sized = sized; reset = tt } in
-    subst (BothBegun device backed number tag maps.count serial (asked cdb maps.count) (begun_by (with_attention maps false) cdb (asked cdb maps.count)))
-    (sym (machine_quiet maps.count serial number many cdb (slot_of backed.machine tag)))
-    (both_asked device backed number maps serial many None tag cdb place same here free (and_right (not (is_inquiry cdb)) false refl))
+    subst (BothBegun device backed number tag maps.count shown (asked cdb maps.count) (begun_by (with_attention maps false) cdb (asked cdb maps.count)))
+    (sym (machine_quiet maps.count shown number many cdb (slot_of backed.machine tag)))
+    (both_asked device backed number maps shown many None tag cdb place same here free (and_right (not (is_inquiry cdb)) false refl))
 
-commanded_reset : (device : Device) (backed : Backed) (number tag many : ℕ) (cdb : List ℕ) (maps : BlockMaps) (serial : ℕ) → Same device backed →
+commanded_reset : (device : Device) (backed : Backed) (number tag many : ℕ) (cdb : List ℕ) (maps : BlockMaps) (shown : Shape) → Same device backed →
     IsThere tag backed.machine.slots → task_of device tag ≡ None → maps.count ≤ 2 ^ 32 → IsSized maps →
-    CommandedAlike device backed number tag many cdb (with_attention maps true) (unit_with maps.count serial (Some Reset)) maps
+    CommandedAlike device backed number tag many cdb (with_attention maps true) (unit_with maps.count shown (Some Reset)) maps
 unfolding with_attention
-commanded_reset device backed number tag many cdb maps serial same here free few sized device_at unit_at maps_at =
-    let place : Place device backed number maps serial (Some Reset) =
+commanded_reset device backed number tag many cdb maps shown same here free few sized device_at unit_at maps_at =
+    let place : Place device backed number maps shown (Some Reset) =
     record { device_at = device_at; unit_at = unit_at; maps_at = maps_at; few = few; sized = sized; reset = refl } in
     let slot : SlotState = slot_of backed.machine tag in
     let asks : Result Op Sense = asked cdb maps.count in
     let one : BlockMaps × Progress = begun_by (with_attention maps true) cdb asks in
     let told : DeviceTask = TargetEnded (Some number) (Status (Check reset_occurred)) in
-    elim (cases_Bool (is_inquiry cdb)) as (λ either. BothBegun device backed number tag maps.count serial asks one
-    (tasks.begun (unit_with maps.count serial (Some Reset)) number Profile many cdb slot)) [
+    elim (cases_Bool (is_inquiry cdb)) as (λ either. BothBegun device backed number tag maps.count shown asks one
+    (tasks.begun (unit_with maps.count shown (Some Reset)) number Profile many cdb slot)) [
       | inl inquiry ↦
-          subst (BothBegun device backed number tag maps.count serial asks one) (sym (machine_inquiry maps.count serial number many cdb slot inquiry))
-          (both_asked device backed number maps serial many (Some Reset) tag cdb place same here free (ap (λ b. not b && true) inquiry))
+          subst (BothBegun device backed number tag maps.count shown asks one) (sym (machine_inquiry maps.count shown number many cdb slot inquiry))
+          (both_asked device backed number maps shown many (Some Reset) tag cdb place same here free (ap (λ b. not b && true) inquiry))
       | inr other ↦
-          subst (BothBegun device backed number tag maps.count serial asks one) (sym (machine_reported maps.count serial number many cdb slot other))
-          (subst (λ pair. BothBegun device backed number tag maps.count serial asks pair (None, with_task slot (Some (Ended (Some number) (Status (Check reset_occurred))))))
+          subst (BothBegun device backed number tag maps.count shown asks one) (sym (machine_reported maps.count shown number many cdb slot other))
+          (subst (λ pair. BothBegun device backed number tag maps.count shown asks pair (None, with_task slot (Some (Ended (Some number) (Status (Check reset_occurred))))))
           (sym (target_reported maps cdb other))
-          (at_once device backed number maps serial (Some Reset) None tag (Some told) (with_task slot (Some (Ended (Some number) (Status (Check reset_occurred))))) place same tt
+          (at_once device backed number maps shown (Some Reset) None tag (Some told) (with_task slot (Some (Ended (Some number) (Status (Check reset_occurred))))) place same tt
           (λ was. record { chunk = was.chunk; room = was.room; out = was.out; task = refl })))
     ]
 
@@ -188,8 +189,8 @@ there_commanded device backed number tag cdb same here free found =
     let slot : SlotState = slot_of backed.machine tag in
     let after : Device = with_units_and_task device tag (executed_on device.units number cdb (Some one)) in
     let cases : UnitCases (CommandedAlike device backed number tag many cdb) = record {
-      quiet = λ maps serial few sized. commanded_quiet device backed number tag many cdb maps serial same here free few sized;
-      reset = λ maps serial few sized. commanded_reset device backed number tag many cdb maps serial same here free few sized;
+      quiet = λ maps shown few sized. commanded_quiet device backed number tag many cdb maps shown same here free few sized;
+      reset = λ maps shown few sized. commanded_reset device backed number tag many cdb maps shown same here free few sized;
     } in
     subst (λ set. Same after (done_soon (backed_at backed number
     (record unit { attention = (tasks.begun unit number set many cdb slot).0 }) tag (tasks.begun unit number set many cdb slot).1) tag)) (sym same.set)

@@ -1,8 +1,11 @@
 -- What a client does in a round: it writes eight blocks, and reads them again.
-use Rattle.std.specs.Prelude.{ℕ, ◌+◌, ◌*◌, ◌%◌, false, replicate}
+use Rattle.std.specs.Prelude.{ℕ, ◌+◌, ◌*◌, ◌%◌, false, List, [], ◌∷◌, replicate}
 use Rattle.scsi_cmd.specs.declared.Command.{Command}
 use Rattle.scsi_cmd.specs.declared.Op.{Op}
 use Rattle.scsi_cmd.specs.declared.Op.TheVariants.{Read, Write}
+use Rattle.scsi_cmd.specs.declared.Reply.{Reply}
+use Rattle.tag_desk.specs.declared.Slip.{Slip}
+use Rattle.tag_desk.specs.declared.Slip.TheVariants.{Ask, AskTask, Answer, Refused, Unserved}
 use Rattle.uas_profile.specs.declared.TheConstants.{BLOCK_BYTES}
 use Rattle.uas_work.specs.declared.rounds.Half.{Half}
 use Rattle.uas_work.specs.declared.rounds.Half.TheVariants as half
@@ -19,3 +22,11 @@ round_fill client round half.Read = 0
 
 abbrev pub round_command : ℕ → ℕ → Half → Command
 round_command client round which = record { op = round_op round which; buffer = replicate (8 * BLOCK_BYTES) (round_fill client round which) }
+
+-- what a client keeps of the slip with which the pump finished: its reply, and nothing of a command that was refused or not served
+abbrev pub kept_of : Slip → List Reply
+kept_of (Ask ticket command) = []
+kept_of (AskTask ticket task) = []
+kept_of (Answer reply) = reply ∷ []
+kept_of (Refused ticket fault buffer) = []
+kept_of (Unserved ticket buffer) = []

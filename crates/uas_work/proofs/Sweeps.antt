@@ -2,9 +2,9 @@
 use Rattle.std.proofs.Common.{◌≡◌, ℕ, suc, Bool, true, false, Result, Ok, Err, MatchResult, refl, sym, subst, inl, inr, ◌+◌, arith}
 use Rattle.shared_machine.specs.declared.Step.{Step}
 use Rattle.uas_work.specs.declared.Booking.{Booking}
-use Rattle.uas_work.specs.Booked.{BookedState}
+use Rattle.uas_work.specs.Booked.{BookedState, booked_step}
 use Rattle.uas_work.specs.Control.{AreLeft, IsControl, IsDispatch, LeftAll, TookOne, TookOrLeft, WantsOne}
-use Rattle.uas_work.specs.Sweep.{BookedOne, BookedOrLeft, IsSwept}
+use Rattle.uas_work.specs.Sweep.{BookedOne, BookedOrLeft, IsOpen, IsSwept}
 
 -- the controller's step is one, and so is the dispatcher's
 pub by_control : (says : Step → Bool → Type 0) (old new : BookedState) → TookOne IsControl says old new → BookedOne says old new
@@ -14,6 +14,13 @@ by_control says old new took =
 pub by_dispatch : (says : Step → Bool → Type 0) (old new : BookedState) → TookOne IsDispatch says old new → BookedOne says old new
 by_dispatch says old new took =
     record { step = took.step; whose = inr took.is.of_kind; acts = took.is.acts; allowed = took.is.allowed; booked = took.booked }
+
+-- and so is a step that is open
+pub by_open : (says : Step → Bool → Type 0) (old new : BookedState) (step : Step) (took : Bool) → took ≡ true → IsOpen says old.bus step
+    → new ≡ (booked_step old step).0 → BookedOrLeft says old new took
+by_open says old new step true is open' booked =
+    record { step = step; whose = open'.whose; acts = open'.acts; allowed = open'.allowed; booked = booked }
+by_open says old new step false is open' booked = absurd (cc)
 
 -- where the controller had none, the dispatcher's says what is booked
 dispatched : (says : Step → Bool → Type 0) (old new : BookedState) (result : Result Bool Booking) → AreLeft IsControl says old.bus

@@ -1,8 +1,11 @@
 -- What a client does in a round: it writes eight blocks, and reads them again.
-use Rattle.std.specs.Prelude.{ℕ, ◌+◌, ◌*◌, ◌/◌, ◌%◌, ◌<◌, ◌≤◌, ◌==◌, if◌then◌else◌, false, replicate}
+use Rattle.std.specs.Prelude.{ℕ, ◌+◌, ◌*◌, ◌/◌, ◌%◌, ◌<◌, ◌≤◌, ◌==◌, if◌then◌else◌, false, List, [], ◌∷◌, replicate}
 use Rattle.scsi_cmd.specs.declared.Command.{Command}
 use Rattle.scsi_cmd.specs.declared.Op.{Op}
 use Rattle.scsi_cmd.specs.declared.Op.TheVariants.{Read, Write}
+use Rattle.scsi_cmd.specs.declared.Reply.{Reply}
+use Rattle.tag_desk.specs.declared.Slip.{Slip}
+use Rattle.tag_desk.specs.declared.Slip.TheVariants.{Ask, AskTask, Answer, Refused, Unserved}
 use Rattle.uas_profile.specs.declared.TheConstants.{BLOCK_BYTES}
 use Rattle.uas_work.specs.declared.rounds.Half.{Half}
 use Rattle.uas_work.specs.declared.rounds.Half.TheVariants as half
@@ -32,3 +35,11 @@ ticket_command client ticket = round_command client (ticket / 2) (half_at ticket
 -- of so many tags of a client, one of them for task management, 1 to the other ones have a command out at a time
 abbrev pub IsDepth : ℕ → ℕ → Type 0
 IsDepth tags depth = (1 ≤ depth) × (depth < tags)
+
+-- what a client keeps of the slip with which the pump finished: its reply, and nothing of a command that was refused or not served
+abbrev pub kept_of : Slip → List Reply
+kept_of (Ask ticket command) = []
+kept_of (AskTask ticket task) = []
+kept_of (Answer reply) = reply ∷ []
+kept_of (Refused ticket fault buffer) = []
+kept_of (Unserved ticket buffer) = []

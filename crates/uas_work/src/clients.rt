@@ -1,8 +1,8 @@
 //! The part of a client: it posts its commands on the desk, so many at a time, and looks for what they came to.
-ghost use Rattle.std.specs.Prelude.{◌≡◌, ◌+◌, ◌≤◌, ◌<◌, ◌^◌, vec_len, vec_capacity};
+ghost use Rattle.std.specs.Prelude.{◌≡◌, ◌+◌, ◌++◌, ◌≤◌, ◌<◌, ◌^◌, vec_len, vec_capacity};
 ghost use Rattle.tag_desk.specs.Seats.{IsTagOf};
 ghost use Rattle.uas_work.specs.Parts.{HasRoomForRounds, IsClientPart, IsSeatOfClient};
-ghost use Rattle.uas_work.specs.Rounds.{IsDepth};
+ghost use Rattle.uas_work.specs.Rounds.{IsDepth, kept_of};
 
 use crate::desk_and_board::DeskAndBoard;
 use crate::handed::Origin;
@@ -252,7 +252,7 @@ impl ClientPart {
         ensures part { IsClientPart shared.now.desk shared.now.board self.new }
         ensures same { self.new.client ≡ self.old.client }
         ensures room { self.new.replies ≡ self.old.replies }
-        ensures seat { (self.new.seat.tags ≡ self.old.seat.tags) × (self.new.seat.client ≡ self.old.seat.client) }
+        ensures tag { IsTagOf self.new.seat.tags self.new.seat.client tag }
     {
         for _ in 0..MOST_LOOKS {
             let slip = shared.desk.look(&mut self.seat, tag);
@@ -264,9 +264,10 @@ impl ClientPart {
         None
     }
 
-    /// Takes what a tag's command came to, and gives the tag back. Whether the client goes on. Asks for room for a reply.
+    /// Keeps what a tag's command came to, and gives the tag back. Whether the client goes on. Asks for room for a reply.
     fn took(&mut self, slip: Slip, tag: u16) -> bool
         requires room { vec_len self.old.replies < vec_capacity self.old.replies }
+        ensures kept { self.new.replies.items ≡ self.old.replies.items ++ kept_of slip }
         ensures seat { self.new.seat ≡ self.old.seat }
         ensures bell { self.new.bell ≡ self.old.bell }
         ensures client { self.new.client ≡ self.old.client }

@@ -29,14 +29,17 @@ const MOST_ROUNDS: u32 = 8;
 /// The most times that a pump serves a client in a round: for each tag what is posted, and a reply.
 const MOST_SERVED: u32 = 32;
 
-/// How many times a pump looks for its bells before it parks.
+/// How many times a pump that had something looks for its bells before it parks. One that had nothing looks once.
 const MOST_LOOKS: u32 = 2000;
 
 /// The most steps of those who have no client in a round.
 const MOST_SWEPT: u32 = 4096;
 
 /// How many bells a word of the board has.
-const WORD_BELLS: usize = u64::BITS as usize;
+const WORD_BELLS: usize = 64;
+
+/// The bells of the most tags that a client has are those below this one.
+const OWN_BELLS: u64 = 1 << 16;
 
 /// So many clients ring in the first half of the board's words; any further ones in the second half too.
 const FIRST_CLIENTS: usize = 16;
@@ -88,12 +91,13 @@ impl PumpPart {
         ensures same { self.new.pump ≡ self.old.pump }
     {
         let mut is_busy = false;
+        let mut looks = 1;
         for _ in rt.forever() {
             if locked.is_over(gate, worker) {
                 return;
             }
             let mut called = [false; MAX_CLIENTS];
-            if !is_busy && !self.looked(shared, &mut called) {
+            if !is_busy && !self.looked(shared, looks, &mut called) {
                 locked.park(rt, Worker::Pump(self.pump));
                 if !self.is_called(shared, &mut called) {
                     called = [true; MAX_CLIENTS];
@@ -101,20 +105,28 @@ impl PumpPart {
             }
             let mut replied = [false; MAX_CLIENTS];
             match self.served_all(rt, locked, shared, gate, &mut called, &mut replied) {
-                Ok(is_left) => is_busy = is_left,
+                Ok(rounds) => {
+                    is_busy = rounds == MOST_ROUNDS;
+                    looks = if rounds > 0 { MOST_LOOKS } else { 1 };
+                }
                 Err(booking) => locked.end(Ended::from_booking(booking)),
             }
             locked.parkers().unpark_replied(&replied);
         }
     }
 
-    /// Looks for its bells some times: whether one stood.
-    fn looked(&mut self, shared: &DeskAndBoard, called: &mut [bool; MAX_CLIENTS]) -> bool
+    /// Looks for its bells so many times: whether one stood.
+    fn looked(
+        &mut self,
+        shared: &DeskAndBoard,
+        looks: u32,
+        called: &mut [bool; MAX_CLIENTS],
+    ) -> bool
         requires part { IsPumpPart shared.now.desk shared.now.board self.old }
         ensures part { IsPumpPart shared.now.desk shared.now.board self.new }
         ensures same { self.new.pump ≡ self.old.pump }
     {
-        for _ in 0..MOST_LOOKS {
+        for _ in 0..looks {
             if self.is_called(shared, called) {
                 return true;
             }
@@ -142,8 +154,8 @@ impl PumpPart {
         is_called
     }
 
-    /// Serves its clients under the lock, and takes the steps of those who have no client, until nothing is left or so many rounds were
-    /// taken: whether something may be left.
+    /// Serves its clients under the lock, and takes the steps of those who have no client, until a round has none or `MOST_ROUNDS` were
+    /// taken: how many rounds had some.
     fn served_all<J: Origin, R: Wait, G: Gate>(
         &mut self,
         rt: &R,
@@ -152,20 +164,20 @@ impl PumpPart {
         gate: &G,
         called: &mut [bool; MAX_CLIENTS],
         replied: &mut [bool; MAX_CLIENTS],
-    ) -> Result<bool, Booking>
+    ) -> Result<u32, Booking>
         requires part { IsPumpPart shared.now.desk shared.now.board self.old }
         ensures part { IsPumpPart shared.now.desk shared.now.board self.new }
         ensures same { self.new.pump ≡ self.old.pump }
     {
         let mut guard = locked.lock(rt);
         let handed = &mut *guard;
-        for _ in 0..MOST_ROUNDS {
+        for round in 0..MOST_ROUNDS {
             self.is_called(shared, called);
             if !self.took_round(locked.alloc, handed, shared, gate, called, replied)? {
-                return Ok(false);
+                return Ok(round);
             }
         }
-        Ok(true)
+        Ok(MOST_ROUNDS)
     }
 
     /// Serves each of its clients, what they posted where they called, and sweeps: whether a step was booked. Notes who has a reply.
@@ -244,12 +256,34 @@ impl PumpPart {
         ensures served { MatchResult result (λ served. Served (G.says gate.now) shared.now.desk.tags client booked.old booked.new)
             (λ booking. EnteredOrLeft shared.now.desk.tags client booked.old booked.new) }
     {
-        let has_posted = may_post && self.took_in(alloc, shared, booked, client)?;
+        let has_posted = self.took_called(alloc, shared, booked, client, may_post)?;
         let has_reply = self.brought_out(alloc, shared, gate, booked, client)?;
         Ok(Turn {
             has_posted,
             has_reply,
         })
+    }
+
+    /// Books what a client posted, where it may have: `took_in`.
+    fn took_called(
+        &mut self,
+        alloc: Global,
+        shared: &DeskAndBoard,
+        booked: &mut Booked,
+        client: usize,
+        may_post: bool,
+    ) -> Result<bool, Booking>
+        requires part { IsPumpPart shared.now.desk shared.now.board self.old }
+        requires client { ServesClient shared.now.desk self.old.seat client }
+        ensures part { IsPumpPart shared.now.desk shared.now.board self.new }
+        ensures same { self.new.pump ≡ self.old.pump }
+        ensures entered { IfOk result (λ posted. EnteredOrLeft shared.now.desk.tags client booked.old booked.new) }
+        ensures err { IfErr result (λ booking. booked.new ≡ booked.old) }
+    {
+        if !may_post {
+            return Ok(false);
+        }
+        self.took_in(alloc, shared, booked, client)
     }
 
     /// Books what a client posted, where it did: `pump_in`.
@@ -314,13 +348,13 @@ impl PumpPart {
     }
 }
 
-/// Notes whose bells are these, of a word of the board.
+/// Notes whose bells are these, of a word of the board. Where clients have fewer than 16 tags it may note one with no bell too, behind one
+/// that has: it is looked at in vain.
 fn note_called(shared: &DeskAndBoard, word: usize, bells: u64, called: &mut [bool; MAX_CLIENTS]) {
     let tags = shared.desk.tags();
-    let all = (1 << tags) - 1;
     for client in 0..shared.clients {
         let first = place(tags, client, 1);
-        if first / WORD_BELLS == word && (bells >> (first % WORD_BELLS)) & all != 0 {
+        if first / WORD_BELLS == word && (bells >> (first % WORD_BELLS)) % OWN_BELLS != 0 {
             called[client] = true;
         }
     }

@@ -2,7 +2,7 @@
 //!
 //! A sweep walks: the command pipe while it has units, a chunk of each busy tag, the status of each, by rising tag, and the events. At a
 //! walk's end it takes the first step of all that is left, as `control` and `dispatch` find it, and walks again; there it ends where none is.
-ghost use Rattle.std.specs.Prelude.{◌≡◌, ◌×◌, ◌≤◌, ◌<◌, true, IfSome, IfOk, IfErr, MatchResult, length};
+ghost use Rattle.std.specs.Prelude.{◌≡◌, ◌≤◌, ◌<◌, true, IfSome, IfOk, IfErr, MatchResult, length};
 ghost use Rattle.shared_machine.specs.declared.Step.{Step};
 ghost use Rattle.shared_machine.specs.Shared.{due};
 ghost use Rattle.uas_work.specs.Control.{IsTag};

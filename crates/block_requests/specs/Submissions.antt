@@ -1,6 +1,6 @@
 -- Which requests of a disk's users are taken, and what is put for one.
-use Rattle.std.specs.Prelude.{ℕ, ◌+◌, ◌-◌, ◌^◌, ◌%◌, ◌==◌, ◌||◌, min, sum, map, nat_lt, not, if◌then◌else◌, Bool, Option, Some, None, List, [], length, replicate, ◌++◌}
-use Rattle.std.specs.List.{list_any}
+use Rattle.std.specs.Prelude.{ℕ, ◌+◌, ◌-◌, ◌^◌, ◌%◌, ◌==◌, ◌||◌, min, nat_lt, not, if◌then◌else◌, Bool, Option, Some, None, List, [], length, replicate, ◌++◌}
+use Rattle.std.specs.List.{list_any, sum_by}
 use Rattle.disk_ready.specs.declared.puts.Way.{Way}
 use Rattle.disk_ready.specs.declared.puts.Way.TheVariants.{Nothing, In, Out}
 use Rattle.disk_requests.specs.declared.Request.{Request}
@@ -12,7 +12,7 @@ use Rattle.disk_requests.specs.Commands.{request_cdb, unmap_list}
 use Rattle.disk_requests.specs.Refusals.{refusal_of}
 use Rattle.host_layout.specs.declared.segments.Segment.{Segment}
 use Rattle.host_layout.specs.declared.shape.Pieces.{Pieces}
-use Rattle.host_layout.specs.Cutting.{is_empty, pieces_from}
+use Rattle.host_layout.specs.Cutting.{is_beyond, is_empty, pieces_from}
 use Rattle.host_layout.specs.Sizes.{pieces_number}
 use Rattle.block_requests.specs.declared.SubmitFault.{SubmitFault}
 use Rattle.block_requests.specs.declared.SubmitFault.TheVariants as fault
@@ -32,7 +32,7 @@ abbrev pub length_in : Segment → ℕ
 length_in segment = segment.length
 
 abbrev pub lent_bytes : List Segment → ℕ
-lent_bytes segments = min (sum (map length_in segments)) (2 ^ 64 - 1)
+lent_bytes segments = min (sum_by length_in segments) (2 ^ 64 - 1)
 
 -- not of whole 512 bytes, or not at a multiple of 512
 abbrev pub is_uneven : Segment → Bool
@@ -42,12 +42,12 @@ is_uneven segment = not (segment.address % 512 == 0) || not (segment.length % 51
 abbrev pub is_out : ℕ → Segment → Bool
 is_out reach segment = nat_lt reach (segment.address + segment.length)
 
--- a segment without bytes is one of a wrong length
+-- a segment without bytes is one of a wrong length; none is reached that doesn't end below 2^64
 abbrev pub segments_fault : List Segment → ℕ → Pieces → Option SubmitFault
 segments_fault segments reach most =
     if list_any is_empty segments then Some fault.Length
     else if list_any is_uneven segments then Some fault.Alignment
-    else if list_any (λ segment. is_out reach segment) segments then Some fault.Reach
+    else if list_any (λ segment. is_out reach segment) segments || list_any is_beyond segments then Some fault.Reach
     else if nat_lt (pieces_number most) (length (pieces_from 0 segments)) then Some fault.Pieces
     else None
 

@@ -49,6 +49,7 @@ fn fault_of(refusal: Refusal) -> SubmitFault
 }
 
 /// The bytes that segments lend.
+#[tactic(auto, using(std::proofs::lemmas::List::Sums::sum_by_more))]
 fn lent_bytes(segments: &[Segment]) -> u64
     ensures { result ≡ lent_bytes segments.now }
 {

@@ -1,5 +1,5 @@
 -- What an event says of the three TDs of a question (xHCI 1.2, 6.4.2.1): how many bytes a TD moved, once it has ended; and what the status unit says.
-use Rattle.std.specs.Prelude.{ℕ, ◌-◌, ◌==◌, ◌&&◌, ◌||◌, if◌then◌else◌, Bool, true, false, not, Option, Some, None, is_some, List}
+use Rattle.std.specs.Prelude.{ℕ, ◌-◌, ◌==◌, ◌&&◌, if◌then◌else◌, Bool, true, false, not, Option, Some, None, is_some, List}
 use Rattle.disk_requests.specs.declared.StatusKind.{StatusKind}
 use Rattle.disk_requests.specs.declared.StatusKind.TheVariants.{Sense, Response, ReadReady, WriteReady}
 use Rattle.disk_requests.specs.declared.StatusUnit.{StatusUnit}
@@ -13,7 +13,7 @@ use Rattle.host_trbs.specs.declared.events.Completion.{Completion}
 use Rattle.host_trbs.specs.declared.events.Completion.TheVariants as completion
 use Rattle.host_trbs.specs.declared.events.Event.{Event}
 use Rattle.host_trbs.specs.declared.events.Event.TheVariants as event
-use Rattle.host_trbs.specs.Events.{is_failure, transfer_completion}
+use Rattle.host_trbs.specs.Events.{transfer_completion}
 use Rattle.usb_descriptors.specs.Endpoints.{context_index}
 use Rattle.disk_ready.specs.declared.ends.Ends.{Ends}
 use Rattle.disk_ready.specs.declared.ends.Td.{Td}

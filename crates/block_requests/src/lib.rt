@@ -9,7 +9,7 @@
 //! last address that the controller reaches; `Pieces` for more TRBs than a TD has. Nothing is changed by any of them.
 //!
 //! What is promised: each call's answer is the definition of its name (`specs/`). No call takes memory. It stands on `disk_ready`, `disk_requests`,
-//! `host_layout`, `arrayvec` and `thiserror`.
+//! `host_layout`, `host_trbs`, `uas_iu`, `arrayvec` and `thiserror`.
 #![tactic(auto)]
 
 mod outcomes;
@@ -18,7 +18,7 @@ mod submissions;
 use arrayvec::ArrayVec;
 use disk_ready::Way;
 use host_layout::{MOST_PIECES, Piece};
-pub use outcomes::{Outcome, moved_in, outcome_of};
+pub use outcomes::{DataEnd, Outcome, data_end, moved_in, outcome_of};
 pub use submissions::submission;
 use thiserror::Error;
 

@@ -1,10 +1,11 @@
 //! What a command came to.
 ghost use Rattle.std.specs.Prelude.{◌≡◌};
-ghost use Rattle.block_requests.specs.Outcomes.{moved_in, outcome_of, status_outcome};
+ghost use Rattle.block_requests.specs.Outcomes.{data_end, moved_in, outcome_of, short_end, status_outcome};
 
 use arrayvec::ArrayVec;
 use disk_requests::StatusKind;
 use host_layout::Piece;
+use host_trbs::Completion;
 use uas_iu::MAX_SENSE_BYTES;
 
 /// How a command ended.
@@ -18,6 +19,40 @@ pub enum Outcome {
     Status(u8, ArrayVec<u8, MAX_SENSE_BYTES>),
     /// The response code of a unit that the disk didn't take.
     Response(u8),
+}
+
+/// What an event says of the TD of a command's data.
+#[derive(Clone, Copy, Debug, PartialEq, Eq)]
+pub enum DataEnd {
+    /// It has ended, and so many bytes were moved.
+    Moved(u32),
+    Failed,
+    /// It goes on.
+    GoesOn,
+}
+
+/// What an event at the TRB of a piece says, of which so many bytes were not moved.
+pub fn data_end(pieces: &[Piece], number: usize, residual: u32, completion: Completion) -> DataEnd
+    ensures { result ≡ data_end pieces.now number residual completion }
+{
+    match completion {
+        Completion::Success => match pieces.last() {
+            Some(last) if number == pieces.len() - 1 => DataEnd::Moved(last.end),
+            _ => DataEnd::GoesOn,
+        },
+        Completion::ShortPacket => short_end(moved_in(pieces, number, residual)),
+        Completion::Stall | Completion::Transaction | Completion::Failed => DataEnd::Failed,
+        _ => DataEnd::GoesOn,
+    }
+}
+
+fn short_end(moved: Option<u32>) -> DataEnd
+    ensures { result ≡ short_end moved }
+{
+    match moved {
+        Some(count) => DataEnd::Moved(count),
+        None => DataEnd::GoesOn,
+    }
 }
 
 /// The bytes of a TD that were moved, where an event names the TRB of a piece and so many of its bytes were not; None behind the last piece.

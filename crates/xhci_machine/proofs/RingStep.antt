@@ -22,6 +22,7 @@ use Rattle.xhci_slots.specs.declared.Changes.{Changes}
 use Rattle.xhci_slots.specs.declared.Done.{Done}
 use Rattle.xhci_slots.specs.declared.SlotCommand.{SlotCommand}
 use Rattle.xhci_slots.specs.Slots.{World as SlotWorld, executed}
+use Rattle.xhci_machine.specs.Bus.{is_cut}
 use Rattle.xhci_machine.specs.declared.Machine.{Machine}
 use Rattle.xhci_machine.specs.declared.command.Command.{Command as TakenCommand}
 use Rattle.xhci_machine.specs.declared.command.Command.TheVariants.{Link, NoOp, OnSlot, OnEndpoint, Foreign}
@@ -107,11 +108,11 @@ module _ (P : GuestTasks → Type 0) where
   on_slot_kept : (memory : Memory) (m : Machine) (slot : ℕ) (command : SlotCommand) → P m.device → IfDone (on_slot_done memory m slot command)
   unfolding on_slot_done
   on_slot_kept memory m slot command p =
-      let done = option_map (commanded m slot command) (executed (record { memory = memory; slot = m.slot }) m.registers.contexts command) in
+      let done = option_map (commanded m slot command) (executed (record { memory = memory; slot = m.slot }) m.registers.contexts (not (is_cut m)) command) in
       let given = cond (is_enable command && not (has_slots m.registers)) (Some (let none : Memory × (Machine × Ended) = (memory, (m, ended 9 0)) in none)) done in
       either IfDone (not (slot == 1) && not (is_enable command)) (Some (memory, (m, ended 11 slot))) given p
       (either IfDone (is_enable command && not (has_slots m.registers)) (Some (memory, (m, ended 9 0))) done p
-      (slot_kept m slot command (executed (record { memory = memory; slot = m.slot }) m.registers.contexts command) p))
+      (slot_kept m slot command (executed (record { memory = memory; slot = m.slot }) m.registers.contexts (not (is_cut m)) command) p))
 
   slot_over : (w : World) (cursor : Cursor) (done : Option (Memory × (Machine × Ended))) → Holds w → IfDone done → Holds (slot_ended w cursor done).0
   slot_over w cursor None p after = p

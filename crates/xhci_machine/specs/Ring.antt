@@ -10,7 +10,7 @@ use Rattle.xhci_slots.specs.declared.Change.{Change}
 use Rattle.xhci_slots.specs.declared.Change.TheVariants.{Kept, Disabled, Set}
 use Rattle.xhci_slots.specs.declared.Changes.{Changes}
 use Rattle.xhci_slots.specs.declared.Code.{Code}
-use Rattle.xhci_slots.specs.declared.Code.TheVariants.{Success, NoSlotsAvailable, SlotNotEnabled, ParameterError, ContextStateError}
+use Rattle.xhci_slots.specs.declared.Code.TheVariants.{Success, TransactionError, NoSlotsAvailable, SlotNotEnabled, ParameterError, ContextStateError}
 use Rattle.xhci_slots.specs.declared.Done.{Done}
 use Rattle.xhci_slots.specs.declared.SlotCommand.{SlotCommand}
 use Rattle.xhci_slots.specs.declared.SlotCommand.TheVariants.{Enable, Disable, Address, Configure, Evaluate, Reset}
@@ -19,6 +19,7 @@ use Rattle.xhci_registers.specs.Writes.{has_slots}
 use Rattle.xhci_machine.specs.declared.Machine.{Machine}
 use Rattle.xhci_machine.specs.declared.ring.Ended.{Ended}
 use Rattle.xhci_machine.specs.declared.states.States.{States}
+use Rattle.xhci_machine.specs.Bus.{is_cut}
 use Rattle.xhci_machine.specs.Effects.{dropped}
 
 -- WHERE IT STANDS
@@ -48,6 +49,7 @@ ended code slot = record { code = code; slot = slot }
 -- table 6-90
 abbrev pub code_number : Code → ℕ
 code_number Success = 1
+code_number TransactionError = 4
 code_number NoSlotsAvailable = 9
 code_number SlotNotEnabled = 11
 code_number ParameterError = 17
@@ -55,6 +57,7 @@ code_number ContextStateError = 19
 
 abbrev pub slot_enabled : Code → ℕ
 slot_enabled Success = 1
+slot_enabled TransactionError = 0
 slot_enabled NoSlotsAvailable = 0
 slot_enabled SlotNotEnabled = 0
 slot_enabled ParameterError = 0
@@ -145,4 +148,4 @@ unfoldable pub on_slot_done : Memory → Machine → ℕ → SlotCommand → Opt
 on_slot_done memory m slot command =
     if not (slot == 1) && not (is_enable command) then Some (memory, (m, ended 11 slot))
     else if is_enable command && not (has_slots m.registers) then Some (memory, (m, ended 9 0))
-    else option_map (commanded m slot command) (executed (record { memory = memory; slot = m.slot }) m.registers.contexts command)
+    else option_map (commanded m slot command) (executed (record { memory = memory; slot = m.slot }) m.registers.contexts (not (is_cut m)) command)

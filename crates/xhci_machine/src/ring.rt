@@ -12,6 +12,7 @@ ghost use Rattle.xhci_machine.specs.Steps.{command_ended, command_taken, command
 use crate::Machine;
 use crate::command::{Command, Order, read_command};
 use crate::interrupts::post;
+use crate::steps::TRANSACTION_ERROR;
 use guest_memory::rings::{Cursor, Event, EventRing, fetch};
 use guest_memory::{GuestMemory, Outside};
 use guest_pipes::{Acted, room_gate};
@@ -79,6 +80,7 @@ fn number_of(code: Code) -> u8
 {
     match code {
         Code::Success => SUCCESS,
+        Code::TransactionError => TRANSACTION_ERROR,
         Code::NoSlotsAvailable => NO_SLOTS_AVAILABLE,
         Code::SlotNotEnabled => SLOT_NOT_ENABLED,
         Code::ParameterError => 17,
@@ -329,7 +331,8 @@ impl Machine {
             return Ok(end_with(NO_SLOTS_AVAILABLE, 0));
         }
         let array = self.registers.contexts;
-        let done = self.slot.execute(memory, array, command)?;
+        let answers = !self.is_cut();
+        let done = self.slot.execute(memory, array, answers, command)?;
         self.change(&done.changes);
         Ok(end_with(number_of(done.code), slot_told(slot, command, done.code)))
     }

@@ -112,15 +112,12 @@ stray_taken law silent_law w name is =
     of_there w due _ (needs_context due w.memory w.machine wanted is)
     (by_kind (is_silent w.machine) (wants_nothing due w.memory w.machine wanted (idle (is_silent w.machine)) is))
   where
-    pipe : PipeState
-    pipe = pipe_of w.machine.transfers name
+    idle : (silent : Bool) → (is_running (pipe_of w.machine.transfers name).state && (if silent then has_rung (pipe_of w.machine.transfers name) else has_stray (pipe_of w.machine.transfers name))) ≡ false
+        → (if silent then silent_wanted w.memory w.events (pipe_of w.machine.transfers name) else stray_wanted w.memory w.events (pipe_of w.machine.transfers name)) ≡ None
+    idle true rests = not_rung w.memory w.events (pipe_of w.machine.transfers name) rests
+    idle false rests = not_stray w.memory w.events (pipe_of w.machine.transfers name) rests
 
-    idle : (silent : Bool) → (is_running pipe.state && (if silent then has_rung pipe else has_stray pipe)) ≡ false
-        → (if silent then silent_wanted w.memory w.events pipe else stray_wanted w.memory w.events pipe) ≡ None
-    idle true rests = not_rung w.memory w.events pipe rests
-    idle false rests = not_stray w.memory w.events pipe rests
-
-    by_kind : (silent : Bool) → (if silent then silent_wanted w.memory w.events pipe else stray_wanted w.memory w.events pipe) ≡ None
+    by_kind : (silent : Bool) → (if silent then silent_wanted w.memory w.events (pipe_of w.machine.transfers name) else stray_wanted w.memory w.events (pipe_of w.machine.transfers name)) ≡ None
         → is_some (if silent then silent_on transaction_error w.memory w.events w.machine.transfers name
         else stray_on stall_error w.memory w.events w.machine.transfers name).1.1.1 ≡ true
     by_kind true none = silent_law w.memory w.events w.machine.transfers name none

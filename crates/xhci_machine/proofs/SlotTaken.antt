@@ -1,7 +1,7 @@
 -- A command on the slot that lacks nothing is executed, and leaves the event's place.
 use Rattle.std.proofs.Common.{◌≡◌, ℕ, ◌==◌, Bool, true, false, Option, Some, None, refl, ap, ◌∙◌}
 use Rattle.std.proofs.lemmas.Bool.{false≢true}
-use Rattle.std.specs.Prelude.{is_some, option_map, if◌then◌else◌, not, ◌&&◌, ◌||◌, IfSome}
+use Rattle.std.specs.Prelude.{is_some, option_map, if◌then◌else◌, not, ◌&&◌, IfSome}
 use Rattle.guest_memory.specs.Bytes.{Memory, ◌>>=◌}
 use Rattle.guest_memory.specs.Ranges.{there_written}
 use Rattle.guest_memory.specs.declared.rings.cursor.Cursor.{Cursor}
@@ -15,16 +15,16 @@ use Rattle.xhci_slots.specs.contexts.Inputs.{input_at, is_bad_address, is_bad_co
 use Rattle.xhci_slots.specs.declared.Done.{Done}
 use Rattle.xhci_slots.specs.declared.SlotCommand.{SlotCommand}
 use Rattle.xhci_slots.specs.declared.SlotCommand.TheVariants.{Enable, Disable, Address, Configure, Evaluate, Reset as ResetDevice}
-use Rattle.xhci_slots.specs.Slots.{World as SlotWorld, address_step, addressed_by, addressed_if, configure_step, configured_by, context_disabled, deconfigure_step}
+use Rattle.xhci_slots.specs.Slots.{World as SlotWorld, address_step, addressed_by, configure_step, configured_by, context_disabled, deconfigure_step}
 use Rattle.xhci_slots.specs.Slots.{disable_step, entry_at, evaluate_step, evaluated_by, executed, free_step, has_context, may_address, may_configure}
 use Rattle.xhci_slots.specs.Slots.{may_evaluate, reset_step, slot_step}
 use Rattle.xhci_slots.specs.Wanted.{slot_wanted, wanted_in}
 use Rattle.xhci_registers.specs.Writes.{has_slots}
 use Rattle.xhci_machine.specs.declared.Machine.{Machine}
 use Rattle.xhci_machine.specs.declared.ring.Ended.{Ended}
-use Rattle.xhci_machine.specs.Bus.{is_cut}
 use Rattle.xhci_machine.specs.Lacking.{slot_world}
-use Rattle.xhci_machine.specs.Ring.{commanded, ended, is_enable, on_slot_done}
+use Rattle.xhci_machine.specs.Bus.{transaction_error}
+use Rattle.xhci_machine.specs.Ring.{commanded, ended, is_enable, is_unanswered, on_slot_done}
 use Rattle.xhci_machine.specs.Steps.{command_ended, slot_ended, told_and_stood, with_done}
 use Rattle.xhci_machine.specs.Turns.{World}
 
@@ -60,34 +60,32 @@ device_stays w events at found made place each =
     bind_each found (λ device. Some (made device)) (Stays events)
     (λ device. ap (λ (memory : Memory). has_place memory events) (each device).1 ∙ device_place w.memory at (each device).0 events place)
 
-step_stays : (w : SlotWorld) (array : ℕ) (answers : Bool) (command : SlotCommand) (state : SlotState) (events : EventEnd) → has_place w.memory events ≡ true
-    → IfSome (slot_step w array answers command state) (Stays events)
+step_stays : (w : SlotWorld) (array : ℕ) (command : SlotCommand) (state : SlotState) (events : EventEnd) → has_place w.memory events ≡ true
+    → IfSome (slot_step w array command state) (Stays events)
 unfolding disable_step context_disabled address_step addressed_by configure_step configured_by deconfigure_step evaluate_step evaluated_by reset_step
-step_stays w array answers Enable state events place = place
-step_stays w array answers Disable state events place =
+step_stays w array Enable state events place = place
+step_stays w array Disable state events place =
     if_each (has_context state) _ _ (Stays events)
     (device_stays w events w.slot.context (device_at w.memory w.slot.context) _ place (λ device. (_, refl))) place
-step_stays w array answers (Address input blocked) state events place =
+step_stays w array (Address input blocked) state events place =
     if_each (may_address state blocked) _ _ (Stays events)
     (bind_each (input_at w.memory input) _ (Stays events) (λ read. if_each (is_bad_address read) _ _ (Stays events) place
-    (if_each (blocked || answers) _ _ (Stays events)
-    (bind_each (entry_at w.memory array) _ (Stays events) (λ at. device_stays w events at (device_at w.memory at) _ place (λ device. (_, refl))))
-    place)))
+    (bind_each (entry_at w.memory array) _ (Stays events) (λ at. device_stays w events at (device_at w.memory at) _ place (λ device. (_, refl))))))
     place
-step_stays w array answers (Configure input true) state events place =
+step_stays w array (Configure input true) state events place =
     if_each (may_configure state) _ _ (Stays events)
     (device_stays w events w.slot.context (device_at w.memory w.slot.context) _ place (λ device. (_, refl))) place
-step_stays w array answers (Configure input false) state events place =
+step_stays w array (Configure input false) state events place =
     if_each (may_configure state) _ _ (Stays events)
     (bind_each (input_at w.memory input) _ (Stays events) (λ read. if_each (is_bad_configuration read) _ _ (Stays events) place
     (device_stays w events w.slot.context (device_at w.memory w.slot.context) _ place (λ device. (_, refl)))))
     place
-step_stays w array answers (Evaluate input) state events place =
+step_stays w array (Evaluate input) state events place =
     if_each (may_evaluate state) _ _ (Stays events)
     (bind_each (input_at w.memory input) _ (Stays events) (λ read. if_each (is_bad_evaluation read) _ _ (Stays events) place
     (device_stays w events w.slot.context (device_at w.memory w.slot.context) _ place (λ device. (_, refl)))))
     place
-step_stays w array answers ResetDevice state events place =
+step_stays w array ResetDevice state events place =
     if_each (may_configure state) _ _ (Stays events)
     (device_stays w events w.slot.context (device_at w.memory w.slot.context) _ place (λ device. (_, refl))) place
 
@@ -99,13 +97,13 @@ free_stays w (Configure input deconfigures) events place = place
 free_stays w (Evaluate input) events place = place
 free_stays w ResetDevice events place = place
 
-slot_stays : (w : SlotWorld) (array : ℕ) (answers : Bool) (command : SlotCommand) (events : EventEnd) → has_place w.memory events ≡ true
-    → IfSome (executed w array answers command) (Stays events)
-slot_stays w array answers command events place = by_state w.slot.state
+slot_stays : (w : SlotWorld) (array : ℕ) (command : SlotCommand) (events : EventEnd) → has_place w.memory events ≡ true
+    → IfSome (executed w array command) (Stays events)
+slot_stays w array command events place = by_state w.slot.state
   where
-    by_state : (state : Option SlotState) → IfSome (executed (record w { slot = record w.slot { state = state } }) array answers command) (Stays events)
+    by_state : (state : Option SlotState) → IfSome (executed (record w { slot = record w.slot { state = state } }) array command) (Stays events)
     by_state None = free_stays (record w { slot = record w.slot { state = None } }) command events place
-    by_state (Some state) = step_stays (record w { slot = record w.slot { state = Some state } }) array answers command state events place
+    by_state (Some state) = step_stays (record w { slot = record w.slot { state = Some state } }) array command state events place
 
 -- HOW A COMMAND ENDS
 
@@ -143,9 +141,7 @@ map_stays m slot command events (Some done) is = is
 
 -- as xhci_slots has it
 abbrev pub Executes : Type 0
-Executes =
-    (world : SlotWorld) (array : ℕ) (answers : Bool) (command : SlotCommand) → slot_wanted world array command ≡ None
-    → is_some (executed world array answers command) ≡ true
+Executes = (world : SlotWorld) (array : ℕ) (command : SlotCommand) → slot_wanted world array command ≡ None → is_some (executed world array command) ≡ true
 
 pub slot_done : Executes → (memory : Memory) (m : Machine) (slot : ℕ) (command : SlotCommand) (events : EventEnd) → has_place memory events ≡ true
     → (if slot == 1 then slot_wanted (slot_world memory m) m.registers.contexts command else None) ≡ None
@@ -154,25 +150,33 @@ unfolding on_slot_done
 slot_done executes memory m slot command events place none = by_test (slot == 1) (is_enable command) refl none
   where
     runs : slot_wanted (slot_world memory m) m.registers.contexts command ≡ None
-        → SlotIsDone events (option_map (commanded m slot command) (executed (slot_world memory m) m.registers.contexts (not (is_cut m)) command))
+        → SlotIsDone events (option_map (commanded m slot command) (executed (slot_world memory m) m.registers.contexts command))
     runs lacks = (
-      map_some (commanded m slot command) _ ∙ executes (slot_world memory m) m.registers.contexts (not (is_cut m)) command lacks,
-      map_stays m slot command events _ (slot_stays (slot_world memory m) m.registers.contexts (not (is_cut m)) command events place),
+      map_some (commanded m slot command) _ ∙ executes (slot_world memory m) m.registers.contexts command lacks,
+      map_stays m slot command events _ (slot_stays (slot_world memory m) m.registers.contexts command events place),
     )
+
+    sent : (unanswered : Bool) → slot_wanted (slot_world memory m) m.registers.contexts command ≡ None
+        → SlotIsDone events (if unanswered then Some (memory, (m, ended transaction_error slot))
+        else option_map (commanded m slot command) (executed (slot_world memory m) m.registers.contexts command))
+    sent true lacks = (refl, place)
+    sent false lacks = runs lacks
 
     given : (refused : Bool) → slot_wanted (slot_world memory m) m.registers.contexts command ≡ None
         → SlotIsDone events (if refused then Some (memory, (m, ended 9 0))
-        else option_map (commanded m slot command) (executed (slot_world memory m) m.registers.contexts (not (is_cut m)) command))
+        else if is_unanswered memory m command then Some (memory, (m, ended transaction_error slot))
+        else option_map (commanded m slot command) (executed (slot_world memory m) m.registers.contexts command))
     given true lacks = (refl, place)
-    given false lacks = runs lacks
+    given false lacks = sent (is_unanswered memory m command) lacks
 
     by_test : (one enables : Bool) → is_enable command ≡ enables
         → (if one then slot_wanted (slot_world memory m) m.registers.contexts command else None) ≡ None
         → SlotIsDone events (if not one && not enables then Some (memory, (m, ended 11 slot))
         else if enables && not (has_slots m.registers) then Some (memory, (m, ended 9 0))
-        else option_map (commanded m slot command) (executed (slot_world memory m) m.registers.contexts (not (is_cut m)) command))
+        else if is_unanswered memory m command then Some (memory, (m, ended transaction_error slot))
+        else option_map (commanded m slot command) (executed (slot_world memory m) m.registers.contexts command))
     by_test true true is lacks = given (not (has_slots m.registers)) lacks
-    by_test true false is lacks = runs lacks
+    by_test true false is lacks = sent (is_unanswered memory m command) lacks
     by_test false true is lacks =
         given (not (has_slots m.registers)) (enable_wants m.slot.state (slot_world memory m) m.registers.contexts command is)
     by_test false false is lacks = (refl, place)

@@ -80,7 +80,6 @@ fn number_of(code: Code) -> u8
 {
     match code {
         Code::Success => SUCCESS,
-        Code::TransactionError => TRANSACTION_ERROR,
         Code::NoSlotsAvailable => NO_SLOTS_AVAILABLE,
         Code::SlotNotEnabled => SLOT_NOT_ENABLED,
         Code::ParameterError => 17,
@@ -330,9 +329,11 @@ impl Machine {
         if matches!(command, SlotCommand::Enable) && !self.registers.has_slots() {
             return Ok(end_with(NO_SLOTS_AVAILABLE, 0));
         }
+        if self.is_unanswered(memory, command) {
+            return Ok(end_with(TRANSACTION_ERROR, slot));
+        }
         let array = self.registers.contexts;
-        let answers = !self.is_cut();
-        let done = self.slot.execute(memory, array, answers, command)?;
+        let done = self.slot.execute(memory, array, command)?;
         self.change(&done.changes);
         Ok(end_with(number_of(done.code), slot_told(slot, command, done.code)))
     }

@@ -5,6 +5,7 @@ ghost use Rattle.std.specs.Prelude.{◌≡◌, ◌<◌, is_ok, not};
 ghost use Rattle.std.specs.Result.{result_ok};
 ghost use Rattle.xhci_machine.specs.Contexts.{is_asleep, lacks_context};
 ghost use Rattle.xhci_machine.specs.Bus.{fault_in, is_cut, is_silent};
+ghost use Rattle.xhci_machine.specs.Ring.{is_addressable, is_unanswered};
 ghost use Rattle.xhci_machine.specs.Rounds.{command_pipe_stepped, control_stepped, data_of, is_stray, stray_stepped, status_of};
 
 use crate::Machine;
@@ -14,6 +15,8 @@ use guest_memory::{GuestMemory, Outside};
 use guest_pipes::Acted;
 use guest_transfers::{StreamPipe, next_rung};
 use xhci_registers::Link;
+use xhci_slots::SlotCommand;
+use xhci_slots::contexts::{InputContext, SlotState};
 
 /// Completion code of a TD in a ring without streams, which the disk doesn't have (table 6-90).
 const STALL_ERROR: u8 = 6;
@@ -44,6 +47,39 @@ impl Machine {
             Some(TRANSACTION_ERROR)
         } else {
             None
+        }
+    }
+
+    /// Whether it is an Address Device without BSR, whose request nothing answers at the port (4.6.5).
+    pub(crate) fn is_unanswered<M: GuestMemory>(&self, memory: &M, command: SlotCommand) -> bool
+        ensures { result ≡ is_unanswered (M.contents memory.now) self.now command }
+    {
+        match command {
+            SlotCommand::Address {
+                input,
+                blocked: false,
+            } => self.is_cut() && self.is_addressable(memory, input),
+            SlotCommand::Enable
+            | SlotCommand::Disable
+            | SlotCommand::Address { .. }
+            | SlotCommand::Configure { .. }
+            | SlotCommand::Evaluate { .. }
+            | SlotCommand::Reset => false,
+        }
+    }
+
+    /// Whether the slot may be addressed, by an input context that is there and isn't bad.
+    fn is_addressable<M: GuestMemory>(&self, memory: &M, input: u64) -> bool
+        ensures { result ≡ is_addressable (M.contents memory.now) input self.now.slot.state }
+    {
+        match self.slot.state {
+            Some(SlotState::Enabled | SlotState::Default) => {
+                match InputContext::read(memory, input) {
+                    Ok(read) => !read.is_bad_address(),
+                    Err(Outside) => false,
+                }
+            }
+            None | Some(SlotState::Addressed | SlotState::Configured) => false,
         }
     }
 

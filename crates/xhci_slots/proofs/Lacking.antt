@@ -3,7 +3,7 @@ use Rattle.std.proofs.Common.{◌≡◌, ℕ, ◌+◌, ◌-◌, ◌*◌, ◌%◌
 use Rattle.std.proofs.lemmas.Bool.{false≢true, and_parts, and_from, cases_Bool, cases_lt}
 use Rattle.std.proofs.lemmas.Option.{none-some}
 use Rattle.std.proofs.Math.Nat.{mod-eq_of_lt}
-use Rattle.std.specs.Prelude.{is_some, if◌then◌else◌, ◌||◌}
+use Rattle.std.specs.Prelude.{is_some, if◌then◌else◌}
 use Rattle.byteorder.specs.Endian.{little_number}
 use Rattle.guest_memory.specs.Bytes.{Memory, IsWithinAddresses, bytes_from, is_there, ◌>>=◌}
 use Rattle.guest_memory.specs.Ranges.{there_by_each, there_each}
@@ -17,10 +17,9 @@ use Rattle.xhci_slots.specs.declared.contexts.Number.{Number}
 use Rattle.xhci_slots.specs.declared.contexts.SlotState.{SlotState}
 use Rattle.xhci_slots.specs.contexts.Contexts.{context_at, device_at, endpoint_at, endpoint_in, has_device, slot_at, slot_in}
 use Rattle.xhci_slots.specs.contexts.Inputs.{input_at, is_bad_address, is_bad_configuration, is_bad_evaluation}
-use Rattle.xhci_slots.specs.declared.Code.TheVariants.{TransactionError}
 use Rattle.xhci_slots.specs.declared.SlotCommand.{SlotCommand}
 use Rattle.xhci_slots.specs.declared.SlotCommand.TheVariants.{Enable, Disable, Address, Configure, Evaluate, Reset}
-use Rattle.xhci_slots.specs.Slots.{World, address_step, addressed_by, addressed_if, refused, configure_step, configured_by, context_disabled, deconfigure_step, disable_step, entry_at, evaluate_step, evaluated_by, executed, has_context, may_address, may_configure, may_evaluate, reset_step, slot_step, told}
+use Rattle.xhci_slots.specs.Slots.{World, address_step, addressed_by, configure_step, configured_by, context_disabled, deconfigure_step, disable_step, entry_at, evaluate_step, evaluated_by, executed, has_context, may_address, may_configure, may_evaluate, reset_step, slot_step, told}
 use Rattle.xhci_slots.specs.Wanted.{address_wanted, command_wanted, configure_wanted, device_wanted, entry_wanted, evaluate_wanted, input_wanted, read_wanted, slot_wanted, tell_wanted, unless_bad, wanted_in}
 
 -- two parts, neither of which is missing
@@ -153,21 +152,11 @@ pub tell_there : (w : World) (number : Number) (state : EndpointState) → tell_
 unfolding told
 tell_there w number state none = device_step w _ none
 
-addressed_found : (w : World) (array : ℕ) (answers : Bool) (input : InputContext) (blocked : Bool)
-    → entry_wanted array w.memory (entry_at w.memory array) ≡ None → is_some (addressed_if w array answers input blocked) ≡ true
-unfolding addressed_by
-addressed_found w array answers input blocked none = by_test (blocked || answers)
-  where
-    by_test : (sends : Bool) → is_some (if sends then addressed_by w array input blocked else Some (refused w TransactionError)) ≡ true
-    by_test true = entry_found w.memory array (entry_at w.memory array) _ none
-    by_test false = refl
-
-address_found : (w : World) (array : ℕ) (answers : Bool) (input : ℕ) (blocked : Bool) → address_wanted w array input ≡ None
-    → is_some (address_step w array answers input blocked) ≡ true
-unfolding address_step
-address_found w array answers input blocked none =
+address_found : (w : World) (array input : ℕ) (blocked : Bool) → address_wanted w array input ≡ None → is_some (address_step w array input blocked) ≡ true
+unfolding address_step addressed_by
+address_found w array input blocked none =
     read_found (input_at w.memory input) (input_wanted w.memory input) is_bad_address (entry_wanted array w.memory (entry_at w.memory array)) _ _
-    (input_found w.memory input) (λ rest read. addressed_found w array answers read blocked rest) none
+    (input_found w.memory input) (λ rest read. entry_found w.memory array (entry_at w.memory array) _ rest) none
 
 configure_found : (w : World) (input : ℕ) → configure_wanted w input ≡ None → is_some (configure_step w input) ≡ true
 unfolding configure_step configured_by
@@ -187,26 +176,25 @@ if_let : {R : Type 0} (may : Bool) (wanted : Option Range) (step : Option R) (no
 if_let true wanted step not_now found none = found none
 if_let false wanted step not_now found none = refl
 
-step_there : (w : World) (array : ℕ) (answers : Bool) (command : SlotCommand) (state : SlotState) → command_wanted w array command state ≡ None
-    → is_some (slot_step w array answers command state) ≡ true
+step_there : (w : World) (array : ℕ) (command : SlotCommand) (state : SlotState) → command_wanted w array command state ≡ None
+    → is_some (slot_step w array command state) ≡ true
 unfolding disable_step context_disabled deconfigure_step reset_step
-step_there w array answers Enable state none = refl
-step_there w array answers Disable state none = if_let (has_context state) (tell_wanted w) _ _ (device_step w _) none
-step_there w array answers (Address input blocked) state none =
-    if_let (may_address state blocked) (address_wanted w array input) _ _ (address_found w array answers input blocked) none
-step_there w array answers (Configure input true) state none = if_let (may_configure state) (tell_wanted w) _ _ (device_step w _) none
-step_there w array answers (Configure input false) state none = if_let (may_configure state) (configure_wanted w input) _ _ (configure_found w input) none
-step_there w array answers (Evaluate input) state none = if_let (may_evaluate state) (evaluate_wanted w input) _ _ (evaluate_found w input state) none
-step_there w array answers Reset state none = if_let (may_configure state) (tell_wanted w) _ _ (device_step w _) none
+step_there w array Enable state none = refl
+step_there w array Disable state none = if_let (has_context state) (tell_wanted w) _ _ (device_step w _) none
+step_there w array (Address input blocked) state none =
+    if_let (may_address state blocked) (address_wanted w array input) _ _ (address_found w array input blocked) none
+step_there w array (Configure input true) state none = if_let (may_configure state) (tell_wanted w) _ _ (device_step w _) none
+step_there w array (Configure input false) state none = if_let (may_configure state) (configure_wanted w input) _ _ (configure_found w input) none
+step_there w array (Evaluate input) state none = if_let (may_evaluate state) (evaluate_wanted w input) _ _ (evaluate_found w input state) none
+step_there w array Reset state none = if_let (may_configure state) (tell_wanted w) _ _ (device_step w _) none
 
-pub command_there : (w : World) (array : ℕ) (answers : Bool) (command : SlotCommand) → slot_wanted w array command ≡ None
-    → is_some (executed w array answers command) ≡ true
-command_there w array answers command none = by_state w.slot.state none
+pub command_there : (w : World) (array : ℕ) (command : SlotCommand) → slot_wanted w array command ≡ None → is_some (executed w array command) ≡ true
+command_there w array command none = by_state w.slot.state none
   where
     by_state : (state : Option SlotState) → slot_wanted (record w { slot = record w.slot { state = state } }) array command ≡ None
-        → is_some (executed (record w { slot = record w.slot { state = state } }) array answers command) ≡ true
+        → is_some (executed (record w { slot = record w.slot { state = state } }) array command) ≡ true
     by_state None none = refl
-    by_state (Some state) none = step_there (record w { slot = record w.slot { state = Some state } }) array answers command state none
+    by_state (Some state) none = step_there (record w { slot = record w.slot { state = Some state } }) array command state none
 
 if_lacks : (memory : Memory) (may : Bool) (wanted : Option Range) → LacksIt memory wanted → LacksIt memory (if may then wanted else None)
 if_lacks memory true wanted lacks = lacks

@@ -17,7 +17,7 @@ use Rattle.xhci_slots.specs.declared.Change.{Change}
 use Rattle.xhci_slots.specs.declared.Change.TheVariants.{Kept, Disabled, Set}
 use Rattle.xhci_slots.specs.declared.Changes.{Changes}
 use Rattle.xhci_slots.specs.declared.Code.{Code}
-use Rattle.xhci_slots.specs.declared.Code.TheVariants.{Success, TransactionError, NoSlotsAvailable, SlotNotEnabled, ParameterError, ContextStateError}
+use Rattle.xhci_slots.specs.declared.Code.TheVariants.{Success, NoSlotsAvailable, SlotNotEnabled, ParameterError, ContextStateError}
 use Rattle.xhci_slots.specs.declared.Done.{Done}
 use Rattle.xhci_slots.specs.declared.Slot.{Slot}
 use Rattle.xhci_slots.specs.declared.SlotCommand.{SlotCommand}
@@ -123,15 +123,10 @@ addressed_by world array input blocked = do
   device ← device_at world.memory at
   Some (done (stood world at (addressed device input blocked) (if blocked then Default else Addressed)) (record no_changes { control = set_by input.device.control }))
 
--- without BSR a SET_ADDRESS goes to the device: one that doesn't answer is a USB Transaction Error
-abbrev pub addressed_if : World → ℕ → Bool → InputContext → Bool → Option (World × Done)
-addressed_if world array answers input blocked =
-    if blocked || answers then addressed_by world array input blocked else Some (refused world TransactionError)
-
-unfoldable pub address_step : World → ℕ → Bool → ℕ → Bool → Option (World × Done)
-address_step world array answers input blocked = do
+unfoldable pub address_step : World → ℕ → ℕ → Bool → Option (World × Done)
+address_step world array input blocked = do
   read ← input_at world.memory input
-  if is_bad_address read then Some (refused world ParameterError) else addressed_if world array answers read blocked
+  if is_bad_address read then Some (refused world ParameterError) else addressed_by world array read blocked
 
 -- Configured where a pipe is enabled
 abbrev pub state_of : DeviceContext → SlotState
@@ -186,17 +181,17 @@ unfoldable pub disable_step : World → SlotState → Option (World × Done)
 disable_step world state = if has_context state then context_disabled world else Some (done (with_slot world free_slot) all_gone)
 
 -- a command on the slot that is given out and in this state
-abbrev pub slot_step : World → ℕ → Bool → SlotCommand → SlotState → Option (World × Done)
-slot_step world array answers Enable state = Some (refused world NoSlotsAvailable)
-slot_step world array answers Disable state = disable_step world state
-slot_step world array answers (Address input blocked) state =
-    if may_address state blocked then address_step world array answers input blocked else Some (refused world ContextStateError)
-slot_step world array answers (Configure input deconfigures) state =
+abbrev pub slot_step : World → ℕ → SlotCommand → SlotState → Option (World × Done)
+slot_step world array Enable state = Some (refused world NoSlotsAvailable)
+slot_step world array Disable state = disable_step world state
+slot_step world array (Address input blocked) state =
+    if may_address state blocked then address_step world array input blocked else Some (refused world ContextStateError)
+slot_step world array (Configure input deconfigures) state =
     if may_configure state then (if deconfigures then deconfigure_step world else configure_step world input)
     else Some (refused world ContextStateError)
-slot_step world array answers (Evaluate input) state =
+slot_step world array (Evaluate input) state =
     if may_evaluate state then evaluate_step world input state else Some (refused world ContextStateError)
-slot_step world array answers Reset state =
+slot_step world array Reset state =
     if may_configure state then reset_step world else Some (refused world ContextStateError)
 
 -- a slot that isn't given out can be enabled, and no more
@@ -208,13 +203,13 @@ free_step world (Configure input deconfigures) = refused world SlotNotEnabled
 free_step world (Evaluate input) = refused world SlotNotEnabled
 free_step world Reset = refused world SlotNotEnabled
 
--- A command on the slot; the array is the one of device context base addresses, and the device answers on the bus or doesn't.
-abbrev pub executed : World → ℕ → Bool → SlotCommand → Option (World × Done)
-executed world array answers command = by_state world.slot.state
+-- A command on the slot; the array is the one of device context base addresses.
+abbrev pub executed : World → ℕ → SlotCommand → Option (World × Done)
+executed world array command = by_state world.slot.state
   where
     by_state : Option SlotState → Option (World × Done)
     by_state None = Some (free_step world command)
-    by_state (Some state) = slot_step world array answers command state
+    by_state (Some state) = slot_step world array command state
 
 -- an endpoint's state, told in the device context
 unfoldable pub told : World → Number → EndpointState → Option World

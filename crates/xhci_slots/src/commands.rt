@@ -3,7 +3,7 @@ ghost use Rattle.std.specs.Prelude.{◌≡◌, true, OnErr, option_map};
 ghost use Rattle.std.specs.Result.{result_ok};
 ghost use Rattle.guest_memory.specs.Bytes.{Memory};
 ghost use Rattle.xhci_slots.specs.contexts.Contexts.{has_device};
-ghost use Rattle.xhci_slots.specs.Slots.{address_step, addressed_by, addressed_if, configure_step, configured_by, deconfigure_step, disable_step, entry_at};
+ghost use Rattle.xhci_slots.specs.Slots.{address_step, addressed_by, configure_step, configured_by, deconfigure_step, disable_step, entry_at};
 ghost use Rattle.xhci_slots.specs.Slots.{context_disabled, evaluate_step, evaluated_by, executed, free_step, reset_step, slot_step, stood, told};
 
 use crate::contexts::{DeviceContext, EndpointState, InputContext, Number, SlotState};
@@ -26,16 +26,15 @@ pub(crate) fn entry_at<M: GuestMemory>(memory: &M, array: u64) -> Result<u64, Ou
 }
 
 impl Slot {
-    /// Executes a command on the slot; `array` is DCBAAP, and `answers` whether the device does on the bus. Refused where memory that the command needs isn't there, and then nothing has
+    /// Executes a command on the slot; `array` is DCBAAP. Refused where memory that the command needs isn't there, and then nothing has
     /// changed.
     pub fn execute<M: GuestMemory>(
         &mut self,
         memory: &mut M,
         array: u64,
-        answers: bool,
         command: SlotCommand,
     ) -> Result<Done, Outside>
-        ensures executed { executed (record { memory = M.contents memory.old; slot = self.old }) array answers command
+        ensures executed { executed (record { memory = M.contents memory.old; slot = self.old }) array command
             ≡ option_map (λ done. (record { memory = M.contents memory.new; slot = self.new }, done)) (result_ok result) }
         ensures outside { OnErr result (M.contents memory.new ≡ M.contents memory.old) }
         ensures as_before { OnErr result (self.new ≡ self.old) }
@@ -43,7 +42,7 @@ impl Slot {
     {
         match self.state {
             None => Ok(self.execute_free(command)),
-            Some(state) => self.execute_in(memory, array, answers, command, state),
+            Some(state) => self.execute_in(memory, array, command, state),
         }
     }
 
@@ -72,11 +71,10 @@ impl Slot {
         &mut self,
         memory: &mut M,
         array: u64,
-        answers: bool,
         command: SlotCommand,
         state: SlotState,
     ) -> Result<Done, Outside>
-        ensures step { slot_step (record { memory = M.contents memory.old; slot = self.old }) array answers command state
+        ensures step { slot_step (record { memory = M.contents memory.old; slot = self.old }) array command state
             ≡ option_map (λ done. (record { memory = M.contents memory.new; slot = self.new }, done)) (result_ok result) }
         ensures outside { OnErr result (M.contents memory.new ≡ M.contents memory.old) }
         ensures as_before { OnErr result (self.new ≡ self.old) }
@@ -86,7 +84,7 @@ impl Slot {
             SlotCommand::Enable => Ok(refused(Code::NoSlotsAvailable)),
             SlotCommand::Disable => self.disable(memory, state),
             SlotCommand::Address { input, blocked } if may_address(state, blocked) => {
-                self.address(memory, array, answers, input, blocked)
+                self.address(memory, array, input, blocked)
             }
             SlotCommand::Configure {
                 input,
@@ -133,11 +131,10 @@ impl Slot {
         &mut self,
         memory: &mut M,
         array: u64,
-        answers: bool,
         input: u64,
         blocked: bool,
     ) -> Result<Done, Outside>
-        ensures step { address_step (record { memory = M.contents memory.old; slot = self.old }) array answers input blocked
+        ensures step { address_step (record { memory = M.contents memory.old; slot = self.old }) array input blocked
             ≡ option_map (λ done. (record { memory = M.contents memory.new; slot = self.new }, done)) (result_ok result) }
         ensures outside { OnErr result (M.contents memory.new ≡ M.contents memory.old) }
         ensures as_before { OnErr result (self.new ≡ self.old) }
@@ -147,29 +144,7 @@ impl Slot {
         if input.is_bad_address() {
             return Ok(refused(Code::ParameterError));
         }
-        self.address_if(memory, array, answers, &input, blocked)
-    }
-
-    /// Without BSR a SET_ADDRESS goes to the device.
-    fn address_if<M: GuestMemory>(
-        &mut self,
-        memory: &mut M,
-        array: u64,
-        answers: bool,
-        input: &InputContext,
-        blocked: bool,
-    ) -> Result<Done, Outside>
-        ensures step { addressed_if (record { memory = M.contents memory.old; slot = self.old }) array answers input.now blocked
-            ≡ option_map (λ done. (record { memory = M.contents memory.new; slot = self.new }, done)) (result_ok result) }
-        ensures outside { OnErr result (M.contents memory.new ≡ M.contents memory.old) }
-        ensures as_before { OnErr result (self.new ≡ self.old) }
-        ensures same_loan { M.loan memory.new ≡ M.loan memory.old }
-    {
-        if blocked || answers {
-            self.address_by(memory, array, input, blocked)
-        } else {
-            Ok(refused(Code::TransactionError))
-        }
+        self.address_by(memory, array, &input, blocked)
     }
 
     #[tactic(auto, unfolding(crate::specs::Slots::addressed_by))]

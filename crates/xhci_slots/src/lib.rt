@@ -11,8 +11,7 @@
 //! 1. Enable Slot gives it out; a second one ends with No Slots Available. A command on a slot that isn't given out ends with Slot Not
 //!    Enabled, one that the slot's state doesn't allow with Context State Error, and a bad input context with Parameter Error. Such a
 //!    command changes nothing.
-//! 2. Address Device finds the device context by the device context base address array. Each later command goes by that address. Without
-//!    BSR, of a device that doesn't answer, it ends with USB Transaction Error and changes nothing (4.6.5).
+//! 2. Address Device finds the device context by the device context base address array. Each later command goes by that address.
 //! 3. Contexts are read whole, and written back whole once all is known. Memory that isn't there ends the command before it changes
 //!    anything ([`Outside`]); the controller then has a host system error.
 //!
@@ -60,7 +59,6 @@ pub enum SlotCommand {
 #[derive(Clone, Copy, Debug, PartialEq, Eq)]
 pub enum Code {
     Success,
-    TransactionError,
     NoSlotsAvailable,
     SlotNotEnabled,
     ParameterError,

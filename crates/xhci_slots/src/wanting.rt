@@ -1,5 +1,5 @@
 //! What a command on the slot lacks, for a caller who copies in what is asked for.
-ghost use Rattle.std.specs.Prelude.{◌≡◌, Bool, None, is_some, true, ℕ};
+ghost use Rattle.std.specs.Prelude.{◌≡◌, None, is_some, true, ℕ};
 ghost use Rattle.guest_memory.specs.Bytes.{IsWithinAddresses};
 ghost use Rattle.guest_memory.specs.rings.Wanted.{LacksIt};
 ghost use Rattle.xhci_slots.specs.declared.contexts.EndpointState.{EndpointState};
@@ -174,8 +174,7 @@ impl Slot {
 
 /// Law: a command that lacks nothing isn't refused for want of memory, and neither is the telling of a state.
 pub fn what_lacks_nothing_is_executed()
-    ensures of_command { (w : World) (array : ℕ) (answers : Bool) (command : SlotCommand) → slot_wanted w array command ≡ None
-        → is_some (executed w array answers command) ≡ true }
+    ensures of_command { (w : World) (array : ℕ) (command : SlotCommand) → slot_wanted w array command ≡ None → is_some (executed w array command) ≡ true }
     ensures of_tell { (w : World) (number : Number) (state : EndpointState) → tell_wanted w ≡ None → is_some (told w number state) ≡ true }
 {}
 

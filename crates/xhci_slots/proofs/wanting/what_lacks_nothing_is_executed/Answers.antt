@@ -3,6 +3,6 @@ use Rattle.xhci_slots.proofs.wanting.what_lacks_nothing_is_executed.Goals as goa
 
 pub returns : goal.returns
 returns c = record {
-  of_command = λ w array answers command none. command_there w array answers command none;
+  of_command = λ w array command none. command_there w array command none;
   of_tell = λ w number state none. tell_there w number state none;
 }

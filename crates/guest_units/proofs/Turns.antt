@@ -15,7 +15,7 @@ use Rattle.units_apart.specs.Calls.{Call, Receive, Give, Take, Send, EndTasks, c
 use Rattle.units_apart.specs.Runs.{after}
 use Rattle.xhci_control.specs.declared.pipe.Served.{Served}
 use Rattle.xhci_control.specs.Steps.{ControlWorld, stepped}
-use Rattle.xhci_machine.specs.Rounds.{Turning, command_of, command_pipe_stepped, control_stepped, control_world, data_of, stray_stepped, noted_in, pipes_turned, restarted, ring_on, served, status_of, then_commands, then_control, then_stray, then_pipes, then_port, transfers_world, turned, with_control, with_stray, with_transfers}
+use Rattle.xhci_machine.specs.Rounds.{Turning, command_of, command_pipe_stepped, control_stepped, control_world, data_due, data_of, stray_stepped, noted_in, pipes_turned, restarted, ring_on, served, status_due, status_of, then_commands, then_control, then_stray, then_pipes, then_port, transfers_world, turned, with_control, with_stray, with_transfers}
 use Rattle.xhci_machine.specs.Bus.{fault_in, is_silent, transaction_error}
 use Rattle.xhci_machine.specs.Contexts.{is_due}
 use Rattle.xhci_machine.specs.Steps.{commands_stepped}
@@ -52,7 +52,7 @@ joined start middle end first rest one two = two ∙ ap (λ m. after called m re
 
 -- STEPS
 pub data_made : (w : World) (tag : ℕ) → (calls : List Call) × Makes (IsDataOn tag) (tasks_of w) (tasks_of (data_of w tag).0) calls
-unfolding data_of
+unfolding data_of data_due
 data_made w tag =
     let start : Machine = tasks_of w in
     let moves : Moves tasks_kind tag (Has start) (Made (IsDataOn tag) start) = record {
@@ -67,7 +67,7 @@ data_made w tag =
     (data_kept tasks_kind tag (Has start) (Made (IsDataOn tag) start) moves (transfers_world w) refl)
 
 pub status_made : (w : World) (tag : ℕ) → (calls : List Call) × Makes (IsAnswerOn tag) (tasks_of w) (tasks_of (status_of w tag).0) calls
-unfolding status_of
+unfolding status_of status_due
 status_made w tag =
     let start : Machine = tasks_of w in
     let sends : Sends tasks_kind tag (Has start) (Made (IsAnswerOn tag) start) = record {

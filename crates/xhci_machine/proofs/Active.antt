@@ -23,7 +23,7 @@ use Rattle.xhci_machine.specs.declared.work.Worked.{Worked}
 use Rattle.xhci_machine.specs.Bus.{fault_in, is_silent, transaction_error}
 use Rattle.xhci_machine.specs.Contexts.{is_due}
 use Rattle.xhci_machine.specs.Laws.{IsFailed, IsLeftIdle, IsTaskIdle, come_to}
-use Rattle.xhci_machine.specs.Rounds.{Turning, command_of, command_pipe_stepped, control_stepped, control_world, data_of, front_turned, is_stray, stray_of, stray_stepped, noted_in, pipes_turned, port_in, restarted, ring_on, served, settled_in, status_of, then_commands, then_control, then_stray, then_pipes, then_port, transfers_world, turned, with_control, with_stray, with_transfers}
+use Rattle.xhci_machine.specs.Rounds.{Turning, command_of, command_pipe_stepped, control_stepped, control_world, data_due, data_of, front_turned, is_stray, stray_of, stray_stepped, noted_in, pipes_turned, port_in, restarted, ring_on, served, settled_in, status_due, status_of, then_commands, then_control, then_stray, then_pipes, then_port, transfers_world, turned, with_control, with_stray, with_transfers}
 use Rattle.xhci_machine.specs.Steps.{commands_stepped}
 use Rattle.xhci_machine.specs.Turns.{World, detected, full_posted, has_full, interrupted, noted, port_posted, port_turned, settled, tells_port, told_of_port}
 use Rattle.xhci_machine.specs.Worked.{IsOver, RoundsTurned, RoundsWorked, busy_turned, dropped_at, gone_dropped, is_busy, is_gone, tag_by, tag_turned, tags_turned, then_status, then_tag, turned_if}
@@ -126,7 +126,7 @@ module _ (P : GuestTasks → Type 0) (kept : KeptByAll P) where
       (command_pipe_kept tasks_kind P P (transfers_world w) receives p))
 
   data_of_kept : (w : World) (tag : ℕ) → Holds P w → Holds P (data_of w tag).0
-  unfolding data_of
+  unfolding data_of data_due
   data_of_kept w tag p =
       let moves : Moves tasks_kind tag P P = record {
         stays = λ device p. p;
@@ -138,7 +138,7 @@ module _ (P : GuestTasks → Type 0) (kept : KeptByAll P) where
       (data_kept tasks_kind tag P P moves (transfers_world w) p)
 
   status_of_kept : (w : World) (tag : ℕ) → Holds P w → Holds P (status_of w tag).0
-  unfolding status_of
+  unfolding status_of status_due
   status_of_kept w tag p =
       let sends : Sends tasks_kind tag P P = record { stays = λ device p. p; sent = λ device p. kept.sent device tag p } in
       let step = with_transfers w (status_stepped tasks_kind (transfers_world w) tag) in

@@ -49,7 +49,7 @@ of_each Q w due step idle lacks works =
 
 -- the same of a tag, which has no step either where nothing serves the pipes
 pub of_tags : (Q : World × Option Acted → Type 0) (w : World) (due : Bool) (step : World × Option Acted) → Q (w, Some Idle) → Q (w, None) → Q step
-    → Q (of_tag w due step)
+    → Q (of_tag w (of_endpoint w due step))
 of_tags Q w due step idle lacks works =
     either Q (is_silent w.machine) (w, Some Idle) (of_endpoint w due step) idle (of_each Q w due step idle lacks works)
 

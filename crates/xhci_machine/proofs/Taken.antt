@@ -71,7 +71,7 @@ of_there w due step there is = by_port (is_asleep w.machine)
 
 -- and of a tag, which has none while nothing serves the pipes
 pub of_tag_there : (w : World) (due : Bool) (step : World × Option Acted) → (due ≡ true → context_wanted w.memory w.machine.slot ≡ None)
-    → is_some step.1 ≡ true → is_some (of_tag w due step).1 ≡ true
+    → is_some step.1 ≡ true → is_some (of_tag w (of_endpoint w due step)).1 ≡ true
 of_tag_there w due step there is = by_bus (is_silent w.machine)
   where
     by_bus : (silent : Bool) → is_some (if silent then (w, Some Idle) else of_endpoint w due step).1 ≡ true

@@ -21,7 +21,7 @@ use Rattle.xhci_control.specs.declared.pipe.Served.{Served}
 use Rattle.xhci_control.specs.Steps.{ControlWorld, stepped}
 use Rattle.xhci_control.specs.Wanted.{control_wanted}
 use Rattle.xhci_machine.specs.Bus.{fault_in, is_silent, transaction_error}
-use Rattle.xhci_machine.specs.Rounds.{command_pipe_stepped, control_stepped, control_world, data_of, has_rung, is_stray, ring_on, served, stall_error, status_of, stray_stepped, transfers_world, with_stray, with_transfers}
+use Rattle.xhci_machine.specs.Rounds.{command_pipe_stepped, control_stepped, control_world, data_due, data_of, has_rung, is_stray, ring_on, served, stall_error, status_due, status_of, stray_stepped, transfers_world, with_stray, with_transfers}
 use Rattle.xhci_machine.specs.Turns.{World}
 use Rattle.xhci_machine.specs.Contexts.{context_wanted, is_due}
 use Rattle.xhci_machine.specs.Wanted.{acts_on_data, acts_on_status, command_pipe_looked, command_pipe_wanted, control_looked, lacks_nothing, needs, stray_looked, stray_wanted_of}
@@ -141,7 +141,7 @@ due_last false false false wanted none due = absurd (false≢true due)
 
 pub data_taken : ((w : TransfersWorld GuestTasks) (tag : ℕ) → data_wanted tasks_kind w tag ≡ None → is_some (data_stepped tasks_kind w tag).1 ≡ true)
     → (w : World) (tag : ℕ) → lacks_nothing (tag_looked w.memory w.machine w.events tag) ≡ true → is_some (data_of w tag).1 ≡ true
-unfolding tag_looked data_of
+unfolding tag_looked data_of data_due
 data_taken law w tag is =
     let parts = needs_nothing (tag_context_wanted w.memory w.machine tag) _ is in
     let data_in : Bool = is_due (ring_on w.machine DataIn tag) in
@@ -153,7 +153,7 @@ data_taken law w tag is =
 pub status_taken : ((w : TransfersWorld GuestTasks) (tag : ℕ) → status_wanted tasks_kind w tag ≡ None → is_some (status_stepped tasks_kind w tag).1 ≡ true)
     → (w : World) (tag : ℕ) → lacks_nothing (tag_looked w.memory w.machine w.events tag) ≡ true → acts_on_data w.memory w.machine tag ≡ false
     → is_some (status_of w tag).1 ≡ true
-unfolding tag_looked status_of
+unfolding tag_looked status_of status_due
 status_taken law w tag is idle =
     let parts = needs_nothing (tag_context_wanted w.memory w.machine tag) _ is in
     let last = (needs_nothing (data_wanted tasks_kind (transfers_world w) tag) _ parts.1).1 in

@@ -48,5 +48,5 @@ abbrev pub of_endpoint : World → Bool → World × Option Acted → World × O
 of_endpoint w due step = if is_asleep w.machine then (w, Some Idle) else in_context w due step
 
 -- a step of a tag: none is due while nothing serves the pipes
-abbrev pub of_tag : World → Bool → World × Option Acted → World × Option Acted
-of_tag w due step = if is_silent w.machine then (w, Some Idle) else of_endpoint w due step
+abbrev pub of_tag : World → World × Option Acted → World × Option Acted
+of_tag w step = if is_silent w.machine then (w, Some Idle) else step

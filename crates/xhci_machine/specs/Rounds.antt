@@ -124,14 +124,21 @@ command_pipe_stepped w = of_endpoint w (is_due w.machine.transfers.command) (com
 abbrev pub ring_on : Machine → StreamPipe → ℕ → Consumer
 ring_on m name tag = loaded (pipe_of m.transfers name) tag
 
-unfoldable pub data_of : World → ℕ → World × Option Acted
-data_of w tag =
-    of_tag w (is_due (ring_on w.machine DataIn tag) || is_due (ring_on w.machine DataOut tag))
+-- a tag's data and its status, where something serves the pipes
+unfoldable pub data_due : World → ℕ → World × Option Acted
+data_due w tag =
+    of_endpoint w (is_due (ring_on w.machine DataIn tag) || is_due (ring_on w.machine DataOut tag))
     (with_transfers w (data_stepped tasks_kind (transfers_world w) tag))
 
+unfoldable pub data_of : World → ℕ → World × Option Acted
+data_of w tag = of_tag w (data_due w tag)
+
+unfoldable pub status_due : World → ℕ → World × Option Acted
+status_due w tag =
+    of_endpoint w (is_due (ring_on w.machine Status tag)) (with_transfers w (status_stepped tasks_kind (transfers_world w) tag))
+
 unfoldable pub status_of : World → ℕ → World × Option Acted
-status_of w tag =
-    of_tag w (is_due (ring_on w.machine Status tag)) (with_transfers w (status_stepped tasks_kind (transfers_world w) tag))
+status_of w tag = of_tag w (status_due w tag)
 
 -- A ROUND, UP TO THE TAGS: each turn comes while memory is there
 

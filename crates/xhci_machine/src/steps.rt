@@ -6,7 +6,7 @@ ghost use Rattle.std.specs.Result.{result_ok};
 ghost use Rattle.xhci_machine.specs.Contexts.{is_asleep, lacks_context};
 ghost use Rattle.xhci_machine.specs.Bus.{fault_in, is_cut, is_silent};
 ghost use Rattle.xhci_machine.specs.Ring.{is_addressable, is_unanswered};
-ghost use Rattle.xhci_machine.specs.Rounds.{command_pipe_stepped, control_stepped, data_of, is_stray, stray_stepped, status_of};
+ghost use Rattle.xhci_machine.specs.Rounds.{command_pipe_stepped, control_stepped, data_due, data_of, is_stray, status_due, status_of, stray_stepped};
 
 use crate::Machine;
 use crate::wanting::is_due;
@@ -204,7 +204,25 @@ impl Machine {
             ≡ data_of (record { memory = M.contents memory.old; events = events.old; machine = self.old }) tag }
         ensures same_loan { M.loan memory.new ≡ M.loan memory.old }
     {
-        if self.is_silent() || self.is_asleep() {
+        if self.is_silent() {
+            return Ok(Acted::Idle);
+        }
+        self.step_data_due(memory, events, tag)
+    }
+
+    #[tactic(auto, unfolding(crate::specs::Rounds::data_due))]
+    fn step_data_due<M: GuestMemory>(
+        &mut self,
+        memory: &mut M,
+        events: &mut EventRing,
+        tag: u16,
+    ) -> Result<Acted, Outside>
+        requires { tag < 241 }
+        ensures stepped { (record { memory = M.contents memory.new; events = events.new; machine = self.new }, result_ok result)
+            ≡ data_due (record { memory = M.contents memory.old; events = events.old; machine = self.old }) tag }
+        ensures same_loan { M.loan memory.new ≡ M.loan memory.old }
+    {
+        if self.is_asleep() {
             return Ok(Acted::Idle);
         }
         let due = is_due(&self.transfers.pipe(StreamPipe::DataIn).consumer(tag))
@@ -226,7 +244,25 @@ impl Machine {
             ≡ status_of (record { memory = M.contents memory.old; events = events.old; machine = self.old }) tag }
         ensures same_loan { M.loan memory.new ≡ M.loan memory.old }
     {
-        if self.is_silent() || self.is_asleep() {
+        if self.is_silent() {
+            return Ok(Acted::Idle);
+        }
+        self.step_status_due(memory, events, tag)
+    }
+
+    #[tactic(auto, unfolding(crate::specs::Rounds::status_due))]
+    fn step_status_due<M: GuestMemory>(
+        &mut self,
+        memory: &mut M,
+        events: &mut EventRing,
+        tag: u16,
+    ) -> Result<Acted, Outside>
+        requires { tag < 241 }
+        ensures stepped { (record { memory = M.contents memory.new; events = events.new; machine = self.new }, result_ok result)
+            ≡ status_due (record { memory = M.contents memory.old; events = events.old; machine = self.old }) tag }
+        ensures same_loan { M.loan memory.new ≡ M.loan memory.old }
+    {
+        if self.is_asleep() {
             return Ok(Acted::Idle);
         }
         let due = is_due(&self.transfers.pipe(StreamPipe::Status).consumer(tag));

@@ -2,6 +2,7 @@
 ghost use Rattle.std.specs.Prelude.{◌≡◌, ◌+◌, ◌≤◌, ◌==◌, ◌++◌, length};
 ghost use Rattle.arrayvec.specs.ArrayVec.{array_vec_len};
 ghost use Rattle.std.specs.List.{suffix_len};
+ghost use Rattle.host_commands.specs.Fields.{digit, eight_digits};
 ghost use Rattle.usb_disk.specs.Strings.{in_utf16, string_of, usual_strings};
 
 use crate::{MOST_ANSWER_BYTES, UsbStrings};
@@ -35,6 +36,29 @@ pub(crate) fn string_of(text: &[u8]) -> ArrayVec<u8, MOST_ANSWER_BYTES>
     bytes.push(STRING_TYPE);
     push_utf16(&text[..characters], &mut bytes);
     bytes
+}
+
+/// Eight decimal digits.
+pub(crate) fn eight_digits(number: u32) -> [u8; 8]
+    ensures { result ≡ eight_digits number }
+{
+    [
+        digit(number / 10_000_000),
+        digit(number / 1_000_000),
+        digit(number / 100_000),
+        digit(number / 10_000),
+        digit(number / 1_000),
+        digit(number / 100),
+        digit(number / 10),
+        digit(number),
+    ]
+}
+
+/// The last digit of a number.
+fn digit(number: u32) -> u8
+    ensures { result ≡ digit number }
+{
+    b'0' + (number % 10) as u8
 }
 
 /// How many bytes of a text stand before the spaces at its end.

@@ -9,6 +9,9 @@
 //! It stands on `host_commands` and `uas_tasks`, and for that proof on `c_common`.
 #![tactic(auto)]
 
+mod disks;
+mod making;
+
 ghost use Rattle.std.specs.Prelude.{◌≡◌, ◌<◌, ◌≤◌, IfOk, IfSome, None, length, map, true};
 ghost use Rattle.std.specs.List.{list_all};
 ghost use Rattle.uas_profile.specs.declared.TheConstants.{MAX_UNITS};
@@ -16,9 +19,11 @@ ghost use Rattle.c_tasks.specs.Making.{block_length_of, has_block_bytes, has_blo
 ghost use Rattle.c_tasks.specs.Making.{set_of, shape_of};
 
 use c_common::faults::{BLOCKS, TASKS_BLOCK_BYTES, TASKS_CHUNK, TASKS_SERIAL, TASKS_SET, UNITS};
+pub use disks::{UasDisk, disk_asked};
 use host_commands::{
     BlockLength, CommandSet, LogicalUnitShape, MOST_BLOCKS, SERIAL_NUMBERS, SerialNumber,
 };
+pub use making::{disks_fault, make_of_disks};
 use std::alloc::{AllocError, Global};
 use uas_profile::MAX_UNITS;
 use uas_tasks::{MOST_CHUNK_BLOCKS, Tasks};

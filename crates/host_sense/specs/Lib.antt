@@ -1,0 +1,3 @@
+-- Sense data that say where.
+pub mod Formats
+pub mod Laws

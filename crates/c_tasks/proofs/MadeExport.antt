@@ -54,7 +54,7 @@ use Rattle.c_common.proofs.HandedOut.{Made, as_it_was, handed, made_laws, one_va
 use Rattle.c_tasks.specs.Disks.{disks_fault}
 use Rattle.c_tasks.specs.Making.{making_fault, tells}
 use Rattle.c_tasks.specs.contracts.UasTasksUnit.{the_row as unit_row}
-use Rattle.c_tasks.specs.contracts.disks.UasDisk.{the_row as disk_row}
+use Rattle.c_disks.specs.contracts.record.UasDisk.{the_row as disk_row}
 
 -- a record of a logical unit as C has it, and the first fault of a list of them, of the set of this number and most blocks, of this chunk
 pub record Asked : Type 1 where

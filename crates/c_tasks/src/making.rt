@@ -1,12 +1,14 @@
 //! A device of logical units that say what there is to tell of them.
 ghost use Rattle.std.specs.Prelude.{◌≡◌, ◌+◌, ◌<◌, ◌≤◌, IfOk, IfSome, None, OnOk, Result, length, true};
 ghost use Rattle.uas_profile.specs.declared.TheConstants.{MAX_UNITS};
-ghost use Rattle.c_tasks.specs.Disks.{disk_set_of, disk_shapes, disks_fault, fault_or, is_disk_set, made_of_disks, prefixed, shapes_fault};
+ghost use Rattle.c_tasks.specs.Disks.{disk_set_of, disk_shapes, disks_fault, fault_or, is_disk_set, made_of_disks, prefixed, record_fault, shapes_fault};
 ghost use Rattle.c_tasks.specs.Making.{is_chunk};
 
-use crate::disks::{UasDisk, disk_asked};
 use crate::{command_set, is_chunk, is_set};
-use c_common::faults::{TASKS_CHUNK, TASKS_SET, UNITS};
+use c_common::faults::{
+    BLOCKS, TASKS_BLOCK_BYTES, TASKS_CHUNK, TASKS_DISK, TASKS_SET, TASKS_SIZE, UNITS,
+};
+use c_disks::{RecordFault, UasDisk, disk_asked};
 use host_commands::{CommandSet, LogicalUnitShape};
 use std::alloc::{AllocError, Global};
 use uas_profile::MAX_UNITS;
@@ -14,6 +16,19 @@ use uas_tasks::Tasks;
 
 /// The number of the disk set.
 const DISK_SET: u8 = 2;
+
+/// The number of a fault of a record.
+fn record_fault(fault: RecordFault) -> u8
+    ensures number { result ≡ record_fault fault }
+    ensures not_0 { 0 < result }
+{
+    match fault {
+        RecordFault::Size => TASKS_SIZE,
+        RecordFault::Blocks => BLOCKS,
+        RecordFault::BlockBytes => TASKS_BLOCK_BYTES,
+        RecordFault::Field => TASKS_DISK,
+    }
+}
 
 /// The first fault of logical units, from a number on.
 #[tactic(auto, unfolding(crate::specs::Disks::disk_shapes))]
@@ -27,7 +42,7 @@ fn shapes_fault(number: u8, disks: &[UasDisk]) -> Option<u8>
     };
     match disk_asked(number, first) {
         Ok(_) => shapes_fault(number + 1, rest),
-        Err(fault) => Some(fault),
+        Err(fault) => Some(record_fault(fault)),
     }
 }
 

@@ -1,7 +1,7 @@
 -- What a controller that was just made is.
 use Rattle.std.specs.Prelude.{◌≡◌, ℕ, List}
 use Rattle.c_tasks.specs.declared.UasTasksUnit.{UasTasksUnit}
-use Rattle.c_tasks.specs.declared.disks.UasDisk.{UasDisk}
+use Rattle.c_disks.specs.declared.record.UasDisk.{UasDisk}
 use Rattle.c_tasks.specs.Disks.{made_of_disks}
 use Rattle.c_tasks.specs.Making.{made_tasks}
 use Rattle.guest_tasks.specs.Active.{IsIdle}

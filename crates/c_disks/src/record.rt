@@ -1,14 +1,13 @@
 //! A logical unit of which C says what there is to tell, in a record of 152 bytes.
-ghost use Rattle.std.specs.Prelude.{◌≡◌, ◌<◌, IfErr, Some, true};
-ghost use Rattle.c_tasks.specs.Disks.{block_bytes_of, cut, cut_asked, disk_asked, disk_has_block_bytes, disk_has_blocks, disk_of, eui_asked, is_zero};
-ghost use Rattle.c_tasks.specs.Disks.{kept_bytes, kept_number, most_of, naa_asked, named_shape, names_of, product_of, revision_of, rotation_asked};
-ghost use Rattle.c_tasks.specs.Disks.{serial_asked, shape_said, text_of, uuid_asked, vendor_of};
+ghost use Rattle.std.specs.Prelude.{◌≡◌, Some, true};
+ghost use Rattle.c_disks.specs.Records.{block_bytes_of, block_length_of, cut, cut_asked, disk_asked, disk_has_block_bytes, disk_has_blocks, disk_of, eui_asked, is_zero};
+ghost use Rattle.c_disks.specs.Records.{kept_bytes, kept_number, most_of, naa_asked, named_shape, names_of, product_of, revision_of, rotation_asked};
+ghost use Rattle.c_disks.specs.Records.{serial_asked, shape_said, text_of, uuid_asked, vendor_of};
 
-use crate::block_length;
-use c_common::faults::{BLOCKS, TASKS_BLOCK_BYTES, TASKS_DISK, TASKS_SIZE};
+use crate::RecordFault;
 use host_commands::{
-    DiskUnit, Eui, FormFactor, LogicalUnitShape, MOST_BLOCKS, Naa, Product, Revision, Rotation,
-    SerialNumber, SerialText, TransferLength, UnitNames, Uuid, Vendor,
+    BlockLength, DiskUnit, Eui, FormFactor, LogicalUnitShape, MOST_BLOCKS, Naa, Product, Revision,
+    Rotation, SerialNumber, SerialText, TransferLength, UnitNames, Uuid, Vendor,
 };
 
 /// A logical unit as C has it: its first `size` bytes count, 16 to 152, and a field that ends behind them is 0. A field of zeros is as usual.
@@ -257,6 +256,16 @@ fn has_block_bytes(disk: &UasDisk) -> bool
     bytes == 512 || bytes == 4096
 }
 
+fn block_length(bytes: u32) -> BlockLength
+    ensures { result ≡ block_length_of bytes }
+{
+    if bytes == 4096 {
+        BlockLength::Bytes4096
+    } else {
+        BlockLength::Bytes512
+    }
+}
+
 /// The logical unit of a number with these names.
 fn named_shape(number: u8, disk: &UasDisk, names: &UnitNames) -> Option<LogicalUnitShape>
     requires { disk_has_blocks disk.now ≡ true }
@@ -287,28 +296,27 @@ fn shape_said(number: u8, disk: &UasDisk) -> Option<LogicalUnitShape>
     shape.as_disk(unit).ok()
 }
 
-fn cut_asked(number: u8, disk: &UasDisk) -> Result<LogicalUnitShape, u8>
+fn cut_asked(number: u8, disk: &UasDisk) -> Result<LogicalUnitShape, RecordFault>
     ensures { result ≡ cut_asked number disk.now }
 {
     if !has_blocks(disk) {
-        Err(BLOCKS)
+        Err(RecordFault::Blocks)
     } else if !has_block_bytes(disk) {
-        Err(TASKS_BLOCK_BYTES)
+        Err(RecordFault::BlockBytes)
     } else {
         match shape_said(number, disk) {
             Some(shape) => Ok(shape),
-            None => Err(TASKS_DISK),
+            None => Err(RecordFault::Field),
         }
     }
 }
 
-/// The logical unit of a number, or the number of its first fault.
-pub fn disk_asked(number: u8, disk: &UasDisk) -> Result<LogicalUnitShape, u8>
-    ensures shape { result ≡ disk_asked number disk.now }
-    ensures not_0 { IfErr result (λ fault. 0 < fault) }
+/// The logical unit of a number, or its first fault.
+pub fn disk_asked(number: u8, disk: &UasDisk) -> Result<LogicalUnitShape, RecordFault>
+    ensures { result ≡ disk_asked number disk.now }
 {
     if disk.size < 16 || disk.size > 152 {
-        return Err(TASKS_SIZE);
+        return Err(RecordFault::Size);
     }
     cut_asked(number, &cut(disk))
 }

@@ -1,4 +1,5 @@
-/* A driver's side of one command, against what stands behind a driver: information units and TRBs go in, steps are taken, events come out.
+/* A driver's side of one command to the first of 31 logical units, and to the last, against what stands behind a driver: information units
+ * and TRBs go in, steps are taken, events come out.
  *
  *   cc -Iinclude examples/controller.c $(bindings/archive) -o controller && ./controller */
 #include "uas.h"
@@ -27,10 +28,10 @@ static bool step(uas_controller *controller, uint8_t step)
     return true;
 }
 
-/* READ CAPACITY(10) as a driver does it, whose 8 bytes come back in `data`; whether all of it was done. */
-static bool read_capacity(uas_controller *controller, uint8_t data[8])
+/* READ CAPACITY(10) of a logical unit as a driver does it, whose 8 bytes come back in `data`; whether all of it was done. */
+static bool read_capacity(uas_controller *controller, uint8_t number, uint8_t data[8])
 {
-    const struct uas_unit unit = { .id = UAS_UNIT_COMMAND, .tag = TAG, .cdb = { UAS_READ_CAPACITY_10 } };
+    const struct uas_unit unit = { .id = UAS_UNIT_COMMAND, .tag = TAG, .lun = { 0, number }, .cdb = { UAS_READ_CAPACITY_10 } };
     uint8_t bytes[UAS_MOST_UNIT_BYTES];
     size_t length;
     uint32_t lent;
@@ -56,16 +57,21 @@ static void print(const char *name, const uint8_t *bytes, size_t length)
 
 int main(void)
 {
-    const uint32_t blocks = 100;
+    static const uint8_t numbers[] = { 0, UAS_MOST_UNITS - 1 };
+    uint32_t blocks[UAS_MOST_UNITS];
     uint8_t data[8] = { 0 }, unit[16];
     uas_controller *controller;
-    if (uas_controller_new(&blocks, 1, &controller) != 0)
+    for (uint32_t i = 0; i < UAS_MOST_UNITS; i++)
+        blocks[i] = 100 + i;
+    if (uas_controller_new(blocks, UAS_MOST_UNITS, &controller) != 0)
         return 1;
-    if (!read_capacity(controller, data) ||
-        uas_controller_read(controller, uas_buffer_address(UAS_BUFFER_STATUS, TAG), unit, sizeof unit) != 0)
-        return 1;
-    print("data", data, sizeof data);
-    print("answer", unit, sizeof unit);
+    for (size_t i = 0; i < sizeof numbers; i++) {
+        if (!read_capacity(controller, numbers[i], data) ||
+            uas_controller_read(controller, uas_buffer_address(UAS_BUFFER_STATUS, TAG), unit, sizeof unit) != 0)
+            return 1;
+        print("data", data, sizeof data);
+        print("answer", unit, sizeof unit);
+    }
     /* A TRB whose buffer isn't there, as nothing is lent any more. */
     if (!put(controller, UAS_RING_DATA_IN, TAG, UAS_BUFFER_DATA, 8) || !step(controller, UAS_STEP_DATA))
         return 1;

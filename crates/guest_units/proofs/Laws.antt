@@ -3,7 +3,7 @@ use Rattle.std.proofs.Common.{◌≡◌, ℕ, ◌+◌, ◌%◌, ◌^◌, ◌/◌
 use Rattle.std.specs.Prelude.{nat_le, ◌||◌}
 use Rattle.std.specs.List.{AllByRecursion, filter}
 use Rattle.uas_tasks.specs.Machine.{Machine as Tasks}
-use Rattle.units_apart.specs.Apart.{Alike, IsOwned, KeepsTo, is_of}
+use Rattle.units_apart.specs.Apart.{Alike, IsOwned, KeepsTo, Owner, is_of}
 use Rattle.units_apart.specs.Calls.{Call, PowerOn, called}
 use Rattle.units_apart.specs.Runs.{after}
 use Rattle.units_apart.proofs.Runs.{IsGood, stays_good, units_apart}
@@ -76,14 +76,14 @@ plugs_are_resets m true = ([], record { one = tt {0}; is = refl })
 plugs_are_resets m false = (PowerOn ∷ [], record { one = tt {0}; is = refl })
 
 -- LOGICAL UNITS
-good_after : (owner : ℕ → ℕ) (many : ℕ) (start : Tasks) (calls : List Call) → IsGood owner many start → AllByRecursion (KeepsTo owner many) calls
+good_after : (owner : Owner) (many : ℕ) (start : Tasks) (calls : List Call) → IsGood owner many start → AllByRecursion (KeepsTo owner many) calls
     → IsGood owner many (after called start calls)
 good_after owner many start [] good keeps = good
 good_after owner many start (call ∷ calls) good keeps =
     good_after owner many (called start call) calls (stays_good owner many start call good keeps.0) keeps.1
 
 pub units_stay_apart : UnitsStayApart
-units_stay_apart owner unit budget w now worked owned rounds =
+units_stay_apart owner user budget w now worked owned rounds =
     let made = work_made budget w now worked rounds in
     let start : Tasks = tasks_of w in (
       made.0,
@@ -92,7 +92,7 @@ units_stay_apart owner unit budget w now worked owned rounds =
           let good : IsGood owner (length start.units) (after called start made.0) =
           good_after owner (length start.units) start made.0 (record { owned = owned; units = refl }) keeps in (
             subst (IsOwned owner) (sym made.2) good.owned,
-            subst (λ m. Alike owner unit m (after called start (filter (is_of owner unit) made.0))) (sym made.2)
-                (units_apart owner unit start made.0 owned keeps).1,
+            subst (λ m. Alike owner user m (after called start (filter (is_of owner user) made.0))) (sym made.2)
+                (units_apart owner user start made.0 owned keeps).1,
           ),
     )

@@ -1,7 +1,7 @@
 -- The laws: the whole controller changes its device by calls on it alone, so the logical units behind it are apart.
 use Rattle.std.specs.Prelude.{◌≡◌, ℕ, Bool, List, length}
 use Rattle.std.specs.List.{AllByRecursion, filter}
-use Rattle.units_apart.specs.Apart.{Alike, IsOwned, KeepsTo, is_of}
+use Rattle.units_apart.specs.Apart.{Alike, IsOwned, KeepsTo, Owner, is_of}
 use Rattle.units_apart.specs.Calls.{Call, called}
 use Rattle.units_apart.specs.Runs.{after}
 use Rattle.xhci_registers.specs.declared.Width.{Width}
@@ -30,11 +30,11 @@ abbrev pub PlugsAreResets : Type 0
 PlugsAreResets =
     (m : Machine) (is_in : Bool) → (calls : List Call) × Makes IsPowerOn m.device.tasks (plugged_in m is_in).device.tasks calls
 
--- LOGICAL UNITS. Where each information unit of `work` keeps to the owner, the own part of a logical unit ends as it would with the calls of
--- its own tags alone, and the device stays owned. So what is written to memory for others, and when, makes no difference to it.
+-- LOGICAL UNITS. Where each information unit of `work` keeps to the owners, the own part of a user ends as it would with the calls of its
+-- own tags alone, and the device stays owned. So what is written to memory for others, and when, makes no difference to it.
 abbrev pub UnitsStayApart : Type 0
 UnitsStayApart =
-    (owner : ℕ → ℕ) (unit budget : ℕ) (w now : World) (worked : Worked) → IsOwned owner (tasks_of w) → RoundsWorked budget w now worked
+    (owner : Owner) (user budget : ℕ) (w now : World) (worked : Worked) → IsOwned owner (tasks_of w) → RoundsWorked budget w now worked
     → (calls : List Call) × WorkMakes budget w worked calls
     × (AllByRecursion (KeepsTo owner (length (tasks_of w).units)) calls
-    → IsOwned owner (tasks_of now) × Alike owner unit (tasks_of now) (after called (tasks_of w) (filter (is_of owner unit) calls)))
+    → IsOwned owner (tasks_of now) × Alike owner user (tasks_of now) (after called (tasks_of w) (filter (is_of owner user) calls)))

@@ -12,7 +12,7 @@
 //! ```
 //!
 //! The calls are those of `units_apart`, and what that crate says of a list of calls holds of a guest's run: as long as the driver sends
-//! what it sends on a tag to that tag's own logical unit (`KeepsTo`), nobody sees what the users of other logical units do. Linux's driver
+//! what it sends on a tag to a logical unit of that tag's user (`KeepsTo`), nobody sees what the users of other ones do. Linux's driver
 //! takes any tag for any unit; of it `one_unit_is_reached` holds, call by call.
 //!
 //! It has laws alone, over the definitions of `xhci_machine`.

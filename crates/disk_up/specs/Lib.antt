@@ -1,0 +1,6 @@
+pub mod Requests
+pub mod Controls
+pub mod PipeRows
+pub mod Findings
+pub mod Endings
+pub mod Disks

@@ -1,5 +1,6 @@
 //! A logical unit of which C says what there is to tell, in a record of 152 bytes.
-ghost use Rattle.std.specs.Prelude.{◌≡◌, Some, true};
+ghost use Rattle.std.specs.Prelude.{◌≡◌, ◌≤◌, ◌==◌, Some, true, length};
+ghost use Rattle.std.specs.List.{position_or_len};
 ghost use Rattle.c_disks.specs.Records.{block_bytes_of, block_length_of, cut, cut_asked, disk_asked, disk_has_block_bytes, disk_has_blocks, disk_of, eui_asked, is_zero};
 ghost use Rattle.c_disks.specs.Records.{kept_bytes, kept_number, most_of, naa_asked, named_shape, names_of, product_of, revision_of, rotation_asked};
 ghost use Rattle.c_disks.specs.Records.{serial_asked, shape_said, text_of, uuid_asked, vendor_of};
@@ -79,15 +80,26 @@ fn cut(disk: &UasDisk) -> UasDisk
     }
 }
 
+/// How many bytes of a field come before its first 0.
+fn text_size(field: &[u8]) -> usize
+    ensures size { result ≡ position_or_len (λ byte. byte == 0) field.now }
+    ensures most { result ≤ length field.now }
+{
+    let mut size = 0;
+    while size < field.len() {
+        if field[size] == 0 {
+            return size;
+        }
+        size += 1;
+    }
+    size
+}
+
 /// The text of a field, which ends before its first 0.
 fn text_of(field: &[u8]) -> &[u8]
     ensures { result.now ≡ text_of field.now }
 {
-    let size = field
-        .iter()
-        .position(|byte| *byte == 0)
-        .unwrap_or(field.len());
-    &field[..size]
+    &field[..text_size(field)]
 }
 
 fn is_zero(bytes: &[u8]) -> bool

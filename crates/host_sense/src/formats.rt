@@ -46,8 +46,7 @@ impl SenseData {
         match self.detail {
             Detail::Nothing => array_of(&[0x72, key, asc, ascq, 0, 0, 0, 0]),
             Detail::Information(place) => {
-                let [a, b, c, d] = ((place >> 32) as u32).to_be_bytes();
-                let [e, f, g, h] = ((place & 0xffff_ffff) as u32).to_be_bytes();
+                let [a, b, c, d, e, f, g, h] = eight_bytes(place);
                 array_of(&[
                     0x72, key, asc, ascq, 0, 0, 0, 0x0c, 0x00, 0x0a, 0x80, 0, a, b, c, d, e, f, g,
                     h,
@@ -69,7 +68,7 @@ fn information(detail: &Detail) -> (u8, [u8; 4])
 {
     match detail {
         Detail::Information(place) if *place <= u64::from(u32::MAX) => {
-            (0xf0, (*place as u32).to_be_bytes())
+            (0xf0, four_bytes(*place as u32))
         }
         Detail::Nothing | Detail::Information(_) | Detail::Field(_) => (0x70, [0; 4]),
     }
@@ -94,6 +93,20 @@ fn pointer_flags(field: &FieldPointer) -> u8
         Some(bit) => SPECIFIC + place + BIT_TOLD + bit % 8,
         None => SPECIFIC + place,
     }
+}
+
+fn four_bytes(number: u32) -> [u8; 4]
+    ensures { result ≡ four_bytes number }
+{
+    number.to_be_bytes()
+}
+
+fn eight_bytes(number: u64) -> [u8; 8]
+    ensures { result ≡ eight_bytes number }
+{
+    let [a, b, c, d] = four_bytes((number >> 32) as u32);
+    let [e, f, g, h] = four_bytes((number & 0xffff_ffff) as u32);
+    [a, b, c, d, e, f, g, h]
 }
 
 fn array_of(bytes: &[u8]) -> ArrayVec<u8, MOST_SENSE_BYTES>

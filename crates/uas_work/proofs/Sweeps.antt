@@ -1,10 +1,12 @@
 -- What is booked of those who have no client is a sweep.
-use Rattle.std.proofs.Common.{◌≡◌, ℕ, suc, Bool, true, false, Result, Ok, Err, MatchResult, refl, sym, subst, inl, inr, ◌+◌, arith}
+use Rattle.std.proofs.Common.{◌≡◌, ℕ, suc, Bool, true, false, Result, Ok, Err, IfOk, OnErr, MatchResult, refl, sym, subst, inl, inr, ◌+◌, arith}
 use Rattle.shared_machine.specs.declared.Step.{Step}
+use Rattle.shared_machine.specs.Bus.{HasTicket}
+use Rattle.shared_machine.specs.Shared.{Shared, due}
 use Rattle.uas_work.specs.declared.Booking.{Booking}
-use Rattle.uas_work.specs.Booked.{BookedState}
+use Rattle.uas_work.specs.Booked.{BookedState, booked_step}
 use Rattle.uas_work.specs.Control.{AreLeft, IsControl, IsDispatch, LeftAll, TookOne, TookOrLeft, WantsOne}
-use Rattle.uas_work.specs.Sweep.{BookedOne, BookedOrLeft, IsSwept}
+use Rattle.uas_work.specs.Sweep.{BookedOne, BookedOrLeft, IsOpen, IsSwept}
 
 -- the controller's step is one, and so is the dispatcher's
 pub by_control : (says : Step → Bool → Type 0) (old new : BookedState) → TookOne IsControl says old new → BookedOne says old new
@@ -14,6 +16,29 @@ by_control says old new took =
 pub by_dispatch : (says : Step → Bool → Type 0) (old new : BookedState) → TookOne IsDispatch says old new → BookedOne says old new
 by_dispatch says old new took =
     record { step = took.step; whose = inr took.is.of_kind; acts = took.is.acts; allowed = took.is.allowed; booked = took.booked }
+
+-- and so is a step that is open
+pub by_open : (says : Step → Bool → Type 0) (old new : BookedState) (step : Step) (took : Bool) → took ≡ true → IsOpen says old.bus step
+    → new ≡ (booked_step old step).0 → BookedOrLeft says old new took
+by_open says old new step true is open' booked =
+    record { step = step; whose = open'.whose; acts = open'.acts; allowed = open'.allowed; booked = booked }
+by_open says old new step false is open' booked = absurd (cc)
+
+-- what is booked of a step that is open
+pub opened : (says : Step → Bool → Type 0) (old new : BookedState) (step : Step) (result : Result Bool Booking) → IsOpen says old.bus step
+    → IfOk result (λ took. took ≡ true) → IfOk result (λ took. new ≡ (booked_step old step).0) → OnErr result (new ≡ old)
+    → MatchResult result (BookedOrLeft says old new) (λ booking. new ≡ old)
+opened says old new step (Ok took) is took' booked same = by_open says old new step took took' is booked
+opened says old new step (Err booking) is took' booked same = same
+
+-- a step of the controller's is open where it is due and allowed, and so is one of the dispatcher's
+pub open_control : (says : Step → Bool → Type 0) (state : Shared) (step : Step) → IsControl state step → due state step ≡ true → says step true
+    → HasTicket step → IsOpen says state step
+open_control says state step whose acts allowed ticket = record { whose = inl whose; acts = acts; allowed = allowed; ticket = ticket }
+
+pub open_dispatch : (says : Step → Bool → Type 0) (state : Shared) (step : Step) → IsDispatch state step → due state step ≡ true → says step true
+    → HasTicket step → IsOpen says state step
+open_dispatch says state step whose acts allowed ticket = record { whose = inr whose; acts = acts; allowed = allowed; ticket = ticket }
 
 -- where the controller had none, the dispatcher's says what is booked
 dispatched : (says : Step → Bool → Type 0) (old new : BookedState) (result : Result Bool Booking) → AreLeft IsControl says old.bus

@@ -1,9 +1,17 @@
 -- What whoever holds the lock books of those who have no client: step after step, until none is left.
 use Rattle.std.specs.Prelude.{◌≡◌, ℕ, zero, suc, ◌⊎◌, Bool, true, false}
 use Rattle.shared_machine.specs.declared.Step.{Step}
-use Rattle.shared_machine.specs.Shared.{due}
+use Rattle.shared_machine.specs.Bus.{HasTicket}
+use Rattle.shared_machine.specs.Shared.{Shared, due}
 use Rattle.uas_work.specs.Booked.{BookedState, booked_step}
 use Rattle.uas_work.specs.Control.{AreLeft, IsControl, IsDispatch}
+
+-- a step is the controller's or the dispatcher's, and due and allowed
+pub record IsOpen (says : Step → Bool → Type 0) (state : Shared) (step : Step) : Type 0 where
+  pub whose : IsControl state step ⊎ IsDispatch state step
+  pub acts : due state step ≡ true
+  pub allowed : says step true
+  pub ticket : HasTicket step
 
 -- a step of the controller's or the dispatcher's, which was due and allowed, is booked
 pub record BookedOne (says : Step → Bool → Type 0) (old new : BookedState) : Type 0 where

@@ -12,9 +12,13 @@ use crate::rounds::{Half, command};
 use crate::{Ended, Gate};
 use door_board::place;
 use scsi_cmd::Command;
+use std::hint::spin_loop;
 use std::sync::Wait;
 use tag_desk::Slip;
 use uas_profile::slot_of;
+
+/// How many times a client looks for its reply before it parks.
+const MOST_LOOKS: u32 = 50;
 
 impl ClientPart {
     /// Takes so many rounds, or as many as the workers are let take: what is left of the part.
@@ -124,7 +128,7 @@ impl ClientPart {
         Some(tag)
     }
 
-    /// The slip with which the pump finished a tag, looked for once a turn; none where all pumps ended and it wasn't finished.
+    /// The slip with which the pump finished a tag, looked for some times a turn; none where all pumps ended and it wasn't finished.
     fn awaited<J: Origin, R: Wait, G: Gate>(
         &mut self,
         rt: &R,
@@ -141,7 +145,7 @@ impl ClientPart {
     {
         for _ in rt.forever() {
             let is_last = locked.are_pumps_done();
-            let slip = shared.desk.look(&mut self.seat, tag);
+            let slip = self.looked(shared, tag);
             if slip.is_some() || is_last {
                 return slip;
             }
@@ -149,6 +153,25 @@ impl ClientPart {
             if !locked.is_ended() && !gate.turn(u32::from(self.client)) {
                 locked.end(Ended::Stopped);
             }
+        }
+        None
+    }
+
+    /// The slip with which the pump finished a tag, looked for some times.
+    fn looked(&mut self, shared: &DeskAndBoard, tag: u16) -> Option<Slip>
+        requires part { IsClientPart shared.now.desk shared.now.board self.old }
+        requires tag { IsTagOf self.old.seat.tags self.old.seat.client tag }
+        ensures part { IsClientPart shared.now.desk shared.now.board self.new }
+        ensures same { self.new.client ≡ self.old.client }
+        ensures room { self.new.replies ≡ self.old.replies }
+        ensures tag { IsTagOf self.new.seat.tags self.new.seat.client tag }
+    {
+        for _ in 0..MOST_LOOKS {
+            let slip = shared.desk.look(&mut self.seat, tag);
+            if slip.is_some() {
+                return slip;
+            }
+            spin_loop();
         }
         None
     }

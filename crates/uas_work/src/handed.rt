@@ -98,6 +98,7 @@ impl<J: Origin> Handed<J> {
         shared: &DeskAndBoard,
         gate: &G,
         client: usize,
+        may_post: bool,
     ) -> Result<Turn, Booking>
         requires part { IsPumpPart shared.now.desk shared.now.board pump.old }
         requires client { ServesClient shared.now.desk pump.old.seat client }
@@ -106,6 +107,6 @@ impl<J: Origin> Handed<J> {
         ensures served { MatchResult result (λ served. Served (G.says gate.now) shared.now.desk.tags client self.old.booked self.new.booked)
             (λ booking. EnteredOrLeft shared.now.desk.tags client self.old.booked self.new.booked) }
     {
-        pump.served(alloc, shared, gate, &mut self.booked, client)
+        pump.served(alloc, shared, gate, &mut self.booked, client, may_post)
     }
 }

@@ -40,7 +40,7 @@ pub fn dispatch<G: Gate>(alloc: Global, booked: &mut Booked, gate: &G) -> Result
 }
 
 /// Books a step that is due.
-fn book(alloc: Global, booked: &mut Booked, step: Step) -> Result<bool, Booking>
+pub(crate) fn book(alloc: Global, booked: &mut Booked, step: Step) -> Result<bool, Booking>
     requires { HasTicket step }
     ensures took { IfOk result (λ took. took ≡ true) }
     ensures booked { IfOk result (λ took. booked.new ≡ (booked_step booked.old step).0) }

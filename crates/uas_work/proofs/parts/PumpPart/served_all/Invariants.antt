@@ -2,5 +2,5 @@ use Rattle.std.specs.Prelude.{◌≡◌}
 use Rattle.uas_work.specs.Parts.{IsPumpPart}
 use Rattle.uas_work.proofs.parts.PumpPart.served_all.Given as goal
 
-abbrev pub invariant-loop-round : goal.invariant-loop-round
-invariant-loop-round g l = IsPumpPart l.shared.desk l.shared.board l.self × (l.self.pump ≡ l.fn.self.pump)
+abbrev pub invariant-loop : goal.invariant-loop
+invariant-loop g l = IsPumpPart l.shared.desk l.shared.board l.self × (l.self.pump ≡ l.fn.self.pump)

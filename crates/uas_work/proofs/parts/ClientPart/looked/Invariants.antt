@@ -1,0 +1,11 @@
+use Rattle.std.specs.Prelude.{◌≡◌}
+use Rattle.tag_desk.specs.Seats.{IsTagOf}
+use Rattle.uas_work.specs.Parts.{IsClientPart}
+use Rattle.uas_work.proofs.parts.ClientPart.looked.Given as goal
+
+abbrev pub invariant-loop : goal.invariant-loop
+invariant-loop l =
+    IsClientPart l.shared.desk l.shared.board l.self
+    × (l.self.client ≡ l.fn.self.client)
+    × (l.self.replies ≡ l.fn.self.replies)
+    × IsTagOf l.self.seat.tags l.self.seat.client l.tag

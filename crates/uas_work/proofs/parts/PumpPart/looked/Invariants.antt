@@ -1,0 +1,6 @@
+use Rattle.std.specs.Prelude.{◌≡◌}
+use Rattle.uas_work.specs.Parts.{IsPumpPart}
+use Rattle.uas_work.proofs.parts.PumpPart.looked.Given as goal
+
+abbrev pub invariant-loop : goal.invariant-loop
+invariant-loop l = IsPumpPart l.shared.desk l.shared.board l.self × (l.self.pump ≡ l.fn.self.pump)

@@ -1,5 +1,5 @@
 //! A logical unit of which C says what there is to tell, in a record of 152 bytes.
-ghost use Rattle.std.specs.Prelude.{◌≡◌, ◌≤◌, ◌==◌, Some, true, length};
+ghost use Rattle.std.specs.Prelude.{◌≡◌, ◌^◌, ◌≤◌, ◌==◌, Some, IsTrue, length};
 ghost use Rattle.std.specs.List.{position_or_len};
 ghost use Rattle.c_disks.specs.Records.{block_bytes_of, block_length_of, cut, cut_asked, disk_asked, disk_has_block_bytes, disk_has_blocks, disk_of, eui_asked, is_zero};
 ghost use Rattle.c_disks.specs.Records.{kept_bytes, kept_number, most_of, naa_asked, named_shape, names_of, product_of, revision_of, rotation_asked};
@@ -256,7 +256,9 @@ fn block_bytes_of(disk: &UasDisk) -> u32
 }
 
 fn has_blocks(disk: &UasDisk) -> bool
-    ensures { result ≡ disk_has_blocks disk.now }
+    ensures blocks { result ≡ disk_has_blocks disk.now }
+    ensures some { IsTrue result → 1 ≤ disk.now.blocks }
+    ensures most { IsTrue result → disk.now.blocks ≤ 2 ^ 48 }
 {
     disk.blocks != 0 && disk.blocks <= MOST_BLOCKS
 }
@@ -280,7 +282,8 @@ fn block_length(bytes: u32) -> BlockLength
 
 /// The logical unit of a number with these names.
 fn named_shape(number: u8, disk: &UasDisk, names: &UnitNames) -> Option<LogicalUnitShape>
-    requires { disk_has_blocks disk.now ≡ true }
+    requires some { 1 ≤ disk.now.blocks }
+    requires most { disk.now.blocks ≤ 2 ^ 48 }
     ensures { result ≡ Some (named_shape number disk.now names.now) }
 {
     let serial = SerialNumber::new(u32::from(number)).ok()?;
@@ -296,7 +299,8 @@ fn named_shape(number: u8, disk: &UasDisk, names: &UnitNames) -> Option<LogicalU
 
 /// The logical unit of a number, unless something can't be told of it.
 fn shape_said(number: u8, disk: &UasDisk) -> Option<LogicalUnitShape>
-    requires { disk_has_blocks disk.now ≡ true }
+    requires some { 1 ≤ disk.now.blocks }
+    requires most { disk.now.blocks ≤ 2 ^ 48 }
     ensures { result ≡ shape_said number disk.now }
 {
     if disk.flags > 31 || !is_zero(&disk.reserved) {

@@ -29,7 +29,7 @@
  *      thread's, as a lock sees to. Calls without a handle may run in any thread at any time.
  *   5. The program's malloc, realloc and free are one allocator's, and align as the C standard asks (16 bytes on x86-64). Memory is
  *      taken by each new and each open, and for the data of uas_controller_lend, uas_driver_submit and uas_bus_submit alone.
- *   6. A call finds 64 KiB of stack. None is made from a signal handler, nor in the child of a fork of a program with threads.
+ *   6. A call finds 16 KiB of stack. None is made from a signal handler, nor in the child of a fork of a program with threads.
  *   7. A bool is 0 or 1.
  *   8. The program is one of x86-64, as the archive is.
  *

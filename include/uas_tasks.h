@@ -20,7 +20,8 @@
  * A READ asks for one chunk at a time and gives it; a WRITE takes a chunk and then asks. SYNCHRONIZE CACHE, START STOP UNIT and VERIFY ask
  * once. A chunk is of at most as many blocks as the device was made with.
  *
- * The duties of a caller are those of uas.h, for a uas_tasks pointer as for its others. Memory is taken by uas_tasks_new alone. */
+ * The duties of a caller are those of uas.h, for a uas_tasks pointer as for its others; but a call finds 8 KiB of stack. Memory is taken by
+ * uas_tasks_new alone. */
 #ifndef UAS_TASKS_H
 #define UAS_TASKS_H
 

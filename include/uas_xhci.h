@@ -16,7 +16,8 @@
  * What isn't here is the caller's: PCI configuration space (class 0C0330h; the byte at 60h reads 30h; BAR 0 of one page of 4 KiB), the
  * message or the pin itself, and time.
  *
- * The duties of a caller are those of uas.h, for a uas_xhci pointer as for its others. Memory is taken by uas_xhci_new alone. Sections are
+ * The duties of a caller are those of uas.h, for a uas_xhci pointer as for its others; but a call finds 8 KiB of stack. Memory is taken by
+ * uas_xhci_new alone. Sections are
  * those of xHCI 1.2. */
 #ifndef UAS_XHCI_H
 #define UAS_XHCI_H

@@ -605,15 +605,72 @@ static void port_reset(void)
     configure();
 }
 
-static void unplug(void)
+/* A TD that nothing answers is told with USB Transaction Error (4.10.2.3) and what is left of it: the endpoint halts, its ring stays there, and with
+ * TSP the TD is tried again. Then it is left behind. */
+static void unanswered(int endpoint, int stream)
 {
+    struct ring *ring = endpoint == CONTROL ? &control : &pipes[endpoint][stream];
+    uint32_t target = SLOT_1 | (uint32_t)endpoint << 16, length = endpoint == CONTROL ? 8 : 1000;
+    uint64_t here = put(ring, area(1), length, endpoint == CONTROL ? SETUP | IDT | IOC : NORMAL | IOC);
     for (int i = 0; i < 2; i++) {
-        uas_xhci_plug(xhci, i == 1);
-        expect(PORTS, 0, 2 << 24, SUCCESS, 0, false);
+        expect(endpoint, stream, here, TRANSACTION, length, false);
+        ring_doorbell(endpoint, stream);
         finish();
-        SAME(get(PORTSC2) & 0x20001, 0x20000 | (uint32_t)i); /* CSC, CCS */
-        set(PORTSC2, 0x20200);
+        SAME(endpoint_state(endpoint), HALTED);
+        command(RESET_ENDPOINT, 0, 0, target | TSP, SUCCESS);
     }
+    command(SET_DEQUEUE, next_place(ring) | (stream > 0 ? 1 << 1 : 0) | ring->cycle, (uint32_t)stream << 16, target, SUCCESS);
+    ring_doorbell(endpoint, stream);
+    finish();
+    SAME(endpoint_state(endpoint), RUNNING);
+}
+
+static void unanswered_pipes(void)
+{
+    for (int endpoint = COMMAND_PIPE; endpoint <= DATA_IN; endpoint++)
+        unanswered(endpoint, endpoint == COMMAND_PIPE ? 0 : 13);
+}
+
+static void plug(bool attached)
+{
+    uas_xhci_plug(xhci, attached);
+    expect(PORTS, 0, 2 << 24, SUCCESS, 0, false);
+    finish();
+    SAME(get(PORTSC2) & 0x20001, 0x20000 | (uint32_t)attached); /* CSC, CCS */
+    set(PORTSC2, 0x20200);
+}
+
+/* The disk is pulled in the middle of a READ: its TD is told with what is left of it, and so is that of its status. Nothing answers until it is there
+ * again, and then endpoint 0 alone until it is configured. */
+static void unplug(uint32_t chunk)
+{
+    uint32_t bytes = chunk * UAS_BLOCK_BYTES;
+    held = true;
+    put(&pipes[DATA_IN][2], area(2) + 0x2000, 512, NORMAL | CH);
+    uint64_t second = put(&pipes[DATA_IN][2], area(2) + 0x10000, bytes, NORMAL | IOC), status = next_place(&pipes[STATUS_PIPE][2]);
+    begin_command(2, read_write(false, 2 * ZONE, chunk + 1).bytes, DATA_IN, 0);
+    run();
+    answer_one();
+    expected[STATUS_PIPE][2].count = 0;
+    expect(DATA_IN, 2, second, TRANSACTION, 512, false);
+    expect(STATUS_PIPE, 2, status, TRANSACTION, (uint32_t)load(status + 8, 4) & 0x1ffff, false);
+    plug(false);
+    held = false;
+    finish();
+    for (int endpoint = STATUS_PIPE; endpoint <= DATA_IN; endpoint += DATA_IN - STATUS_PIPE) {
+        uint64_t next = next_place(&pipes[endpoint][2]) | 1 << 1 | pipes[endpoint][2].cycle;
+        SAME(endpoint_state(endpoint), HALTED);
+        command(RESET_ENDPOINT, 0, 0, SLOT_1 | (uint32_t)endpoint << 16, SUCCESS);
+        command(SET_DEQUEUE, next, 2 << 16, SLOT_1 | (uint32_t)endpoint << 16, SUCCESS);
+    }
+    unanswered(CONTROL, 0);
+    unanswered_pipes();
+    plug(true);
+    control_request(0x80, 8, 0, 1, 1);
+    SAME(at(scratch)[0], 0);
+    unanswered_pipes();
+    control_request(0x00, 9, 1, 0, 0);
+    do_command(2, test_unit_ready, 0, 0x062900);
 }
 
 /* CA stops the command ring while it runs, by one write or by halves. Its pointer stays, and it goes on there (5.4.5). */
@@ -640,7 +697,33 @@ static void disable_port(void)
         finish();
         SAME(get(PORTSC2), i == 0 ? 0x20280 : 0x21203); /* CSC; PLS 4, or SuperSpeed, PED, CCS */
         set(PORTSC2, 0x20200);
+        if (i == 0) {
+            unanswered(CONTROL, 0);
+            unanswered_pipes();
+        }
     }
+    do_command(2, test_unit_ready, 0, 0);
+}
+
+/* Address Device of a disk that is pulled (4.6.5): without BSR nothing answers the request, and the slot is as it was. */
+static void unanswered_address(void)
+{
+    start();
+    enable_slot();
+    plug(false);
+    control = new_ring(12);
+    input_context(3, 1);
+    for (int i = 0; i < 2; i++) {
+        command(ADDRESS, input, 0, SLOT_1, TRANSACTION);
+        SAME(slot_word(3), i == 0 ? 0 : 1u << 27);
+        if (i == 0)
+            command(ADDRESS, input, 0, SLOT_1 | BSR, SUCCESS);
+    }
+    unanswered(CONTROL, 0);
+    plug(true);
+    input_context(3, 1);
+    command(ADDRESS, input, 0, SLOT_1, SUCCESS);
+    control_request(0x80, 8, 0, 1, 1);
 }
 
 /* An endpoint with MaxPStreams 0 (4.12.2) has one ring, whose end is in its context (6.2.3); a doorbell's stream isn't looked at (5.6). The disk serves
@@ -754,13 +837,14 @@ int main(int words, char **word)
         printf("  %u commands at random on %d tags\n", rounds, TAGS);
         port_reset();
         random_commands(100);
-        unplug();
+        unplug(chunks[i]);
         abort_commands();
         disable_port();
         for (int endpoint = STATUS_PIPE; endpoint <= DATA_IN; endpoint++)
             no_streams(endpoint);
         no_memory();
         wrong_settings();
+        unanswered_address();
         set_up();
         printf("  a reset of the port, unplugged, endpoints without streams, halted for want of memory, set up again\n");
         uas_xhci_free(xhci);

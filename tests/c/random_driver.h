@@ -146,6 +146,11 @@ static void begin(void)
         put_any_trb(place);
     for (uint32_t place = RINGS + 0x200; place < RINGS + 0x3e0; place += 48)
         put_request(place);
+    if (draw(8)) { /* mostly the first request is SET_CONFIGURATION 1 */
+        put_trb(RINGS + 0x200, 0x0000000000010900, 8, 2 << 10 | 64 | 1);
+        put_trb(RINGS + 0x210, 0, 0, 8 << 10 | 1);
+        put_trb(RINGS + 0x220, 0, 0, 4 << 10 | 1 << 16 | 32 | 1);
+    }
     for (uint32_t i = 0; i < 32; i++)
         put_unit(DATA + 32 * i);
     for (uint32_t i = 0; i < 16; i++)

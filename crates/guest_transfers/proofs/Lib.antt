@@ -10,3 +10,5 @@ pub mod BesideCommand
 pub mod BesideSteps
 pub mod DataSteps
 pub mod Stray
+pub mod SilentSteps
+pub mod Rung

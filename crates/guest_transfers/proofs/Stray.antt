@@ -8,6 +8,7 @@ use Rattle.guest_memory.specs.declared.rings.context.Found.{Found}
 use Rattle.guest_memory.specs.declared.rings.context.Found.TheVariants.{WrongKind, NotYet, Item}
 use Rattle.guest_memory.specs.declared.rings.context.Front.{Front}
 use Rattle.guest_memory.specs.declared.rings.context.Home.{Home}
+use Rattle.guest_memory.specs.declared.rings.wanting.Range.{Range}
 use Rattle.guest_memory.specs.declared.rings.trb.PipeTrb.{PipeTrb}
 use Rattle.guest_memory.specs.declared.rings.trb.PipeTrb.TheVariants.{Normal, Link, NoOp, EventData, Foreign}
 use Rattle.guest_memory.specs.rings.Ends.{looked}
@@ -33,7 +34,7 @@ use Rattle.guest_transfers.proofs.BesideLook.{gate-beside, looked-beside}
 use Rattle.guest_transfers.proofs.BesideRing.{posted-beside, refused-beside, ring_beside, took_other-beside}
 use Rattle.guest_transfers.proofs.DataSteps.{room_gate-beside, room_lacks}
 
-abbrev pipe_beside : PipeWorld → Memory → PipeWorld
+abbrev pub pipe_beside : PipeWorld → Memory → PipeWorld
 pipe_beside w rest = record w { memory = beside w.memory rest }
 
 told-beside : (w : PipeWorld) (rest : Memory) → pipe_beside (invalid_told w) rest ≡ invalid_told (pipe_beside w rest)
@@ -73,7 +74,7 @@ invalid_after w rest none = by_tests (is_running w.pipe.state) w.pipe.invalid no
 
 -- A RING THAT NOTHING CAN SERVE
 
-abbrev done_beside : World × Acted → Memory → World × Acted
+abbrev pub done_beside : World × Acted → Memory → World × Acted
 done_beside done rest = (ring_beside done.0 rest, done.1)
 
 trb-beside : (w : World) (rest : Memory) (front : Front) (code : ℕ) (trb : PipeTrb)
@@ -92,17 +93,17 @@ found-beside w rest front code WrongKind = let out : World → World × Acted = 
 found-beside w rest front code NotYet = refl
 found-beside w rest front code (Item trb) = let out : World → World × Acted = λ v. (v, Worked) in ap out (trb-beside w rest front code trb)
 
-unserved_after : (w : World) (rest : Memory) (home : Home) (code : ℕ)
-    → wanted_through (gate w.memory w.events w.consumer) w.events (look_wanted w.memory home) ≡ None
+pub unserved_after : (w : World) (rest : Memory) (home : Home) (code : ℕ) (wanted : Option Range) → (wanted ≡ None → is_some (looked w.memory home) ≡ true)
+    → wanted_through (gate w.memory w.events w.consumer) w.events wanted ≡ None
     → (is_some (unserved_stepped w home code) ≡ true)
     × (unserved_stepped (ring_beside w rest) home code ≡ option_map (λ done. done_beside done rest) (unserved_stepped w home code))
-unserved_after w rest home code none =
+unserved_after w rest home code wanted there none =
     by_gate (gate w.memory w.events w.consumer) (gate (beside w.memory rest) w.events w.consumer) (looked w.memory home)
-    (looked (beside w.memory rest) home) (gate-beside w.memory rest w.events w.consumer) (look_there w.memory home) (looked-beside w.memory rest home) none
+    (looked (beside w.memory rest) home) (gate-beside w.memory rest w.events w.consumer) there (looked-beside w.memory rest home) none
   where
     by_gate : (opens both : Option (Option Acted)) (found finds : Option Front) → (is_some opens ≡ true → both ≡ opens)
-        → (look_wanted w.memory home ≡ None → is_some found ≡ true) → (is_some found ≡ true → finds ≡ found)
-        → wanted_through opens w.events (look_wanted w.memory home) ≡ None
+        → (wanted ≡ None → is_some found ≡ true) → (is_some found ≡ true → finds ≡ found)
+        → wanted_through opens w.events wanted ≡ None
         → (is_some (through w opens (option_map (unserved_at w code) found)) ≡ true)
         × (through (ring_beside w rest) both (option_map (unserved_at (ring_beside w rest) code) finds)
         ≡ option_map (λ (done : World × Acted). done_beside done rest) (through w opens (option_map (unserved_at w code) found)))
@@ -123,7 +124,7 @@ lone_after : (code : ℕ) (w : PipeWorld) (rest : Memory) → lone_wanted w.memo
     × (after (pipe_beside w rest) (lone_stepped code (pipe_beside w rest)) ≡ (pipe_beside (after w (lone_stepped code w)).0 rest, (after w (lone_stepped code w)).1))
 lone_after code w rest none =
     let home : Home = ring_home w.pipe 0 in
-    let law = unserved_after (pipe_ring w 0) rest home code none in
+    let law = unserved_after (pipe_ring w 0) rest home code (look_wanted w.memory home) (look_there w.memory home) none in
     let kept = by_step (unserved_stepped (pipe_ring w 0) home code) law.0 in
     let out : Option (World × Acted) → PipeWorld × Option Acted =
     λ step. after (pipe_beside w rest) (option_map (lone_done (pipe_beside w rest)) step) in
@@ -138,7 +139,7 @@ lone_after code w rest none =
 
 -- A DOORBELL THAT NO STREAM'S TURN SERVES
 
-stray_after : (code : ℕ) (w : PipeWorld) (rest : Memory) → stray_wanted w.memory w.events w.pipe ≡ None
+pub stray_after : (code : ℕ) (w : PipeWorld) (rest : Memory) → stray_wanted w.memory w.events w.pipe ≡ None
     → (is_some (after w (stray_stepped code w)).1 ≡ true)
     × (after (pipe_beside w rest) (stray_stepped code (pipe_beside w rest)) ≡ (pipe_beside (after w (stray_stepped code w)).0 rest, (after w (stray_stepped code w)).1))
 stray_after code w rest none = by_kind (w.pipe.streams == 0) none

@@ -11,6 +11,9 @@
 //! its endpoint and keeps what is opaque. A status is due once its task has ended, nothing of its chunk is left, no data-in TD is still
 //! to be ended and no data-out TD is still to be dropped, also of an endpoint that is stopped; where no TD is there, at once.
 //!
+//! Where nothing serves the pipes, as of a disk that was pulled, [`Transfers::step_silent`] tells what is in front of each rung ring
+//! with a completion code.
+//!
 //! The caller has the event ring, the contexts' other fields and the command ring. It gives turns to those tags that have something
 //! to do ([`Transfers::has_work`]), data before status, and writes an endpoint's state where a step has changed it.
 //!
@@ -27,6 +30,7 @@
 mod calls;
 mod control;
 mod laws;
+mod silent;
 mod slot;
 mod steps;
 mod waiting;
@@ -37,4 +41,5 @@ pub use control::StreamPipe;
 pub use laws::{
     copies_stand_for_all_memory, what_is_wanted_is_not_there, what_lacks_nothing_is_taken,
 };
+pub use silent::next_rung;
 pub use slot::Slot;

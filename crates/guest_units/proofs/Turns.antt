@@ -6,6 +6,7 @@ use Rattle.guest_pipes.specs.declared.acted.Acted.{Acted}
 use Rattle.guest_tasks.specs.declared.GuestTasks.{GuestTasks}
 use Rattle.guest_tasks.specs.Tasks.{chunk_in, tasks_kind}
 use Rattle.guest_transfers.specs.Orders.{data_stepped}
+use Rattle.guest_transfers.specs.Silent.{silent_command}
 use Rattle.guest_transfers.specs.Steps.{command_stepped, command_world, status_stepped}
 use Rattle.guest_transfers.specs.declared.control.StreamPipe.{StreamPipe}
 use Rattle.guest_transfers.specs.declared.control.StreamPipe.TheVariants.{Status, DataOut, DataIn}
@@ -14,13 +15,14 @@ use Rattle.units_apart.specs.Calls.{Call, Receive, Give, Take, Send, EndTasks, c
 use Rattle.units_apart.specs.Runs.{after}
 use Rattle.xhci_control.specs.declared.pipe.Served.{Served}
 use Rattle.xhci_control.specs.Steps.{ControlWorld, stepped}
-use Rattle.xhci_machine.specs.Rounds.{Turning, command_pipe_stepped, control_stepped, control_world, data_of, stray_stepped, noted_in, pipes_turned, restarted, ring_on, served, status_of, then_commands, then_control, then_stray, then_pipes, then_port, transfers_world, turned, with_control, with_transfers}
+use Rattle.xhci_machine.specs.Rounds.{Turning, command_of, command_pipe_stepped, control_stepped, control_world, data_due, data_of, stray_stepped, noted_in, pipes_turned, restarted, ring_on, served, status_due, status_of, then_commands, then_control, then_stray, then_pipes, then_port, transfers_world, turned, with_control, with_stray, with_transfers}
+use Rattle.xhci_machine.specs.Bus.{fault_in, is_silent, transaction_error}
 use Rattle.xhci_machine.specs.Contexts.{is_due}
 use Rattle.xhci_machine.specs.Steps.{commands_stepped}
 use Rattle.xhci_machine.specs.Turns.{World}
 use Rattle.xhci_machine.specs.Worked.{then_status}
 use Rattle.xhci_machine.proofs.Active.{stray_kept, noted_in_kept, port_kept, turned_kept}
-use Rattle.xhci_machine.proofs.Device.{Moves, Receives, Sends, command_pipe_kept, data_kept, of_each, status_kept}
+use Rattle.xhci_machine.proofs.Device.{Moves, Receives, Sends, command_pipe_kept, data_kept, either, of_each, of_tags, status_kept}
 use Rattle.xhci_machine.proofs.RingStep.{commands_kept}
 use Rattle.guest_units.specs.Turns.{IsAnswerOn, IsDataOn, IsEnd, IsUnitIn, Makes, TurnMakes, tasks_of}
 
@@ -50,7 +52,7 @@ joined start middle end first rest one two = two ∙ ap (λ m. after called m re
 
 -- STEPS
 pub data_made : (w : World) (tag : ℕ) → (calls : List Call) × Makes (IsDataOn tag) (tasks_of w) (tasks_of (data_of w tag).0) calls
-unfolding data_of
+unfolding data_of data_due
 data_made w tag =
     let start : Machine = tasks_of w in
     let moves : Moves tasks_kind tag (Has start) (Made (IsDataOn tag) start) = record {
@@ -60,12 +62,12 @@ data_made w tag =
       took = λ device bytes same. (Take tag bytes ∷ [], record { one = refl; is = ap (λ m. took m tag bytes) same });
     } in
     let none : Made (IsDataOn tag) start w.machine.device = unmade (IsDataOn tag) start w.machine.device refl in
-    of_each (MadeIn (IsDataOn tag) start) w (is_due (ring_on w.machine DataIn tag) || is_due (ring_on w.machine DataOut tag))
+    of_tags (MadeIn (IsDataOn tag) start) w (is_due (ring_on w.machine DataIn tag) || is_due (ring_on w.machine DataOut tag))
     (with_transfers w (data_stepped tasks_kind (transfers_world w) tag)) none none
     (data_kept tasks_kind tag (Has start) (Made (IsDataOn tag) start) moves (transfers_world w) refl)
 
 pub status_made : (w : World) (tag : ℕ) → (calls : List Call) × Makes (IsAnswerOn tag) (tasks_of w) (tasks_of (status_of w tag).0) calls
-unfolding status_of
+unfolding status_of status_due
 status_made w tag =
     let start : Machine = tasks_of w in
     let sends : Sends tasks_kind tag (Has start) (Made (IsAnswerOn tag) start) = record {
@@ -73,7 +75,7 @@ status_made w tag =
       sent = λ device same. (Send tag ∷ [], record { one = refl; is = ap (λ m. without_task m tag) same });
     } in
     let none : Made (IsAnswerOn tag) start w.machine.device = unmade (IsAnswerOn tag) start w.machine.device refl in
-    of_each (MadeIn (IsAnswerOn tag) start) w (is_due (ring_on w.machine Status tag))
+    of_tags (MadeIn (IsAnswerOn tag) start) w (is_due (ring_on w.machine Status tag))
     (with_transfers w (status_stepped tasks_kind (transfers_world w) tag)) none none
     (status_kept tasks_kind tag (Has start) (Made (IsAnswerOn tag) start) sends (transfers_world w) refl)
 
@@ -94,9 +96,10 @@ unit_made w =
       );
     } in
     let none : Made (IsUnitIn w) start w.machine.device = unmade (IsUnitIn w) start w.machine.device refl in
-    of_each (MadeIn (IsUnitIn w) start) w (is_due w.machine.transfers.command)
-    (with_transfers w (command_stepped tasks_kind (transfers_world w))) none none
-    (command_pipe_kept tasks_kind (Has start) (Made (IsUnitIn w) start) (transfers_world w) receives refl)
+    let silent = with_stray w (silent_command transaction_error w.memory w.events w.machine.transfers) in
+    of_each (MadeIn (IsUnitIn w) start) w (is_due w.machine.transfers.command) (command_of w) none none
+    (either (MadeIn (IsUnitIn w) start) (is_silent w.machine) silent (with_transfers w (command_stepped tasks_kind (transfers_world w))) none
+    (command_pipe_kept tasks_kind (Has start) (Made (IsUnitIn w) start) (transfers_world w) receives refl))
 
 restarted_made : (restarts : Bool) (w : World) → (calls : List Call) × Makes IsEnd (tasks_of w) (tasks_of (restarted restarts w)) calls
 restarted_made true w = (EndTasks ∷ [], record { one = tt {0}; is = refl })
@@ -110,8 +113,8 @@ pub control_made : (w : World) → (calls : List Call) × Makes IsEnd (tasks_of 
 unfolding control_stepped
 control_made w =
     let none : Made IsEnd (tasks_of w) w.machine.device = unmade IsEnd (tasks_of w) w.machine.device refl in
-    of_each (MadeIn IsEnd (tasks_of w)) w (is_due w.machine.control.consumer) (served w (stepped (control_world w))) none none
-    (served_made w (stepped (control_world w)))
+    let done = stepped (fault_in w.machine) (control_world w) in
+    of_each (MadeIn IsEnd (tasks_of w)) w (is_due w.machine.control.consumer) (served w done) none none (served_made w done)
 
 -- TURNS
 abbrev pub then_step : (World → World × Option Acted) → Turning → Turning

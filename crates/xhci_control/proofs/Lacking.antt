@@ -23,22 +23,22 @@ use Rattle.xhci_control.specs.declared.trb.ControlTrb.TheVariants.{SetupStage, D
 use Rattle.xhci_control.specs.Stages.{is_data, stalls, takes}
 use Rattle.xhci_control.specs.Steps.{ControlWorld, after, control_stop_told, control_stopped, cursor_at, is_in_data, served_by, stepped, taken_by, through}
 use Rattle.xhci_control.specs.Trbs.{control_in}
-use Rattle.xhci_control.specs.Wanted.{control_wanted, data_wanted, front_wanted, given_range, moved_wanted, other_wanted, trb_wanted, words_wanted}
+use Rattle.xhci_control.specs.Wanted.{control_wanted, data_wanted, front_wanted, given_range, moved_wanted, other_wanted, trb_wanted, trb_wanted_by, words_wanted}
 
-pub control_there : (w : ControlWorld) → control_wanted w ≡ None → is_some (stepped w).1 ≡ true
-control_there w none = by_gate (gate w.memory w.events w.pipe.consumer) none
+pub control_there : (fault : Option ℕ) (w : ControlWorld) → control_wanted fault w ≡ None → is_some (stepped fault w).1 ≡ true
+control_there fault w none = by_gate (gate w.memory w.events w.pipe.consumer) none
   where
-    by_words : (cursor : Cursor) (words : Option (Option Words)) → words_wanted w.memory w.pipe cursor words ≡ None
-        → is_some (after w (option_map (taken_by w cursor) words)).1 ≡ true
+    by_words : (cursor : Cursor) (words : Option (Option Words)) → words_wanted fault w.memory w.pipe cursor words ≡ None
+        → is_some (after w (option_map (taken_by fault w cursor) words)).1 ≡ true
     by_words cursor None none = absurd (none-some _ (sym none))
     by_words cursor (Some words) none = refl
 
-    by_cursor : (cursor : Option Cursor) → front_wanted w.memory w.pipe cursor ≡ None → is_some (after w (served_by w cursor)).1 ≡ true
+    by_cursor : (cursor : Option Cursor) → front_wanted fault w.memory w.pipe cursor ≡ None → is_some (after w (served_by fault w cursor)).1 ≡ true
     by_cursor None none = absurd (none-some _ (sym none))
     by_cursor (Some cursor) none = by_words cursor (fetched w.memory cursor) none
 
     by_gate : (opens : Option (Option Acted))
-        → wanted_through opens w.events (front_wanted w.memory w.pipe (cursor_at w.memory w.pipe.home)) ≡ None → is_some (after w (through w opens)).1 ≡ true
+        → wanted_through opens w.events (front_wanted fault w.memory w.pipe (cursor_at w.memory w.pipe.home)) ≡ None → is_some (after w (through fault w opens)).1 ≡ true
     by_gate None none = absurd (none-some _ (sym none))
     by_gate (Some None) none = by_cursor (cursor_at w.memory w.pipe.home) none
     by_gate (Some (Some acted)) none = refl
@@ -81,29 +81,34 @@ trb_lacks memory pipe (DataStage pointer room to_host flags) = data_lacks memory
 trb_lacks memory pipe (StatusStage flags) = tt
 trb_lacks memory pipe (Other trb) = other_lacks memory pipe trb
 
-words_lacks : (memory : Memory) (pipe : ControlPipe) (cursor : Cursor) → LacksIt memory (words_wanted memory pipe cursor (fetched memory cursor))
+trb_by_lacks : (fault : Option ℕ) (memory : Memory) (pipe : ControlPipe) (trb : ControlTrb) → LacksIt memory (trb_wanted_by fault memory pipe trb)
+trb_by_lacks None memory pipe trb = trb_lacks memory pipe trb
+trb_by_lacks (Some code) memory pipe trb = tt
+
+words_lacks : (fault : Option ℕ) (memory : Memory) (pipe : ControlPipe) (cursor : Cursor)
+    → LacksIt memory (words_wanted fault memory pipe cursor (fetched memory cursor))
 unfolding fetched
-words_lacks memory pipe cursor = by_bytes (bytes_from memory cursor.place 16) refl
+words_lacks fault memory pipe cursor = by_bytes (bytes_from memory cursor.place 16) refl
   where
-    by_owned : (words : Option Words) → LacksIt memory (words_wanted memory pipe cursor (Some words))
+    by_owned : (words : Option Words) → LacksIt memory (words_wanted fault memory pipe cursor (Some words))
     by_owned None = tt
-    by_owned (Some words) = trb_lacks memory pipe (control_in words)
+    by_owned (Some words) = trb_by_lacks fault memory pipe (control_in words)
 
     by_bytes : (bytes : Option (List ℕ)) → bytes_from memory cursor.place 16 ≡ bytes
-        → LacksIt memory (words_wanted memory pipe cursor (option_map (owned cursor.cycle) bytes))
+        → LacksIt memory (words_wanted fault memory pipe cursor (option_map (owned cursor.cycle) bytes))
     by_bytes None is = (omega arith, ap is_some is)
     by_bytes (Some bytes) is = by_owned (owned cursor.cycle bytes)
 
-pub control_lacks : (w : ControlWorld) → LacksIt w.memory (control_wanted w)
-control_lacks w = by_gate (gate w.memory w.events w.pipe.consumer) refl
+pub control_lacks : (fault : Option ℕ) (w : ControlWorld) → LacksIt w.memory (control_wanted fault w)
+control_lacks fault w = by_gate (gate w.memory w.events w.pipe.consumer) refl
   where
     by_bytes : (bytes : Option (List ℕ)) → bytes_from w.memory w.pipe.home 8 ≡ bytes
-        → LacksIt w.memory (front_wanted w.memory w.pipe (option_map cursor_in (option_map (little_number 8) bytes)))
+        → LacksIt w.memory (front_wanted fault w.memory w.pipe (option_map cursor_in (option_map (little_number 8) bytes)))
     by_bytes None is = (omega arith, ap is_some is)
-    by_bytes (Some bytes) is = words_lacks w.memory w.pipe (cursor_in (little_number 8 bytes))
+    by_bytes (Some bytes) is = words_lacks fault w.memory w.pipe (cursor_in (little_number 8 bytes))
 
     by_gate : (opens : Option (Option Acted)) → gate w.memory w.events w.pipe.consumer ≡ opens
-        → LacksIt w.memory (wanted_through opens w.events (front_wanted w.memory w.pipe (cursor_at w.memory w.pipe.home)))
+        → LacksIt w.memory (wanted_through opens w.events (front_wanted fault w.memory w.pipe (cursor_at w.memory w.pipe.home)))
     by_gate None is = (omega arith, gate_lacks w.memory w.events w.pipe.consumer is)
     by_gate (Some None) is = by_bytes (bytes_from w.memory w.pipe.home 8) refl
     by_gate (Some (Some acted)) is = tt

@@ -23,6 +23,7 @@ use Rattle.guest_pipes.specs.Progress.{code_of, fresh, runs}
 use Rattle.guest_pipes.specs.Pipe.{recovered}
 use Rattle.guest_pipes.specs.Step.{World, about, data_told, erred, failed, filled, in_state, posted, poured, shortened, skipped, used_up, with_progress}
 use Rattle.guest_pipes.specs.Gate.{gate, stop_event, took_other as pipe_took_other}
+use Rattle.guest_pipes.specs.Unserved.{stuck}
 use Rattle.usb_disk.specs.declared.Setup.{Setup as SetupPacket}
 use Rattle.usb_disk.specs.Answers.{controlled, reset_disk}
 use Rattle.xhci_control.specs.declared.pipe.ControlPipe.{ControlPipe}
@@ -215,7 +216,31 @@ took w front (DataStage pointer room to_host flags) = (took_data w front pointer
 took w front (StatusStage flags) = (took_status w front flags, worked false)
 took w front (Other trb) = (took_other w front trb, worked false)
 
--- A STEP
+-- WHERE NOTHING ANSWERS ON THE BUS: a TRB that moves bytes is told with what is left of it and this code, the dequeue pointer stays, and the
+-- endpoint halts (4.8.3, 4.10.2.3)
+
+abbrev pub stuck_at : ControlWorld → Front → ℕ → ℕ → ControlWorld
+stuck_at w front left code = with_ring w (stuck (ring_of w) front left code)
+
+abbrev pub unanswered_other : ControlWorld → Front → ℕ → PipeTrb → ControlWorld
+unanswered_other w front code (Normal pointer room flags) = stuck_at w front (room - w.pipe.consumer.progress.moved) code
+unanswered_other w front code (Link pointer toggle flags) = took_other w front (Link pointer toggle flags)
+unanswered_other w front code (NoOp flags) = took_other w front (NoOp flags)
+unanswered_other w front code (EventData parameter flags) = took_other w front (EventData parameter flags)
+unanswered_other w front code Foreign = took_other w front Foreign
+
+-- a Setup Stage has eight bytes
+abbrev pub unanswered : ControlWorld → Front → ℕ → ControlTrb → ControlWorld
+unanswered w front code (SetupStage setup flags) = stuck_at w front 8 code
+unanswered w front code (DataStage pointer room to_host flags) = stuck_at w front (room - w.pipe.consumer.progress.moved) code
+unanswered w front code (StatusStage flags) = stuck_at w front 0 code
+unanswered w front code (Other trb) = unanswered_other w front code trb
+
+-- A STEP, of a bus that has this fault or none
+
+abbrev pub took_by : Option ℕ → ControlWorld → Front → ControlTrb → ControlWorld × Served
+took_by None w front trb = took w front trb
+took_by (Some code) w front trb = (unanswered w front code trb, worked false)
 
 abbrev pub front_at : ℕ → Cursor → Front
 front_at home cursor = record { home = Endpoint home; cursor = cursor; found = NotYet }
@@ -223,18 +248,18 @@ front_at home cursor = record { home = Endpoint home; cursor = cursor; found = N
 abbrev pub cursor_at : Memory → ℕ → Option Cursor
 cursor_at memory home = option_map cursor_in (option_map (little_number 8) (bytes_from memory home 8))
 
-abbrev pub taken_by : ControlWorld → Cursor → Option Words → ControlWorld × Served
-taken_by w cursor None = (with_ring w (used_up (ring_of w)), record { acted = Emptied; restarted = false })
-taken_by w cursor (Some words) = took w (front_at w.pipe.home cursor) (control_in words)
+abbrev pub taken_by : Option ℕ → ControlWorld → Cursor → Option Words → ControlWorld × Served
+taken_by fault w cursor None = (with_ring w (used_up (ring_of w)), record { acted = Emptied; restarted = false })
+taken_by fault w cursor (Some words) = took_by fault w (front_at w.pipe.home cursor) (control_in words)
 
-abbrev pub served_by : ControlWorld → Option Cursor → Option (ControlWorld × Served)
-served_by w None = None
-served_by w (Some cursor) = option_map (taken_by w cursor) (fetched w.memory cursor)
+abbrev pub served_by : Option ℕ → ControlWorld → Option Cursor → Option (ControlWorld × Served)
+served_by fault w None = None
+served_by fault w (Some cursor) = option_map (taken_by fault w cursor) (fetched w.memory cursor)
 
-abbrev pub through : ControlWorld → Option (Option Acted) → Option (ControlWorld × Served)
-through w None = None
-through w (Some None) = served_by w (cursor_at w.memory w.pipe.home)
-through w (Some (Some acted)) = Some (w, record { acted = acted; restarted = false })
+abbrev pub through : Option ℕ → ControlWorld → Option (Option Acted) → Option (ControlWorld × Served)
+through fault w None = None
+through fault w (Some None) = served_by fault w (cursor_at w.memory w.pipe.home)
+through fault w (Some (Some acted)) = Some (w, record { acted = acted; restarted = false })
 
 -- a refused step leaves the world
 abbrev pub after : ControlWorld → Option (ControlWorld × Served) → ControlWorld × Option Served
@@ -242,5 +267,5 @@ after w None = (w, None)
 after w (Some done) = (done.0, Some done.1)
 
 -- one TRB, where there is one; None where a byte of the controller's own structures isn't there
-abbrev pub stepped : ControlWorld → ControlWorld × Option Served
-stepped w = after w (through w (gate w.memory w.events w.pipe.consumer))
+abbrev pub stepped : Option ℕ → ControlWorld → ControlWorld × Option Served
+stepped fault w = after w (through fault w (gate w.memory w.events w.pipe.consumer))

@@ -53,16 +53,22 @@ trb_wanted memory pipe (DataStage pointer room to_host flags) = data_wanted memo
 trb_wanted memory pipe (StatusStage flags) = None
 trb_wanted memory pipe (Other trb) = other_wanted memory pipe trb
 
+-- where nothing answers on the bus no byte moves
+abbrev pub trb_wanted_by : Option ℕ → Memory → ControlPipe → ControlTrb → Option Range
+trb_wanted_by None memory pipe trb = trb_wanted memory pipe trb
+trb_wanted_by (Some code) memory pipe trb = None
+
 -- by the words where the ring's end is: the TRB itself where a byte of it isn't there
-abbrev pub words_wanted : Memory → ControlPipe → Cursor → Option (Option Words) → Option Range
-words_wanted memory pipe cursor None = Some (record { at = cursor.place; count = 16 })
-words_wanted memory pipe cursor (Some None) = None
-words_wanted memory pipe cursor (Some (Some words)) = trb_wanted memory pipe (control_in words)
+abbrev pub words_wanted : Option ℕ → Memory → ControlPipe → Cursor → Option (Option Words) → Option Range
+words_wanted fault memory pipe cursor None = Some (record { at = cursor.place; count = 16 })
+words_wanted fault memory pipe cursor (Some None) = None
+words_wanted fault memory pipe cursor (Some (Some words)) = trb_wanted_by fault memory pipe (control_in words)
 
 -- by the ring's end: its dequeue pointer where a byte of that isn't there
-abbrev pub front_wanted : Memory → ControlPipe → Option Cursor → Option Range
-front_wanted memory pipe None = Some (record { at = pipe.home; count = 8 })
-front_wanted memory pipe (Some cursor) = words_wanted memory pipe cursor (fetched memory cursor)
+abbrev pub front_wanted : Option ℕ → Memory → ControlPipe → Option Cursor → Option Range
+front_wanted fault memory pipe None = Some (record { at = pipe.home; count = 8 })
+front_wanted fault memory pipe (Some cursor) = words_wanted fault memory pipe cursor (fetched memory cursor)
 
-abbrev pub control_wanted : ControlWorld → Option Range
-control_wanted w = wanted_through (gate w.memory w.events w.pipe.consumer) w.events (front_wanted w.memory w.pipe (cursor_at w.memory w.pipe.home))
+abbrev pub control_wanted : Option ℕ → ControlWorld → Option Range
+control_wanted fault w =
+    wanted_through (gate w.memory w.events w.pipe.consumer) w.events (front_wanted fault w.memory w.pipe (cursor_at w.memory w.pipe.home))

@@ -9,7 +9,8 @@
 //!    goes on. Bytes to the device mean nothing.
 //! 3. A request that the disk refuses is a Stall Error at the Data Stage, or without data at the Status Stage; the endpoint halts.
 //! 4. A Setup Stage in place of another stage begins a new transfer. A Data or Status Stage without a Setup Stage is TRB Error.
-//! 5. Link, No Op and Event Data TRBs are those of any pipe, as `guest_pipes` has them, and so is a buffer that isn't there.
+//! 5. Where nothing answers on the bus, a TRB that moves bytes is told with what is left of it, and the endpoint halts.
+//! 6. Link, No Op and Event Data TRBs are those of any pipe, as `guest_pipes` has them, and so is a buffer that isn't there.
 //!
 //! What is promised: a step is one equation, `stepped` of specs/Steps.antt, over the memory's bytes, the event ring and the pipe, for any
 //! bytes; a step that is refused changes nothing. So are the calls by which the controller's commands change the pipe. It tells whether a
@@ -21,6 +22,7 @@ mod acts;
 mod pipe;
 mod stage;
 mod trb;
+mod unanswered;
 mod wanting;
 
 pub use pipe::{ControlPipe, Served};

@@ -9,7 +9,7 @@ ghost use Rattle.guest_memory.specs.rings.Ends.{cursor_in, fetched, looked};
 ghost use Rattle.xhci_control.specs.Stages.{is_restarted, left};
 ghost use Rattle.xhci_control.specs.Steps.{ControlWorld, asked, configured, consumer_in, control_stopped, cursor_at, data_ended, disabled, disk_reset, forgotten, front_at};
 ghost use Rattle.xhci_control.specs.Steps.{gave, gone_to, halt_reset, is_in_data, left_in, moved_by, moved_data, opened, rung_in, served_by, sets_address, stalled, stepped, stopped};
-ghost use Rattle.xhci_control.specs.Steps.{taken_by, taken_count, took, took_data, took_normal, took_other, took_setup, took_status, trb_ended, after, worked};
+ghost use Rattle.xhci_control.specs.Steps.{taken_by, taken_count, took, took_by, took_data, took_normal, took_other, took_setup, took_status, trb_ended, after, worked};
 
 use crate::stage::Stage;
 use crate::trb::{ControlTrb, read_control};
@@ -99,6 +99,13 @@ impl ControlPipe {
         ensures { result ≡ self.now.consumer.state }
     {
         self.consumer.state
+    }
+
+    /// Whether the disk is configured.
+    pub fn is_configured(&self) -> bool
+        ensures { result ≡ self.now.disk.configured }
+    {
+        self.disk.configured
     }
 
     /// Whether its TD in front was begun.
@@ -224,20 +231,22 @@ impl ControlPipe {
         }
     }
 
-    /// Takes the TRB in front, where there is one. Refused where a byte of the event's place, of the ring's end or of the TRB isn't there,
-    /// and then nothing changes.
+    /// Takes the TRB in front, where there is one. Where nothing answers on the bus, a TRB that moves bytes is told with the code of that
+    /// `fault`, and the endpoint halts. Refused where a byte of the event's place, of the ring's end or of the TRB isn't there, and then
+    /// nothing changes.
     pub fn step<M: GuestMemory>(
         &mut self,
         memory: &mut M,
         events: &mut EventRing,
+        fault: Option<u8>,
     ) -> Result<Served, Outside>
         ensures step { (record { memory = M.contents memory.new; events = events.new; pipe = self.new }, result_ok result)
-            ≡ stepped (record { memory = M.contents memory.old; events = events.old; pipe = self.old }) }
+            ≡ stepped fault (record { memory = M.contents memory.old; events = events.old; pipe = self.old }) }
         ensures same_loan { M.loan memory.new ≡ M.loan memory.old }
     {
         match self.consumer.gate(memory, events)? {
             Some(acted) => Ok(idle(acted)),
-            None => self.serve(memory, events),
+            None => self.serve(memory, events, fault),
         }
     }
 
@@ -245,15 +254,16 @@ impl ControlPipe {
         &mut self,
         memory: &mut M,
         events: &mut EventRing,
+        fault: Option<u8>,
     ) -> Result<Served, Outside>
         requires room { has_place (M.contents memory.old) events.old ≡ true }
         ensures step { (record { memory = M.contents memory.new; events = events.new; pipe = self.new }, result_ok result)
-            ≡ after (record { memory = M.contents memory.old; events = events.old; pipe = self.old }) (served_by (record { memory = M.contents memory.old; events = events.old; pipe = self.old }) (cursor_at (M.contents memory.old) self.old.home)) }
+            ≡ after (record { memory = M.contents memory.old; events = events.old; pipe = self.old }) (served_by fault (record { memory = M.contents memory.old; events = events.old; pipe = self.old }) (cursor_at (M.contents memory.old) self.old.home)) }
         ensures same_loan { M.loan memory.new ≡ M.loan memory.old }
     {
         let cursor = cursor_at(memory, self.home)?;
         let words = fetch(memory, cursor)?;
-        Ok(self.take_by(memory, events, cursor, words))
+        Ok(self.take_by(memory, events, cursor, words, fault))
     }
 
     fn take_by<M: GuestMemory>(
@@ -262,11 +272,12 @@ impl ControlPipe {
         events: &mut EventRing,
         cursor: Cursor,
         words: Option<Words>,
+        fault: Option<u8>,
     ) -> Served
         requires room { has_place (M.contents memory.old) events.old ≡ true }
         requires home { is_there (M.contents memory.old) self.old.home 8 ≡ true }
         ensures step { (record { memory = M.contents memory.new; events = events.new; pipe = self.new }, result)
-            ≡ taken_by (record { memory = M.contents memory.old; events = events.old; pipe = self.old }) cursor words }
+            ≡ taken_by fault (record { memory = M.contents memory.old; events = events.old; pipe = self.old }) cursor words }
         ensures same_loan { M.loan memory.new ≡ M.loan memory.old }
     {
         match words {
@@ -276,7 +287,30 @@ impl ControlPipe {
             }
             Some(words) => {
                 let front = front_at(self.home, cursor);
-                self.take(memory, events, front, read_control(words))
+                self.take_or_tell(memory, events, front, read_control(words), fault)
+            }
+        }
+    }
+
+    fn take_or_tell<M: GuestMemory>(
+        &mut self,
+        memory: &mut M,
+        events: &mut EventRing,
+        front: Front,
+        trb: ControlTrb,
+        fault: Option<u8>,
+    ) -> Served
+        requires room { has_place (M.contents memory.old) events.old ≡ true }
+        requires home { has_home (M.contents memory.old) front.home ≡ true }
+        ensures step { (record { memory = M.contents memory.new; events = events.new; pipe = self.new }, result)
+            ≡ took_by fault (record { memory = M.contents memory.old; events = events.old; pipe = self.old }) front trb }
+        ensures same_loan { M.loan memory.new ≡ M.loan memory.old }
+    {
+        match fault {
+            None => self.take(memory, events, front, trb),
+            Some(code) => {
+                self.tell_unanswered(memory, events, front, code, trb);
+                worked(false)
             }
         }
     }

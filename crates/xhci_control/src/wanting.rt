@@ -1,12 +1,12 @@
 //! What a step of endpoint 0 lacks, for a caller who copies in what is asked for.
-ghost use Rattle.std.specs.Prelude.{◌≡◌, ◌&&◌, None, is_some, true};
+ghost use Rattle.std.specs.Prelude.{◌≡◌, ℕ, ◌&&◌, Option, None, is_some, true};
 ghost use Rattle.guest_pipes.specs.Gate.{is_running};
 ghost use Rattle.guest_pipes.specs.Step.{World};
 ghost use Rattle.guest_memory.specs.declared.rings.context.Home.TheVariants.{Endpoint};
 ghost use Rattle.guest_memory.specs.rings.Ends.{fetched};
 ghost use Rattle.guest_memory.specs.rings.Wanted.{LacksIt, look_wanted, missing};
 ghost use Rattle.xhci_control.specs.Steps.{ControlWorld, control_stopped, cursor_at, stepped};
-ghost use Rattle.xhci_control.specs.Wanted.{control_wanted, data_wanted, front_wanted, given_range, moved_wanted, normal_wanted, other_wanted, trb_wanted, words_wanted};
+ghost use Rattle.xhci_control.specs.Wanted.{control_wanted, data_wanted, front_wanted, given_range, moved_wanted, normal_wanted, other_wanted, trb_wanted, trb_wanted_by, words_wanted};
 
 use crate::pipe::{ControlPipe, cursor_at};
 use crate::trb::{ControlTrb, read_control};
@@ -23,30 +23,40 @@ impl ControlPipe {
     }
 
     /// The first range that [`ControlPipe::step`] reads or writes of which a byte isn't there.
-    pub fn wants<M: GuestMemory>(&self, memory: &M, events: &EventRing) -> Option<Range>
-        ensures { result ≡ control_wanted (record { memory = M.contents memory.now; events = events.now; pipe = self.now }) }
+    pub fn wants<M: GuestMemory>(
+        &self,
+        memory: &M,
+        events: &EventRing,
+        fault: Option<u8>,
+    ) -> Option<Range>
+        ensures { result ≡ control_wanted fault (record { memory = M.contents memory.now; events = events.now; pipe = self.now }) }
     {
         match self.consumer.gate(memory, events) {
             Err(Outside) => Some(place_range(events)),
             Ok(Some(_)) => None,
-            Ok(None) => self.wants_front(memory),
+            Ok(None) => self.wants_front(memory, fault),
         }
     }
 
-    fn wants_front<M: GuestMemory>(&self, memory: &M) -> Option<Range>
-        ensures { result ≡ front_wanted (M.contents memory.now) self.now (cursor_at (M.contents memory.now) self.now.home) }
+    fn wants_front<M: GuestMemory>(&self, memory: &M, fault: Option<u8>) -> Option<Range>
+        ensures { result ≡ front_wanted fault (M.contents memory.now) self.now (cursor_at (M.contents memory.now) self.now.home) }
     {
         match cursor_at(memory, self.home) {
             Err(Outside) => Some(Range {
                 at: self.home,
                 count: 8,
             }),
-            Ok(cursor) => self.wants_words(memory, cursor),
+            Ok(cursor) => self.wants_words(memory, cursor, fault),
         }
     }
 
-    fn wants_words<M: GuestMemory>(&self, memory: &M, cursor: Cursor) -> Option<Range>
-        ensures { result ≡ words_wanted (M.contents memory.now) self.now cursor (fetched (M.contents memory.now) cursor) }
+    fn wants_words<M: GuestMemory>(
+        &self,
+        memory: &M,
+        cursor: Cursor,
+        fault: Option<u8>,
+    ) -> Option<Range>
+        ensures { result ≡ words_wanted fault (M.contents memory.now) self.now cursor (fetched (M.contents memory.now) cursor) }
     {
         match fetch(memory, cursor) {
             Err(Outside) => Some(Range {
@@ -54,7 +64,22 @@ impl ControlPipe {
                 count: 16,
             }),
             Ok(None) => None,
-            Ok(Some(words)) => self.wants_trb(memory, read_control(words)),
+            Ok(Some(words)) => self.wants_trb_by(memory, read_control(words), fault),
+        }
+    }
+
+    /// Where nothing answers on the bus no byte moves.
+    fn wants_trb_by<M: GuestMemory>(
+        &self,
+        memory: &M,
+        trb: ControlTrb,
+        fault: Option<u8>,
+    ) -> Option<Range>
+        ensures { result ≡ trb_wanted_by fault (M.contents memory.now) self.now trb }
+    {
+        match fault {
+            None => self.wants_trb(memory, trb),
+            Some(_) => None,
         }
     }
 
@@ -140,11 +165,11 @@ impl ControlPipe {
 
 /// Law: a step that lacks nothing isn't refused, and neither is what Stop Endpoint posts.
 pub fn what_lacks_nothing_is_taken()
-    ensures of_step { (w : ControlWorld) → control_wanted w ≡ None → is_some (stepped w).1 ≡ true }
+    ensures of_step { (fault : Option ℕ) (w : ControlWorld) → control_wanted fault w ≡ None → is_some (stepped fault w).1 ≡ true }
     ensures of_stop { (w : ControlWorld) → look_wanted w.memory (Endpoint w.pipe.home) ≡ None → is_some (control_stopped w) ≡ true }
 {}
 
 /// Law: what a step lacks isn't empty, and not all of it is there.
 pub fn what_is_wanted_is_not_there()
-    ensures { (w : ControlWorld) → LacksIt w.memory (control_wanted w) }
+    ensures { (fault : Option ℕ) (w : ControlWorld) → LacksIt w.memory (control_wanted fault w) }
 {}

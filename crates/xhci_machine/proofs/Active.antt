@@ -9,9 +9,8 @@ use Rattle.guest_memory.specs.rings.Events.{has_room}
 use Rattle.guest_tasks.specs.declared.GuestTasks.{GuestTasks}
 use Rattle.guest_tasks.specs.Active.{TasksAreActive, rested}
 use Rattle.guest_tasks.specs.Tasks.{tasks_kind}
-use Rattle.guest_pipes.specs.Gate.{is_running}
-use Rattle.guest_pipes.specs.Pipe.{has_stray}
-use Rattle.guest_transfers.specs.Orders.{data_stepped, pipe_of, stray_on}
+use Rattle.guest_transfers.specs.Orders.{data_stepped}
+use Rattle.guest_transfers.specs.Silent.{silent_command}
 use Rattle.guest_transfers.specs.Steps.{command_stepped, command_world, status_stepped}
 use Rattle.guest_transfers.specs.declared.control.StreamPipe.{StreamPipe}
 use Rattle.guest_transfers.specs.declared.control.StreamPipe.TheVariants.{Status, DataOut, DataIn}
@@ -21,13 +20,14 @@ use Rattle.xhci_control.specs.declared.pipe.Served.{Served}
 use Rattle.xhci_control.specs.Steps.{ControlWorld, stepped}
 use Rattle.xhci_machine.specs.declared.Machine.{Machine}
 use Rattle.xhci_machine.specs.declared.work.Worked.{Worked}
+use Rattle.xhci_machine.specs.Bus.{fault_in, is_silent, transaction_error}
 use Rattle.xhci_machine.specs.Contexts.{is_due}
 use Rattle.xhci_machine.specs.Laws.{IsFailed, IsLeftIdle, IsTaskIdle, come_to}
-use Rattle.xhci_machine.specs.Rounds.{Turning, command_pipe_stepped, control_stepped, control_world, data_of, front_turned, stray_stepped, noted_in, pipes_turned, port_in, restarted, ring_on, served, settled_in, stall_error, status_of, then_commands, then_control, then_stray, then_pipes, then_port, transfers_world, turned, with_control, with_stray, with_transfers}
+use Rattle.xhci_machine.specs.Rounds.{Turning, command_of, command_pipe_stepped, control_stepped, control_world, data_due, data_of, front_turned, is_stray, stray_of, stray_stepped, noted_in, pipes_turned, port_in, restarted, ring_on, served, settled_in, status_due, status_of, then_commands, then_control, then_stray, then_pipes, then_port, transfers_world, turned, with_control, with_stray, with_transfers}
 use Rattle.xhci_machine.specs.Steps.{commands_stepped}
 use Rattle.xhci_machine.specs.Turns.{World, detected, full_posted, has_full, interrupted, noted, port_posted, port_turned, settled, tells_port, told_of_port}
 use Rattle.xhci_machine.specs.Worked.{IsOver, RoundsTurned, RoundsWorked, busy_turned, dropped_at, gone_dropped, is_busy, is_gone, tag_by, tag_turned, tags_turned, then_status, then_tag, turned_if}
-use Rattle.xhci_machine.proofs.Device.{Moves, Receives, Sends, command_pipe_kept, data_kept, either, of_each, status_kept}
+use Rattle.xhci_machine.proofs.Device.{Moves, Receives, Sends, command_pipe_kept, data_kept, either, of_each, of_tags, status_kept}
 use Rattle.xhci_machine.proofs.Nothing.{nothing_of}
 use Rattle.xhci_machine.proofs.RingStep.{commands_kept}
 
@@ -80,9 +80,7 @@ module _ (P : GuestTasks → Type 0) where
   pub stray_kept : (w : World) (name : StreamPipe) → Holds w → Holds (stray_stepped w name).0
   unfolding stray_stepped
   stray_kept w name p =
-      let pipe = pipe_of w.machine.transfers name in
-      let step = with_stray w (stray_on stall_error w.memory w.events w.machine.transfers name) in
-      of_each (λ (x : World × Option Acted). Holds x.0) w (is_running pipe.state && has_stray pipe) step p p p
+      of_each (λ (x : World × Option Acted). Holds x.0) w (is_stray w.machine name) (with_stray w (stray_of w name)) p p p
 
   pub dropped_kept : (w : World) (tag : ℕ) → Holds w → Holds (dropped_at w tag)
   unfolding gone_dropped
@@ -109,9 +107,8 @@ module _ (P : GuestTasks → Type 0) (kept : KeptByAll P) where
   control_kept : (w : World) → Holds P w → Holds P (control_stepped w).0
   unfolding control_stepped
   control_kept w p =
-      let step = served w (stepped (control_world w)) in
-      of_each (λ (x : World × Option Acted). Holds P x.0) w (is_due w.machine.control.consumer) step p p
-      (served_kept w (stepped (control_world w)) p)
+      let done = stepped (fault_in w.machine) (control_world w) in
+      of_each (λ (x : World × Option Acted). Holds P x.0) w (is_due w.machine.control.consumer) (served w done) p p (served_kept w done p)
 
   pipe_kept : (w : World) → Holds P w → Holds P (command_pipe_stepped w).0
   unfolding command_pipe_stepped
@@ -122,12 +119,14 @@ module _ (P : GuestTasks → Type 0) (kept : KeptByAll P) where
         received = λ device p. kept.received device from.taken p;
         drawn = λ device buffer bytes is p. kept.received device (from.taken ++ bytes) p;
       } in
+      let silent = with_stray w (silent_command transaction_error w.memory w.events w.machine.transfers) in
       let step = with_transfers w (command_stepped tasks_kind (transfers_world w)) in
-      of_each (λ (x : World × Option Acted). Holds P x.0) w (is_due w.machine.transfers.command) step p p
-      (command_pipe_kept tasks_kind P P (transfers_world w) receives p)
+      of_each (λ (x : World × Option Acted). Holds P x.0) w (is_due w.machine.transfers.command) (command_of w) p p
+      (either (λ (x : World × Option Acted). Holds P x.0) (is_silent w.machine) silent step p
+      (command_pipe_kept tasks_kind P P (transfers_world w) receives p))
 
   data_of_kept : (w : World) (tag : ℕ) → Holds P w → Holds P (data_of w tag).0
-  unfolding data_of
+  unfolding data_of data_due
   data_of_kept w tag p =
       let moves : Moves tasks_kind tag P P = record {
         stays = λ device p. p;
@@ -135,15 +134,15 @@ module _ (P : GuestTasks → Type 0) (kept : KeptByAll P) where
         took = λ device bytes p. kept.took device tag bytes p;
       } in
       let step = with_transfers w (data_stepped tasks_kind (transfers_world w) tag) in
-      of_each (λ (x : World × Option Acted). Holds P x.0) w (is_due (ring_on w.machine DataIn tag) || is_due (ring_on w.machine DataOut tag)) step p p
+      of_tags (λ (x : World × Option Acted). Holds P x.0) w (is_due (ring_on w.machine DataIn tag) || is_due (ring_on w.machine DataOut tag)) step p p
       (data_kept tasks_kind tag P P moves (transfers_world w) p)
 
   status_of_kept : (w : World) (tag : ℕ) → Holds P w → Holds P (status_of w tag).0
-  unfolding status_of
+  unfolding status_of status_due
   status_of_kept w tag p =
       let sends : Sends tasks_kind tag P P = record { stays = λ device p. p; sent = λ device p. kept.sent device tag p } in
       let step = with_transfers w (status_stepped tasks_kind (transfers_world w) tag) in
-      of_each (λ (x : World × Option Acted). Holds P x.0) w (is_due (ring_on w.machine Status tag)) step p p
+      of_tags (λ (x : World × Option Acted). Holds P x.0) w (is_due (ring_on w.machine Status tag)) step p p
       (status_kept tasks_kind tag P P sends (transfers_world w) p)
 
   port_then : (t : Turning) → Holds P t.0.0 → Holds P (then_port t).0.0

@@ -33,7 +33,8 @@ use Rattle.xhci_machine.specs.declared.ring.Ended.{Ended}
 use Rattle.xhci_machine.specs.Commands.{command_in}
 use Rattle.xhci_machine.specs.Orders.{begun_in, begun_told, dequeue_in, endpoint_of, halt_ended, moved, order_coded, order_done, order_on, pointer_set, reset_in, ring_stopped, state_in, stop_by, stop_done, stop_in, stop_told_from, stopped_on, stream_moved, stream_success, told_from, told_or_not, with_dequeue, with_next, with_ring, with_slot, with_success}
 use Rattle.xhci_registers.specs.Writes.{has_slots}
-use Rattle.xhci_machine.specs.Ring.{changed, command_changed, command_cursor, commanded, control_changed, ended, is_enable, on_slot_done, pipe_changed}
+use Rattle.xhci_machine.specs.Bus.{transaction_error}
+use Rattle.xhci_machine.specs.Ring.{changed, command_changed, command_cursor, commanded, control_changed, ended, is_enable, is_unanswered, on_slot_done, pipe_changed}
 use Rattle.xhci_machine.specs.Steps.{command_ended, command_taken, commands_stepped, endpoint_command_taken, endpoint_ended, fetched_taken, front_taken, link_followed, slot_command_taken, slot_ended, stop_posted, taken_by, through, told_and_stood, with_done, worked_if}
 use Rattle.xhci_machine.specs.Turns.{World}
 use Rattle.xhci_machine.proofs.Device.{either}
@@ -108,10 +109,12 @@ module _ (P : GuestTasks → Type 0) where
   unfolding on_slot_done
   on_slot_kept memory m slot command p =
       let done = option_map (commanded m slot command) (executed (record { memory = memory; slot = m.slot }) m.registers.contexts command) in
-      let given = cond (is_enable command && not (has_slots m.registers)) (Some (let none : Memory × (Machine × Ended) = (memory, (m, ended 9 0)) in none)) done in
+      let sent = cond (is_unanswered memory m command) (Some (let none : Memory × (Machine × Ended) = (memory, (m, ended transaction_error slot)) in none)) done in
+      let given = cond (is_enable command && not (has_slots m.registers)) (Some (let none : Memory × (Machine × Ended) = (memory, (m, ended 9 0)) in none)) sent in
       either IfDone (not (slot == 1) && not (is_enable command)) (Some (memory, (m, ended 11 slot))) given p
-      (either IfDone (is_enable command && not (has_slots m.registers)) (Some (memory, (m, ended 9 0))) done p
-      (slot_kept m slot command (executed (record { memory = memory; slot = m.slot }) m.registers.contexts command) p))
+      (either IfDone (is_enable command && not (has_slots m.registers)) (Some (memory, (m, ended 9 0))) sent p
+      (either IfDone (is_unanswered memory m command) (Some (memory, (m, ended transaction_error slot))) done p
+      (slot_kept m slot command (executed (record { memory = memory; slot = m.slot }) m.registers.contexts command) p)))
 
   slot_over : (w : World) (cursor : Cursor) (done : Option (Memory × (Machine × Ended))) → Holds w → IfDone done → Holds (slot_ended w cursor done).0
   slot_over w cursor None p after = p

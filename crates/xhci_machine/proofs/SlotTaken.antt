@@ -23,7 +23,8 @@ use Rattle.xhci_registers.specs.Writes.{has_slots}
 use Rattle.xhci_machine.specs.declared.Machine.{Machine}
 use Rattle.xhci_machine.specs.declared.ring.Ended.{Ended}
 use Rattle.xhci_machine.specs.Lacking.{slot_world}
-use Rattle.xhci_machine.specs.Ring.{commanded, ended, is_enable, on_slot_done}
+use Rattle.xhci_machine.specs.Bus.{transaction_error}
+use Rattle.xhci_machine.specs.Ring.{commanded, ended, is_enable, is_unanswered, on_slot_done}
 use Rattle.xhci_machine.specs.Steps.{command_ended, slot_ended, told_and_stood, with_done}
 use Rattle.xhci_machine.specs.Turns.{World}
 
@@ -155,19 +156,27 @@ slot_done executes memory m slot command events place none = by_test (slot == 1)
       map_stays m slot command events _ (slot_stays (slot_world memory m) m.registers.contexts command events place),
     )
 
+    sent : (unanswered : Bool) → slot_wanted (slot_world memory m) m.registers.contexts command ≡ None
+        → SlotIsDone events (if unanswered then Some (memory, (m, ended transaction_error slot))
+        else option_map (commanded m slot command) (executed (slot_world memory m) m.registers.contexts command))
+    sent true lacks = (refl, place)
+    sent false lacks = runs lacks
+
     given : (refused : Bool) → slot_wanted (slot_world memory m) m.registers.contexts command ≡ None
         → SlotIsDone events (if refused then Some (memory, (m, ended 9 0))
+        else if is_unanswered memory m command then Some (memory, (m, ended transaction_error slot))
         else option_map (commanded m slot command) (executed (slot_world memory m) m.registers.contexts command))
     given true lacks = (refl, place)
-    given false lacks = runs lacks
+    given false lacks = sent (is_unanswered memory m command) lacks
 
     by_test : (one enables : Bool) → is_enable command ≡ enables
         → (if one then slot_wanted (slot_world memory m) m.registers.contexts command else None) ≡ None
         → SlotIsDone events (if not one && not enables then Some (memory, (m, ended 11 slot))
         else if enables && not (has_slots m.registers) then Some (memory, (m, ended 9 0))
+        else if is_unanswered memory m command then Some (memory, (m, ended transaction_error slot))
         else option_map (commanded m slot command) (executed (slot_world memory m) m.registers.contexts command))
     by_test true true is lacks = given (not (has_slots m.registers)) lacks
-    by_test true false is lacks = runs lacks
+    by_test true false is lacks = sent (is_unanswered memory m command) lacks
     by_test false true is lacks =
         given (not (has_slots m.registers)) (enable_wants m.slot.state (slot_world memory m) m.registers.contexts command is)
     by_test false false is lacks = (refl, place)

@@ -26,7 +26,8 @@ use Rattle.xhci_machine.specs.Ring.{command_cursor, ended, has_command, on_slot_
 use Rattle.xhci_machine.specs.Steps.{command_taken, commands_stepped, endpoint_command_taken, fetched_taken, front_taken, link_followed}
 use Rattle.xhci_machine.specs.Steps.{slot_command_taken, stop_posted, through, worked_if}
 use Rattle.xhci_machine.specs.Turns.{World}
-use Rattle.xhci_machine.specs.Contexts.{context_wanted, in_context, is_asleep, is_due, of_endpoint}
+use Rattle.xhci_machine.specs.Bus.{is_silent}
+use Rattle.xhci_machine.specs.Contexts.{context_wanted, in_context, is_asleep, is_due, of_endpoint, of_tag}
 use Rattle.xhci_machine.specs.Wanted.{Look, acts, acts_in_context, commands_looked, lacks_nothing, needs, place_wanted, ring_wanted}
 use Rattle.xhci_machine.specs.Wanted.{then_look}
 use Rattle.xhci_machine.proofs.OrdersTaken.{order_ends}
@@ -67,6 +68,15 @@ of_there w due step there is = by_port (is_asleep w.machine)
     by_port : (asleep : Bool) → is_some (if asleep then (w, Some Idle) else in_context w due step).1 ≡ true
     by_port true = refl
     by_port false = in_there w due step there is
+
+-- and of a tag, which has none while nothing serves the pipes
+pub of_tag_there : (w : World) (due : Bool) (step : World × Option Acted) → (due ≡ true → context_wanted w.memory w.machine.slot ≡ None)
+    → is_some step.1 ≡ true → is_some (of_tag w (of_endpoint w due step)).1 ≡ true
+of_tag_there w due step there is = by_bus (is_silent w.machine)
+  where
+    by_bus : (silent : Bool) → is_some (if silent then (w, Some Idle) else of_endpoint w due step).1 ≡ true
+    by_bus true = refl
+    by_bus false = of_there w due step there is
 
 -- a turn that is due needs the context
 pub needs_context : (due : Bool) (memory : Memory) (m : Machine) (wanted : Option Range)

@@ -13,18 +13,20 @@ use Rattle.guest_tasks.specs.Tasks.{tasks_kind}
 use Rattle.guest_transfers.specs.declared.control.StreamPipe.{StreamPipe}
 use Rattle.guest_transfers.specs.declared.control.StreamPipe.TheVariants.{Status, DataOut, DataIn}
 use Rattle.guest_transfers.specs.Orders.{data_stepped, pipe_of, stray_on}
+use Rattle.guest_transfers.specs.Silent.{next_rung, rung_wanted, silent_command, silent_command_wanted, silent_on, silent_wanted}
 use Rattle.guest_transfers.specs.State.{TransfersState, TransfersWorld}
 use Rattle.guest_transfers.specs.Steps.{command_stepped, status_stepped}
 use Rattle.guest_transfers.specs.Wanted.{command_wanted, data_wanted, invalid_wanted, lone_wanted, status_wanted, stray_wanted}
 use Rattle.xhci_control.specs.declared.pipe.Served.{Served}
 use Rattle.xhci_control.specs.Steps.{ControlWorld, stepped}
 use Rattle.xhci_control.specs.Wanted.{control_wanted}
-use Rattle.xhci_machine.specs.Rounds.{command_pipe_stepped, control_stepped, control_world, data_of, ring_on, served, stall_error, status_of, stray_stepped, transfers_world}
+use Rattle.xhci_machine.specs.Bus.{fault_in, is_silent, transaction_error}
+use Rattle.xhci_machine.specs.Rounds.{command_pipe_stepped, control_stepped, control_world, data_due, data_of, has_rung, is_stray, ring_on, served, stall_error, status_due, status_of, stray_stepped, transfers_world, with_stray, with_transfers}
 use Rattle.xhci_machine.specs.Turns.{World}
 use Rattle.xhci_machine.specs.Contexts.{context_wanted, is_due}
-use Rattle.xhci_machine.specs.Wanted.{acts_on_data, acts_on_status, command_pipe_looked, control_looked, lacks_nothing, needs, stray_looked}
+use Rattle.xhci_machine.specs.Wanted.{acts_on_data, acts_on_status, command_pipe_looked, command_pipe_wanted, control_looked, lacks_nothing, needs, stray_looked, stray_wanted_of}
 use Rattle.xhci_machine.specs.Wanted.{tag_context_wanted, tag_looked, then_look, unless}
-use Rattle.xhci_machine.proofs.Taken.{idle_gate, needs_context, needs_nothing, of_there, wants_nothing}
+use Rattle.xhci_machine.proofs.Taken.{idle_gate, needs_context, needs_nothing, of_tag_there, of_there, wants_nothing}
 
 -- ENDPOINT 0
 
@@ -32,26 +34,43 @@ serves : (w : World) (done : ControlWorld × Option Served) → is_some done.1 �
 serves w (after, None) is = absurd (false≢true is)
 serves w (after, Some how) is = refl
 
-pub control_taken : ((w : ControlWorld) → control_wanted w ≡ None → is_some (stepped w).1 ≡ true)
+pub control_taken : ((fault : Option ℕ) (w : ControlWorld) → control_wanted fault w ≡ None → is_some (stepped fault w).1 ≡ true)
     → (w : World) → lacks_nothing (control_looked w.memory w.machine w.events) ≡ true → is_some (control_stepped w).1 ≡ true
 unfolding control_looked control_stepped
 control_taken law w is =
     let due : Bool = is_due w.machine.control.consumer in
-    of_there w due _ (needs_context due w.memory w.machine (control_wanted (control_world w)) is)
-    (serves w (stepped (control_world w)) (law (control_world w)
-    (wants_nothing due w.memory w.machine (control_wanted (control_world w))
+    let fault = fault_in w.machine in
+    of_there w due _ (needs_context due w.memory w.machine (control_wanted fault (control_world w)) is)
+    (serves w (stepped fault (control_world w)) (law fault (control_world w)
+    (wants_nothing due w.memory w.machine (control_wanted fault (control_world w))
     (idle_gate w.memory w.events w.machine.control.consumer _) is)))
 
 -- THE PIPES
 
 pub command_pipe_taken : ((w : TransfersWorld GuestTasks) → command_wanted tasks_kind w ≡ None → is_some (command_stepped tasks_kind w).1 ≡ true)
+    → ((memory : Memory) (events : EventEnd) (t : TransfersState) → silent_command_wanted memory events t.command t.home ≡ None
+    → is_some (silent_command transaction_error memory events t).1.1.1 ≡ true)
     → (w : World) → lacks_nothing (command_pipe_looked w.memory w.machine w.events) ≡ true → is_some (command_pipe_stepped w).1 ≡ true
 unfolding command_pipe_looked command_pipe_stepped
-command_pipe_taken law w is =
+command_pipe_taken law silent_law w is =
     let due : Bool = is_due w.machine.transfers.command in
-    let wanted = command_wanted tasks_kind (transfers_world w) in
+    let wanted = command_pipe_wanted w.memory w.machine w.events in
     of_there w due _ (needs_context due w.memory w.machine wanted is)
-    (law (transfers_world w) (wants_nothing due w.memory w.machine wanted (idle_gate w.memory w.events w.machine.transfers.command _) is))
+    (by_kind (is_silent w.machine) (wants_nothing due w.memory w.machine wanted (idle (is_silent w.machine)) is))
+  where
+    idle : (silent : Bool) → is_due w.machine.transfers.command ≡ false
+        → (if silent then silent_command_wanted w.memory w.events w.machine.transfers.command w.machine.transfers.home
+        else command_wanted tasks_kind (transfers_world w)) ≡ None
+    idle true rests = idle_gate w.memory w.events w.machine.transfers.command _ rests
+    idle false rests = idle_gate w.memory w.events w.machine.transfers.command _ rests
+
+    by_kind : (silent : Bool)
+        → (if silent then silent_command_wanted w.memory w.events w.machine.transfers.command w.machine.transfers.home
+        else command_wanted tasks_kind (transfers_world w)) ≡ None
+        → is_some (if silent then with_stray w (silent_command transaction_error w.memory w.events w.machine.transfers)
+        else with_transfers w (command_stepped tasks_kind (transfers_world w))).1 ≡ true
+    by_kind true none = silent_law w.memory w.events w.machine.transfers none
+    by_kind false none = law (transfers_world w) none
 
 not_stray : (memory : Memory) (events : EventEnd) (p : PipeState) → (is_running p.state && has_stray p) ≡ false → stray_wanted memory events p ≡ None
 not_stray memory events p rests = by_kind (p.streams == 0) rests
@@ -61,16 +80,48 @@ not_stray memory events p rests = by_kind (p.streams == 0) rests
     by_kind true rests = idle_gate memory events (loaded p 0) _ rests
     by_kind false rests = ap (λ (b : Bool). if b then wanted_through (room_gate memory events) events None else None) rests
 
+less : (runs stray rung : Bool) → (runs && (stray || rung)) ≡ false → (runs && stray) ≡ false
+less false stray rung rests = refl
+less true false rung rests = refl
+less true true rung rests = absurd (false≢true (sym rests))
+
+off : (runs stray rung : Bool) → (runs && (stray || true)) ≡ false → (runs && rung) ≡ false
+off false stray rung rests = refl
+off true false rung rests = absurd (false≢true (sym rests))
+off true true rung rests = absurd (false≢true (sym rests))
+
+not_rung : (memory : Memory) (events : EventEnd) (p : PipeState) → (is_running p.state && has_rung p) ≡ false → silent_wanted memory events p ≡ None
+not_rung memory events p rests = by_kind (p.streams == 0 || p.invalid) (next_rung p) rests
+  where
+    by_kind : (stray : Bool) (stream : Option ℕ) → (is_running p.state && (has_stray p || is_some stream)) ≡ false
+        → (if stray then stray_wanted memory events p else rung_wanted memory events p stream) ≡ None
+    by_kind true stream rests = not_stray memory events p (less (is_running p.state) (has_stray p) (is_some stream) rests)
+    by_kind false None rests = refl
+    by_kind false (Some stream) rests =
+        idle_gate memory events (loaded p stream) _ (off (is_running p.state) (has_stray p) (rung_on p stream) rests)
+
 pub stray_taken : ((memory : Memory) (events : EventEnd) (t : TransfersState) (name : StreamPipe) → stray_wanted memory events (pipe_of t name) ≡ None
     → is_some (stray_on stall_error memory events t name).1.1.1 ≡ true)
+    → ((memory : Memory) (events : EventEnd) (t : TransfersState) (name : StreamPipe) → silent_wanted memory events (pipe_of t name) ≡ None
+    → is_some (silent_on transaction_error memory events t name).1.1.1 ≡ true)
     → (w : World) (name : StreamPipe) → lacks_nothing (stray_looked w.memory w.machine w.events name) ≡ true → is_some (stray_stepped w name).1 ≡ true
 unfolding stray_looked stray_stepped
-stray_taken law w name is =
-    let pipe = pipe_of w.machine.transfers name in
-    let due : Bool = is_running pipe.state && has_stray pipe in
-    let wanted = stray_wanted w.memory w.events pipe in
+stray_taken law silent_law w name is =
+    let due : Bool = is_stray w.machine name in
+    let wanted = stray_wanted_of w.memory w.machine w.events name in
     of_there w due _ (needs_context due w.memory w.machine wanted is)
-    (law w.memory w.events w.machine.transfers name (wants_nothing due w.memory w.machine wanted (not_stray w.memory w.events pipe) is))
+    (by_kind (is_silent w.machine) (wants_nothing due w.memory w.machine wanted (idle (is_silent w.machine)) is))
+  where
+    idle : (silent : Bool) → (is_running (pipe_of w.machine.transfers name).state && (if silent then has_rung (pipe_of w.machine.transfers name) else has_stray (pipe_of w.machine.transfers name))) ≡ false
+        → (if silent then silent_wanted w.memory w.events (pipe_of w.machine.transfers name) else stray_wanted w.memory w.events (pipe_of w.machine.transfers name)) ≡ None
+    idle true rests = not_rung w.memory w.events (pipe_of w.machine.transfers name) rests
+    idle false rests = not_stray w.memory w.events (pipe_of w.machine.transfers name) rests
+
+    by_kind : (silent : Bool) → (if silent then silent_wanted w.memory w.events (pipe_of w.machine.transfers name) else stray_wanted w.memory w.events (pipe_of w.machine.transfers name)) ≡ None
+        → is_some (if silent then silent_on transaction_error w.memory w.events w.machine.transfers name
+        else stray_on stall_error w.memory w.events w.machine.transfers name).1.1.1 ≡ true
+    by_kind true none = silent_law w.memory w.events w.machine.transfers name none
+    by_kind false none = law w.memory w.events w.machine.transfers name none
 
 -- A TAG
 
@@ -90,24 +141,24 @@ due_last false false false wanted none due = absurd (false≢true due)
 
 pub data_taken : ((w : TransfersWorld GuestTasks) (tag : ℕ) → data_wanted tasks_kind w tag ≡ None → is_some (data_stepped tasks_kind w tag).1 ≡ true)
     → (w : World) (tag : ℕ) → lacks_nothing (tag_looked w.memory w.machine w.events tag) ≡ true → is_some (data_of w tag).1 ≡ true
-unfolding tag_looked data_of
+unfolding tag_looked data_of data_due
 data_taken law w tag is =
     let parts = needs_nothing (tag_context_wanted w.memory w.machine tag) _ is in
     let data_in : Bool = is_due (ring_on w.machine DataIn tag) in
     let data_out : Bool = is_due (ring_on w.machine DataOut tag) in
-    of_there w (data_in || data_out) _
+    of_tag_there w (data_in || data_out) _
     (due_in data_in data_out (is_due (ring_on w.machine Status tag)) (context_wanted w.memory w.machine.slot) parts.0)
     (law (transfers_world w) tag (needs_nothing (data_wanted tasks_kind (transfers_world w) tag) _ parts.1).0)
 
 pub status_taken : ((w : TransfersWorld GuestTasks) (tag : ℕ) → status_wanted tasks_kind w tag ≡ None → is_some (status_stepped tasks_kind w tag).1 ≡ true)
     → (w : World) (tag : ℕ) → lacks_nothing (tag_looked w.memory w.machine w.events tag) ≡ true → acts_on_data w.memory w.machine tag ≡ false
     → is_some (status_of w tag).1 ≡ true
-unfolding tag_looked status_of
+unfolding tag_looked status_of status_due
 status_taken law w tag is idle =
     let parts = needs_nothing (tag_context_wanted w.memory w.machine tag) _ is in
     let last = (needs_nothing (data_wanted tasks_kind (transfers_world w) tag) _ parts.1).1 in
     let status : Bool = is_due (ring_on w.machine Status tag) in
-    of_there w status _
+    of_tag_there w status _
     (due_last (is_due (ring_on w.machine DataIn tag)) (is_due (ring_on w.machine DataOut tag)) status (context_wanted w.memory w.machine.slot) parts.0)
     (law (transfers_world w) tag (by_test (acts_on_data w.memory w.machine tag) idle last))
   where

@@ -3,6 +3,7 @@ pub mod Access
 pub mod Effects
 pub mod Commands
 pub mod Interrupter
+pub mod Bus
 pub mod Ring
 pub mod Turns
 pub mod Contexts

@@ -1,5 +1,5 @@
 -- The command ring: where it stands, its events, and what a command on the slot makes of the whole controller (xHCI 1.2, 4.6 and 4.9.3).
-use Rattle.std.specs.Prelude.{ℕ, ◌+◌, ◌*◌, ◌%◌, ◌^◌, ◌==◌, min, Bool, true, false, not, ◌&&◌, ◌||◌, if◌then◌else◌, Option, Some, option_map}
+use Rattle.std.specs.Prelude.{ℕ, ◌+◌, ◌*◌, ◌%◌, ◌^◌, ◌==◌, min, Bool, true, false, not, ◌&&◌, ◌||◌, if◌then◌else◌, Option, Some, None, option_map}
 use Rattle.guest_memory.specs.Bytes.{Memory}
 use Rattle.guest_memory.specs.declared.rings.cursor.Cursor.{Cursor}
 use Rattle.guest_transfers.specs.declared.control.StreamPipe.{StreamPipe}
@@ -14,11 +14,15 @@ use Rattle.xhci_slots.specs.declared.Code.TheVariants.{Success, NoSlotsAvailable
 use Rattle.xhci_slots.specs.declared.Done.{Done}
 use Rattle.xhci_slots.specs.declared.SlotCommand.{SlotCommand}
 use Rattle.xhci_slots.specs.declared.SlotCommand.TheVariants.{Enable, Disable, Address, Configure, Evaluate, Reset}
-use Rattle.xhci_slots.specs.Slots.{World as SlotWorld, executed}
+use Rattle.xhci_slots.specs.declared.contexts.InputContext.{InputContext}
+use Rattle.xhci_slots.specs.declared.contexts.SlotState.{SlotState}
+use Rattle.xhci_slots.specs.contexts.Inputs.{input_at, is_bad_address}
+use Rattle.xhci_slots.specs.Slots.{World as SlotWorld, executed, may_address}
 use Rattle.xhci_registers.specs.Writes.{has_slots}
 use Rattle.xhci_machine.specs.declared.Machine.{Machine}
 use Rattle.xhci_machine.specs.declared.ring.Ended.{Ended}
 use Rattle.xhci_machine.specs.declared.states.States.{States}
+use Rattle.xhci_machine.specs.Bus.{is_cut, transaction_error}
 use Rattle.xhci_machine.specs.Effects.{dropped}
 
 -- WHERE IT STANDS
@@ -138,11 +142,31 @@ commanded m slot command after = (
   (changed (record m { slot = after.0.slot }) after.1.changes, ended (code_number after.1.code) (slot_told slot command after.1.code)),
 )
 
+-- an input context that is there and isn't bad, of a slot that may be addressed
+abbrev pub is_good_input : Option InputContext → Bool
+is_good_input None = false
+is_good_input (Some input) = not (is_bad_address input)
+
+abbrev pub is_addressable : Memory → ℕ → Option SlotState → Bool
+is_addressable memory input None = false
+is_addressable memory input (Some state) = may_address state false && is_good_input (input_at memory input)
+
+-- Address Device without BSR sends a request, and nothing answers at the port (4.6.5)
+abbrev pub is_unanswered : Memory → Machine → SlotCommand → Bool
+is_unanswered memory m Enable = false
+is_unanswered memory m Disable = false
+is_unanswered memory m (Address input true) = false
+is_unanswered memory m (Address input false) = is_cut m && is_addressable memory input m.slot.state
+is_unanswered memory m (Configure input deconfigures) = false
+is_unanswered memory m (Evaluate input) = false
+is_unanswered memory m Reset = false
+
 -- Memory, the whole controller, and how the command ended: of another slot than 1 all but Enable Slot end with Slot Not Enabled, and Enable
--- Slot with No Slots Available where CONFIG enables none. None:
+-- Slot with No Slots Available where CONFIG enables none; a request that nothing answers is USB Transaction Error, and changes nothing. None:
 -- memory that the command needs isn't there
 unfoldable pub on_slot_done : Memory → Machine → ℕ → SlotCommand → Option (Memory × (Machine × Ended))
 on_slot_done memory m slot command =
     if not (slot == 1) && not (is_enable command) then Some (memory, (m, ended 11 slot))
     else if is_enable command && not (has_slots m.registers) then Some (memory, (m, ended 9 0))
+    else if is_unanswered memory m command then Some (memory, (m, ended transaction_error slot))
     else option_map (commanded m slot command) (executed (record { memory = memory; slot = m.slot }) m.registers.contexts command)

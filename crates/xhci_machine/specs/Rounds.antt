@@ -1,25 +1,27 @@
 -- The steps that a round takes in turns, beside the port's and the command ring's: endpoint 0, the command pipe, doorbells that no tag's turn
 -- serves, and a tag's data and status, each once the device context is tested. None of what a step did, and the Bool false: memory isn't
 -- there, and nothing behind that is done.
-use Rattle.std.specs.Prelude.{ℕ, ◌-◌, ◌==◌, Bool, true, false, ◌&&◌, ◌||◌, if◌then◌else◌, Option, Some, None}
+use Rattle.std.specs.Prelude.{ℕ, ◌-◌, ◌==◌, Bool, true, false, ◌&&◌, ◌||◌, if◌then◌else◌, Option, Some, None, is_some}
 use Rattle.guest_memory.specs.Bytes.{Memory}
 use Rattle.guest_pipes.specs.declared.acted.Acted.{Acted}
 use Rattle.guest_pipes.specs.declared.consumer.Consumer.{Consumer}
 use Rattle.guest_pipes.specs.Gate.{is_running}
-use Rattle.guest_pipes.specs.Pipe.{has_stray, loaded}
+use Rattle.guest_pipes.specs.Pipe.{PipeState, has_stray, loaded}
 use Rattle.guest_memory.specs.rings.Events.{EventEnd}
 use Rattle.guest_tasks.specs.declared.GuestTasks.{GuestTasks}
 use Rattle.guest_tasks.specs.Tasks.{tasks_kind}
 use Rattle.guest_transfers.specs.declared.control.StreamPipe.{StreamPipe}
 use Rattle.guest_transfers.specs.declared.control.StreamPipe.TheVariants.{Status, DataOut, DataIn}
 use Rattle.guest_transfers.specs.Orders.{data_stepped, stray_on, pipe_of, tags_cleared}
+use Rattle.guest_transfers.specs.Silent.{next_rung, silent_command, silent_on}
 use Rattle.guest_transfers.specs.State.{TransfersState, TransfersWorld}
 use Rattle.guest_transfers.specs.Steps.{command_stepped, status_stepped}
 use Rattle.uas_tasks.specs.Machine.{tasks_ended}
 use Rattle.xhci_control.specs.declared.pipe.Served.{Served}
 use Rattle.xhci_control.specs.Steps.{ControlWorld, stepped}
 use Rattle.xhci_machine.specs.declared.Machine.{Machine}
-use Rattle.xhci_machine.specs.Contexts.{of_endpoint, is_due}
+use Rattle.xhci_machine.specs.Bus.{fault_in, is_silent, transaction_error}
+use Rattle.xhci_machine.specs.Contexts.{is_due, of_endpoint, of_tag}
 use Rattle.xhci_machine.specs.Steps.{commands_stepped}
 use Rattle.xhci_machine.specs.Turns.{World, left_after, noted, port_turned, settled, tells_port}
 
@@ -66,9 +68,9 @@ served w (after, None) = (with_control w after, None)
 served w (after, Some how) = (restarted how.restarted (with_control w after), Some how.acted)
 
 unfoldable pub control_stepped : World → World × Option Acted
-control_stepped w = of_endpoint w (is_due w.machine.control.consumer) (served w (stepped (control_world w)))
+control_stepped w = of_endpoint w (is_due w.machine.control.consumer) (served w (stepped (fault_in w.machine) (control_world w)))
 
--- A DOORBELL THAT NO TAG'S TURN SERVES: of a stream that isn't there, or of a pipe without streams
+-- A DOORBELL THAT NO TAG'S TURN SERVES: of a stream that isn't there, of a pipe without streams, or any while nothing serves the pipes
 
 -- The disk has no ring without streams: a TD there is told with Stall Error (table 6-90).
 abbrev pub stall_error : ℕ
@@ -77,10 +79,22 @@ stall_error = 6
 abbrev pub with_stray : World → Memory × (EventEnd × (TransfersState × Option Acted)) → World × Option Acted
 with_stray w after = (record { memory = after.0; events = after.1.0; machine = record w.machine { transfers = after.1.1.0 } }, after.1.1.1)
 
+-- whether its step looks at it
+abbrev pub has_rung : PipeState → Bool
+has_rung p = has_stray p || is_some (next_rung p)
+
+abbrev pub is_stray : Machine → StreamPipe → Bool
+is_stray m name =
+    is_running (pipe_of m.transfers name).state
+    && (if is_silent m then has_rung (pipe_of m.transfers name) else has_stray (pipe_of m.transfers name))
+
+abbrev pub stray_of : World → StreamPipe → Memory × (EventEnd × (TransfersState × Option Acted))
+stray_of w name =
+    if is_silent w.machine then silent_on transaction_error w.memory w.events w.machine.transfers name
+    else stray_on stall_error w.memory w.events w.machine.transfers name
+
 unfoldable pub stray_stepped : World → StreamPipe → World × Option Acted
-stray_stepped w name =
-    of_endpoint w (is_running (pipe_of w.machine.transfers name).state && has_stray (pipe_of w.machine.transfers name))
-    (with_stray w (stray_on stall_error w.memory w.events w.machine.transfers name))
+stray_stepped w name = of_endpoint w (is_stray w.machine name) (with_stray w (stray_of w name))
 
 -- THE PIPES OF THE TASKS
 
@@ -97,22 +111,34 @@ with_transfers w after = (
   after.1,
 )
 
+-- the command pipe, which nothing may serve
+abbrev pub command_of : World → World × Option Acted
+command_of w =
+    if is_silent w.machine then with_stray w (silent_command transaction_error w.memory w.events w.machine.transfers)
+    else with_transfers w (command_stepped tasks_kind (transfers_world w))
+
 unfoldable pub command_pipe_stepped : World → World × Option Acted
-command_pipe_stepped w =
-    of_endpoint w (is_due w.machine.transfers.command) (with_transfers w (command_stepped tasks_kind (transfers_world w)))
+command_pipe_stepped w = of_endpoint w (is_due w.machine.transfers.command) (command_of w)
 
 -- one ring of a tag
 abbrev pub ring_on : Machine → StreamPipe → ℕ → Consumer
 ring_on m name tag = loaded (pipe_of m.transfers name) tag
 
-unfoldable pub data_of : World → ℕ → World × Option Acted
-data_of w tag =
+-- a tag's data and its status, where something serves the pipes
+unfoldable pub data_due : World → ℕ → World × Option Acted
+data_due w tag =
     of_endpoint w (is_due (ring_on w.machine DataIn tag) || is_due (ring_on w.machine DataOut tag))
     (with_transfers w (data_stepped tasks_kind (transfers_world w) tag))
 
-unfoldable pub status_of : World → ℕ → World × Option Acted
-status_of w tag =
+unfoldable pub data_of : World → ℕ → World × Option Acted
+data_of w tag = of_tag w (data_due w tag)
+
+unfoldable pub status_due : World → ℕ → World × Option Acted
+status_due w tag =
     of_endpoint w (is_due (ring_on w.machine Status tag)) (with_transfers w (status_stepped tasks_kind (transfers_world w) tag))
+
+unfoldable pub status_of : World → ℕ → World × Option Acted
+status_of w tag = of_tag w (status_due w tag)
 
 -- A ROUND, UP TO THE TAGS: each turn comes while memory is there
 

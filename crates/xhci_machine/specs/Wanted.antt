@@ -8,8 +8,7 @@ use Rattle.guest_memory.specs.rings.Ends.{looked}
 use Rattle.guest_memory.specs.rings.Events.{EventEnd, has_room}
 use Rattle.guest_memory.specs.rings.Wanted.{missing}
 use Rattle.guest_pipes.specs.declared.consumer.Consumer.{Consumer}
-use Rattle.guest_pipes.specs.Gate.{is_running}
-use Rattle.guest_pipes.specs.Pipe.{has_stray, home_of}
+use Rattle.guest_pipes.specs.Pipe.{home_of}
 use Rattle.guest_pipes.specs.Wanted.{place_range}
 use Rattle.guest_tags.specs.declared.buffer.Buffer.{Buffer}
 use Rattle.guest_tags.specs.declared.device.Phase.{Phase}
@@ -22,7 +21,8 @@ use Rattle.guest_transfers.specs.declared.control.StreamPipe.{StreamPipe}
 use Rattle.guest_transfers.specs.declared.control.StreamPipe.TheVariants.{Status, DataOut, DataIn}
 use Rattle.guest_transfers.specs.Orders.{pipe_of}
 use Rattle.guest_transfers.specs.State.{TransfersWorld, slot_of}
-use Rattle.guest_transfers.specs.Wanted.{command_wanted as pipe_wanted, data_wanted, stray_wanted, status_wanted}
+use Rattle.guest_transfers.specs.Wanted.{command_wanted as pipe_wanted, data_wanted, status_wanted, stray_wanted}
+use Rattle.guest_transfers.specs.Silent.{silent_command_wanted, silent_wanted}
 use Rattle.marks.specs.Marks.{is_marked}
 use Rattle.xhci_control.specs.Wanted.{control_wanted}
 use Rattle.xhci_registers.specs.Signals.{detecting}
@@ -33,11 +33,12 @@ use Rattle.xhci_machine.specs.declared.interrupts.Seen.TheVariants.{Lacks as Lac
 use Rattle.xhci_machine.specs.declared.states.States.{States}
 use Rattle.xhci_machine.specs.declared.wanting.End.{End}
 use Rattle.xhci_machine.specs.declared.wanting.End.TheVariants.{Lacks, Acts}
+use Rattle.xhci_machine.specs.Bus.{fault_in, is_silent}
 use Rattle.xhci_machine.specs.Contexts.{context_wanted, is_asleep, is_due}
 use Rattle.xhci_machine.specs.Interrupter.{seen}
 use Rattle.xhci_machine.specs.Lacking.{command_wanted}
 use Rattle.xhci_machine.specs.Ring.{has_command, states_of}
-use Rattle.xhci_machine.specs.Rounds.{ring_on}
+use Rattle.xhci_machine.specs.Rounds.{is_stray, ring_on}
 use Rattle.xhci_machine.specs.Turns.{same_state}
 use Rattle.xhci_machine.specs.Worked.{is_busy, is_gone}
 
@@ -96,21 +97,30 @@ commands_looked memory m events =
 -- endpoint 0
 unfoldable pub control_looked : Memory → Machine → EventEnd → Look
 control_looked memory m events =
-    if is_due m.control.consumer then acts_in_context memory m (control_wanted (record { memory = memory; events = events; pipe = m.control })) else Ok tt
+    if is_due m.control.consumer then acts_in_context memory m (control_wanted (fault_in m) (record { memory = memory; events = events; pipe = m.control }))
+    else Ok tt
 
 abbrev pub transfers_at : Memory → Machine → EventEnd → TransfersWorld GuestTasks
 transfers_at memory m events = record { memory = memory; events = events; transfers = m.transfers; device = m.device }
 
 -- the command pipe
+abbrev pub command_pipe_wanted : Memory → Machine → EventEnd → Option Range
+command_pipe_wanted memory m events =
+    if is_silent m then silent_command_wanted memory events m.transfers.command m.transfers.home
+    else pipe_wanted tasks_kind (transfers_at memory m events)
+
 unfoldable pub command_pipe_looked : Memory → Machine → EventEnd → Look
 command_pipe_looked memory m events =
-    if is_due m.transfers.command then acts_in_context memory m (pipe_wanted tasks_kind (transfers_at memory m events)) else Ok tt
+    if is_due m.transfers.command then acts_in_context memory m (command_pipe_wanted memory m events) else Ok tt
 
 -- a doorbell that no tag's turn serves
+abbrev pub stray_wanted_of : Memory → Machine → EventEnd → StreamPipe → Option Range
+stray_wanted_of memory m events name =
+    if is_silent m then silent_wanted memory events (pipe_of m.transfers name) else stray_wanted memory events (pipe_of m.transfers name)
+
 unfoldable pub stray_looked : Memory → Machine → EventEnd → StreamPipe → Look
 stray_looked memory m events name =
-    if is_running (pipe_of m.transfers name).state && has_stray (pipe_of m.transfers name)
-    then acts_in_context memory m (stray_wanted memory events (pipe_of m.transfers name)) else Ok tt
+    if is_stray m name then acts_in_context memory m (stray_wanted_of memory m events name) else Ok tt
 
 -- A TAG'S TURN
 
@@ -206,7 +216,7 @@ endpoints_looked memory m events =
     (then_look (stray_looked memory m events Status)
     (then_look (stray_looked memory m events DataOut)
     (then_look (stray_looked memory m events DataIn)
-    (tags_looked memory m events 241)))))
+    (if is_silent m then Ok tt else tags_looked memory m events 241)))))
 
 -- while the port is suspended none of those is due
 unfoldable pub turns_looked : Memory → Machine → EventEnd → Look

@@ -22,6 +22,8 @@
 //! 6. A tag whose request is at the backend waits; no other tag does.
 //! 7. A pipe without streams has one ring, whose end is in the endpoint context. The disk serves none: a TD there is told with Stall Error.
 //! 8. While the port is suspended no endpoint has a step, and doorbells wait.
+//! 9. A disk that was pulled, or whose port is disabled, answers nothing: a TD is told with USB Transaction Error and what is left of it, its
+//!    ring stays there, and the endpoint halts; so does Address Device end. Of a disk that isn't configured that goes for the pipes.
 //!
 //! What is promised: every call is safe and total, for any bytes in memory, any register access and any order; no step takes memory
 //! ([`Machine::new`] takes all). A read is `read_of`, and the interrupt's pin `is_asserted`. Of the whole machine, a write is `page_done`, with

@@ -12,6 +12,7 @@ ghost use Rattle.xhci_machine.specs.Steps.{command_ended, command_taken, command
 use crate::Machine;
 use crate::command::{Command, Order, read_command};
 use crate::interrupts::post;
+use crate::steps::TRANSACTION_ERROR;
 use guest_memory::rings::{Cursor, Event, EventRing, fetch};
 use guest_memory::{GuestMemory, Outside};
 use guest_pipes::{Acted, room_gate};
@@ -327,6 +328,9 @@ impl Machine {
         }
         if matches!(command, SlotCommand::Enable) && !self.registers.has_slots() {
             return Ok(end_with(NO_SLOTS_AVAILABLE, 0));
+        }
+        if self.is_unanswered(memory, command) {
+            return Ok(end_with(TRANSACTION_ERROR, slot));
         }
         let array = self.registers.contexts;
         let done = self.slot.execute(memory, array, command)?;

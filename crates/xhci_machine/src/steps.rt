@@ -1,23 +1,101 @@
 //! The steps of endpoint 0, of the command pipe, for a doorbell that no tag's turn serves, and of a tag. While the port is suspended none
-//! of them is due. Each tests the device context before it does anything, as it may change an endpoint's state there, and is refused where
+//! of them is due, and none of a tag while nothing serves the pipes. Each tests the device context before it does anything, as it may change an endpoint's state there, and is refused where
 //! memory that it needs isn't there.
 ghost use Rattle.std.specs.Prelude.{◌≡◌, ◌<◌, is_ok, not};
 ghost use Rattle.std.specs.Result.{result_ok};
 ghost use Rattle.xhci_machine.specs.Contexts.{is_asleep, lacks_context};
-ghost use Rattle.xhci_machine.specs.Rounds.{command_pipe_stepped, control_stepped, data_of, stray_stepped, status_of};
+ghost use Rattle.xhci_machine.specs.Bus.{fault_in, is_cut, is_silent};
+ghost use Rattle.xhci_machine.specs.Ring.{is_addressable, is_unanswered};
+ghost use Rattle.xhci_machine.specs.Rounds.{command_pipe_stepped, control_stepped, data_due, data_of, is_stray, status_due, status_of, stray_stepped};
 
 use crate::Machine;
 use crate::wanting::is_due;
 use guest_memory::rings::EventRing;
 use guest_memory::{GuestMemory, Outside};
 use guest_pipes::Acted;
-use guest_transfers::StreamPipe;
+use guest_transfers::{StreamPipe, next_rung};
 use xhci_registers::Link;
+use xhci_slots::SlotCommand;
+use xhci_slots::contexts::{InputContext, SlotState};
 
 /// Completion code of a TD in a ring without streams, which the disk doesn't have (table 6-90).
 const STALL_ERROR: u8 = 6;
 
+/// USB Transaction Error (table 6-90): nothing answers on the bus.
+pub(crate) const TRANSACTION_ERROR: u8 = 4;
+
 impl Machine {
+    /// Whether nothing answers at the port: no device is connected, or the port isn't enabled.
+    pub(crate) fn is_cut(&self) -> bool
+        ensures { result ≡ is_cut self.now }
+    {
+        !(self.registers.port.connected && self.registers.port.enabled)
+    }
+
+    /// Whether nothing serves the pipes: the disk isn't configured either.
+    pub(crate) fn is_silent(&self) -> bool
+        ensures { result ≡ is_silent self.now }
+    {
+        self.is_cut() || !self.control.is_configured()
+    }
+
+    /// What endpoint 0's TDs are told with where nothing answers.
+    pub(crate) fn fault(&self) -> Option<u8>
+        ensures { result ≡ fault_in self.now }
+    {
+        if self.is_cut() {
+            Some(TRANSACTION_ERROR)
+        } else {
+            None
+        }
+    }
+
+    /// Whether it is an Address Device without BSR, whose request nothing answers at the port (4.6.5).
+    pub(crate) fn is_unanswered<M: GuestMemory>(&self, memory: &M, command: SlotCommand) -> bool
+        ensures { result ≡ is_unanswered (M.contents memory.now) self.now command }
+    {
+        match command {
+            SlotCommand::Address {
+                input,
+                blocked: false,
+            } => self.is_cut() && self.is_addressable(memory, input),
+            SlotCommand::Enable
+            | SlotCommand::Disable
+            | SlotCommand::Address { .. }
+            | SlotCommand::Configure { .. }
+            | SlotCommand::Evaluate { .. }
+            | SlotCommand::Reset => false,
+        }
+    }
+
+    /// Whether the slot may be addressed, by an input context that is there and isn't bad.
+    fn is_addressable<M: GuestMemory>(&self, memory: &M, input: u64) -> bool
+        ensures { result ≡ is_addressable (M.contents memory.now) input self.now.slot.state }
+    {
+        match self.slot.state {
+            Some(SlotState::Enabled | SlotState::Default) => {
+                match InputContext::read(memory, input) {
+                    Ok(read) => !read.is_bad_address(),
+                    Err(Outside) => false,
+                }
+            }
+            None | Some(SlotState::Addressed | SlotState::Configured) => false,
+        }
+    }
+
+    /// Whether a doorbell of a pipe is looked at that no tag's turn serves: any where nothing serves the pipes.
+    pub(crate) fn is_stray(&self, name: StreamPipe) -> bool
+        ensures { result ≡ is_stray self.now name }
+    {
+        let pipe = self.transfers.pipe(name);
+        pipe.state().runs()
+            && if self.is_silent() {
+                pipe.has_stray() || next_rung(pipe).is_some()
+            } else {
+                pipe.has_stray()
+            }
+    }
+
     /// Whether the port is suspended: no endpoint has a step then, and the doorbells stay (4.15.1).
     pub(crate) fn is_asleep(&self) -> bool
         ensures { result ≡ is_asleep self.now }
@@ -58,7 +136,8 @@ impl Machine {
             return Ok(Acted::Idle);
         }
         self.test_context(memory, events, self.control.is_due())?;
-        let served = self.control.step(memory, events)?;
+        let fault = self.fault();
+        let served = self.control.step(memory, events, fault)?;
         if served.restarted {
             self.device.end_tasks();
             self.transfers.clear_tags();
@@ -80,8 +159,13 @@ impl Machine {
             return Ok(Acted::Idle);
         }
         self.test_context(memory, events, is_due(&self.transfers.command()))?;
-        self.transfers
-            .step_command(memory, events, &mut self.device)
+        if self.is_silent() {
+            self.transfers
+                .step_silent_command(memory, events, TRANSACTION_ERROR)
+        } else {
+            self.transfers
+                .step_command(memory, events, &mut self.device)
+        }
     }
 
     #[tactic(auto, unfolding(crate::specs::Rounds::stray_stepped))]
@@ -99,9 +183,13 @@ impl Machine {
         if self.is_asleep() {
             return Ok(Acted::Idle);
         }
-        let pipe = self.transfers.pipe(name);
-        self.test_context(memory, events, pipe.state().runs() && pipe.has_stray())?;
-        self.transfers.step_stray(memory, events, name, STALL_ERROR)
+        self.test_context(memory, events, self.is_stray(name))?;
+        if self.is_silent() {
+            self.transfers
+                .step_silent(memory, events, name, TRANSACTION_ERROR)
+        } else {
+            self.transfers.step_stray(memory, events, name, STALL_ERROR)
+        }
     }
 
     #[tactic(auto, unfolding(crate::specs::Rounds::data_of))]
@@ -114,6 +202,24 @@ impl Machine {
         requires { tag < 241 }
         ensures stepped { (record { memory = M.contents memory.new; events = events.new; machine = self.new }, result_ok result)
             ≡ data_of (record { memory = M.contents memory.old; events = events.old; machine = self.old }) tag }
+        ensures same_loan { M.loan memory.new ≡ M.loan memory.old }
+    {
+        if self.is_silent() {
+            return Ok(Acted::Idle);
+        }
+        self.step_data_due(memory, events, tag)
+    }
+
+    #[tactic(auto, unfolding(crate::specs::Rounds::data_due))]
+    fn step_data_due<M: GuestMemory>(
+        &mut self,
+        memory: &mut M,
+        events: &mut EventRing,
+        tag: u16,
+    ) -> Result<Acted, Outside>
+        requires { tag < 241 }
+        ensures stepped { (record { memory = M.contents memory.new; events = events.new; machine = self.new }, result_ok result)
+            ≡ data_due (record { memory = M.contents memory.old; events = events.old; machine = self.old }) tag }
         ensures same_loan { M.loan memory.new ≡ M.loan memory.old }
     {
         if self.is_asleep() {
@@ -136,6 +242,24 @@ impl Machine {
         requires { tag < 241 }
         ensures stepped { (record { memory = M.contents memory.new; events = events.new; machine = self.new }, result_ok result)
             ≡ status_of (record { memory = M.contents memory.old; events = events.old; machine = self.old }) tag }
+        ensures same_loan { M.loan memory.new ≡ M.loan memory.old }
+    {
+        if self.is_silent() {
+            return Ok(Acted::Idle);
+        }
+        self.step_status_due(memory, events, tag)
+    }
+
+    #[tactic(auto, unfolding(crate::specs::Rounds::status_due))]
+    fn step_status_due<M: GuestMemory>(
+        &mut self,
+        memory: &mut M,
+        events: &mut EventRing,
+        tag: u16,
+    ) -> Result<Acted, Outside>
+        requires { tag < 241 }
+        ensures stepped { (record { memory = M.contents memory.new; events = events.new; machine = self.new }, result_ok result)
+            ≡ status_due (record { memory = M.contents memory.old; events = events.old; machine = self.old }) tag }
         ensures same_loan { M.loan memory.new ≡ M.loan memory.old }
     {
         if self.is_asleep() {

@@ -9,12 +9,10 @@
 //! hides none of those.
 ghost use Rattle.std.specs.Prelude.{◌≡◌, ◌<◌, None, IfSome, false};
 ghost use Rattle.guest_memory.specs.Bytes.{is_there};
-ghost use Rattle.xhci_machine.specs.Wanted.{acts, acts_for, acts_in, acts_on_data, acts_on_status, acts_out, busy_looked, command_pipe_looked};
-ghost use Rattle.xhci_machine.specs.Wanted.{commands_looked};
+ghost use Rattle.xhci_machine.specs.Wanted.{acts, acts_for, acts_in, acts_on_data, acts_on_status, acts_out, busy_looked, command_pipe_looked, commands_looked};
 ghost use Rattle.xhci_machine.specs.Contexts.{context_wanted, is_due};
 ghost use Rattle.xhci_machine.specs.Wanted.{control_looked, endpoints_looked, has_due_ring, stray_looked, is_ended, is_giving, is_taking};
-ghost use Rattle.xhci_machine.specs.Wanted.{keeps_chunk, needs, port_looked, ring_looked, round_looked, same_states, tag_context_wanted, tag_looked};
-ghost use Rattle.xhci_machine.specs.Wanted.{tags_looked, told_wanted, turns_looked, unless, wanted};
+ghost use Rattle.xhci_machine.specs.Wanted.{keeps_chunk, needs, port_looked, ring_looked, round_looked, same_states, tag_context_wanted, tag_looked, tags_looked, told_wanted, turns_looked, unless, wanted};
 ghost use Rattle.xhci_machine.specs.Interrupter.{seen};
 ghost use Rattle.xhci_machine.specs.Ring.{states_of};
 ghost use Rattle.xhci_machine.specs.Turns.{same_state};
@@ -187,6 +185,9 @@ impl Machine {
         self.look_stray(memory, events, StreamPipe::Status)?;
         self.look_stray(memory, events, StreamPipe::DataOut)?;
         self.look_stray(memory, events, StreamPipe::DataIn)?;
+        if self.is_silent() {
+            return Ok(());
+        }
         self.look_tags(memory, events)
     }
 
@@ -238,7 +239,7 @@ impl Machine {
             return Ok(());
         }
         needs(self.wants_context(memory))?;
-        acts(self.control.wants(memory, events))
+        acts(self.control.wants(memory, events, self.fault()))
     }
 
     #[tactic(auto, unfolding(crate::specs::Wanted::command_pipe_looked))]
@@ -249,7 +250,7 @@ impl Machine {
             return Ok(());
         }
         needs(self.wants_context(memory))?;
-        acts(self.transfers.wants_command(memory, events, &self.device))
+        acts(self.wants_command_pipe(memory, events))
     }
 
     #[tactic(auto, unfolding(crate::specs::Wanted::stray_looked))]
@@ -261,12 +262,11 @@ impl Machine {
     ) -> Result<(), End>
         ensures { result ≡ stray_looked (M.contents memory.now) self.now events.now name }
     {
-        let pipe = self.transfers.pipe(name);
-        if !(pipe.state().runs() && pipe.has_stray()) {
+        if !self.is_stray(name) {
             return Ok(());
         }
         needs(self.wants_context(memory))?;
-        acts(self.transfers.wants_stray(memory, events, name))
+        acts(self.wants_stray(memory, events, name))
     }
 
     /// The active tags, up to the one that acts.

@@ -28,6 +28,9 @@ static void registers(void)
     SAME(get(0x48), 1);
     uas_xhci_set_frame(xhci, 0x1234);
     SAME(get(0x600), 0x1234);
+    SAME(get(0x624), 4000); /* IMODI at a reset; IMODC isn't kept */
+    set(0x624, 0x123400a0);
+    SAME(get(0x624), 0xa0);
 }
 
 /* Resets the controller, gives it its rings, and runs it: port 2 tells that the disk is there. */

@@ -77,14 +77,15 @@ enum {
     UAS_XHCI_CALL_REQUEST = 8,
     UAS_XHCI_CALL_DATA = 9,
     UAS_XHCI_CALL_ANSWERED = 10,
-    UAS_XHCI_CALL_STALE = 11
+    UAS_XHCI_CALL_STALE = 11,
+    UAS_XHCI_CALL_HOST_ERROR = 12
 };
 
 /* What goes in and comes out beside the bytes, where a call has it. */
 struct uas_xhci_door {
     uint8_t call;    /* in: UAS_XHCI_CALL_... */
     uint8_t width;   /* in of READ, WRITE: 1, 2, 4 or 8 */
-    uint8_t good;    /* out of INTERRUPT, MESSAGE, REQUEST: 1 where there is one */
+    uint8_t good;    /* out of INTERRUPT, MESSAGE, REQUEST, HOST_ERROR: 1 where there is one */
     uint8_t kind;    /* out of REQUEST: UAS_REQUEST_... */
     uint8_t through; /* out of REQUEST: 1 where a write is to be on the medium when it is done */
     uint8_t outcome; /* in of ANSWERED: UAS_DONE and its like */
@@ -168,6 +169,9 @@ bool uas_xhci_interrupt(uas_xhci *xhci);
 
 /* Whether a message is to be sent, at the same places: true once where the pin would be asserted, and clears IP. */
 bool uas_xhci_take_message(uas_xhci *xhci);
+
+/* Whether the system is to be told of an error of its own (PCI's SERR#): USBSTS.HSE and USBCMD.HSEE. To be looked at after each work. */
+bool uas_xhci_host_error(uas_xhci *xhci);
 
 /* ---- The disk and the function ---- */
 

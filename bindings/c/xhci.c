@@ -125,6 +125,13 @@ bool uas_xhci_take_message(uas_xhci *xhci)
     return door.good != 0;
 }
 
+bool uas_xhci_host_error(uas_xhci *xhci)
+{
+    struct uas_xhci_door door = { .call = UAS_XHCI_CALL_HOST_ERROR };
+    call(xhci, &door, NULL, 0);
+    return door.good != 0;
+}
+
 void uas_xhci_plug(uas_xhci *xhci, bool attached)
 {
     struct uas_xhci_door door = { .call = UAS_XHCI_CALL_PLUG, .value = attached };

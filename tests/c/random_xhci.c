@@ -151,6 +151,7 @@ static void call(void)
         uas_xhci_read(xhci, draw(10) ? draw(PAGE) : any(), (uint8_t)(draw(10) ? 1u << draw(4) : any()));
         if (uas_xhci_interrupt(xhci))
             check(uas_xhci_take_message(xhci) && !uas_xhci_interrupt(xhci), "a message didn't clear the interrupt");
+        check(uas_xhci_host_error(xhci) == (uas_xhci_read(xhci, 0x44, 4) >> 2 & uas_xhci_read(xhci, 0x40, 4) >> 3 & 1), "HSE and HSEE tell another error");
         break;
     case 9:
         if (draw(30) == 0)

@@ -75,6 +75,7 @@ module _ (machine : Machine) (door : UasXhciDoor) (bytes : List ℕ) where
       either (λ after. Whole (with_bytes bytes after)) (answered_with machine door bytes) (outcome_numbered door.outcome) _ (refl, λ some. refl)
       (λ outcome. told _)
   named calls.Stale = done _ _ bytes
+  named calls.HostError = done _ _ bytes
 
   pub calls_are_whole : Whole (after_call machine door bytes)
   calls_are_whole = either Whole (after_named machine door bytes) (call_numbered door.call) _ (refl, λ some. refl) named

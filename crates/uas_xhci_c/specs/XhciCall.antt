@@ -18,7 +18,7 @@ use Rattle.uas_tasks.specs.declared.Request.TheVariants as requests
 use Rattle.uas_tasks.specs.Machine.{Machine as Tasks, answered, bytes_out, next_of, stale_after}
 use Rattle.xhci_registers.specs.declared.Width.{Width}
 use Rattle.xhci_registers.specs.declared.Width.TheVariants as widths
-use Rattle.xhci_registers.specs.Signals.{is_asserted, messaged}
+use Rattle.xhci_registers.specs.Signals.{is_asserted, messaged, tells_host_error}
 use Rattle.xhci_registers.specs.Words.{read_of}
 use Rattle.xhci_registers.specs.Writes.{reset_registers}
 use Rattle.xhci_machine.specs.declared.Machine.{Machine}
@@ -133,12 +133,16 @@ after_answer machine door bytes =
 abbrev pub after_stale : Machine → UasXhciDoor → DoorAfter Machine UasXhciDoor
 after_stale machine door = (0, (machine, record door { number = unwrap_or (stale_after machine.device.tasks door.number) 0 }))
 
+-- HOST_ERROR (12): whether the system is to be told of an error of its own
+abbrev pub after_host_error : Machine → UasXhciDoor → DoorAfter Machine UasXhciDoor
+after_host_error machine door = (0, (machine, record door { good = yes (tells_host_error machine.registers) }))
+
 -- CALLS
 
 abbrev pub call_numbered : ℕ → Option Call
 call_numbered =
     numbered ((1, calls.Read) ∷ (2, calls.Write) ∷ (3, calls.Interrupt) ∷ (4, calls.Message) ∷ (5, calls.Plug) ∷ (6, calls.Frame) ∷ (7, calls.Reset)
-    ∷ (8, calls.Request) ∷ (9, calls.Data) ∷ (10, calls.Answered) ∷ (11, calls.Stale) ∷ [])
+    ∷ (8, calls.Request) ∷ (9, calls.Data) ∷ (10, calls.Answered) ∷ (11, calls.Stale) ∷ (12, calls.HostError) ∷ [])
 
 abbrev pub after_named : Machine → UasXhciDoor → List ℕ → Call → After Machine UasXhciDoor
 after_named machine door bytes calls.Read = with_bytes bytes (after_read machine door)
@@ -152,6 +156,7 @@ after_named machine door bytes calls.Request = with_bytes bytes (after_request m
 after_named machine door bytes calls.Data = after_data machine door bytes
 after_named machine door bytes calls.Answered = with_bytes bytes (after_answer machine door bytes)
 after_named machine door bytes calls.Stale = with_bytes bytes (after_stale machine door)
+after_named machine door bytes calls.HostError = with_bytes bytes (after_host_error machine door)
 
 -- a call of a number that is none is refused
 abbrev pub after_call : Machine → UasXhciDoor → List ℕ → After Machine UasXhciDoor

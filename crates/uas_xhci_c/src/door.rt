@@ -17,7 +17,7 @@ pub struct UasXhciDoor {
     pub call: u8,
     /// Of READ and WRITE: 1, 2, 4 or 8 bytes.
     pub width: u8,
-    /// Out of INTERRUPT and MESSAGE: 1 where there is one; of REQUEST: 1 where one is out newly.
+    /// Out of INTERRUPT, MESSAGE and HOST_ERROR: 1 where there is one; of REQUEST: 1 where one is out newly.
     pub good: u8,
     /// Out of REQUEST: 1 reads, 2 writes, 3 compares, 4 verifies, 5 brings to the medium.
     pub kind: u8,
@@ -68,6 +68,7 @@ enum Call {
     Data,
     Answered,
     Stale,
+    HostError,
 }
 
 fn call_numbered(number: u8) -> Option<Call>
@@ -85,6 +86,7 @@ fn call_numbered(number: u8) -> Option<Call>
         9 => Some(Call::Data),
         10 => Some(Call::Answered),
         11 => Some(Call::Stale),
+        12 => Some(Call::HostError),
         _ => None,
     }
 }
@@ -148,6 +150,10 @@ pub(crate) fn serve(kept: &mut KeptXhci, door: &mut UasXhciDoor, bytes: &mut [u8
         Call::Data => show_data(machine, door, bytes),
         Call::Answered => answer(machine, door, bytes),
         Call::Stale => show_stale(machine, door),
+        Call::HostError => {
+            door.good = u8::from(machine.host_error());
+            0
+        }
     }
 }
 

@@ -2,7 +2,7 @@
 ghost use Rattle.std.specs.Prelude.{◌≡◌, ℕ, ◌<◌, ◌≤◌, ◌%◌, IfOk, IfSome, IfNone, option_copied, true, false};
 ghost use Rattle.guest_tasks.specs.Active.{IsIdle, TasksAreActive, asks_on};
 ghost use Rattle.uas_tasks.specs.Machine.{answered, bytes_out, has_task, next_of, stale_after};
-ghost use Rattle.xhci_registers.specs.Signals.{is_asserted, messaged};
+ghost use Rattle.xhci_registers.specs.Signals.{is_asserted, messaged, tells_host_error};
 ghost use Rattle.xhci_registers.specs.Words.{read_of};
 ghost use Rattle.xhci_registers.specs.Writes.{reset_registers};
 ghost use Rattle.xhci_machine.specs.Access.{both_set, page_written, word_set};
@@ -169,6 +169,13 @@ impl Machine {
         ensures registers { self.new ≡ record self.old { registers = messaged self.old.registers } }
     {
         self.registers.take_message()
+    }
+
+    /// Whether the system is to be told of an error of its own, out of band (PCI's SERR#): USBSTS.HSE and USBCMD.HSEE.
+    pub fn host_error(&self) -> bool
+        ensures { result ≡ tells_host_error self.now.registers }
+    {
+        self.registers.tells_host_error()
     }
 
     /// The next request to the backend that isn't out yet; it is out from then on.

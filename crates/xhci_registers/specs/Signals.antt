@@ -23,6 +23,10 @@ messaged registers =
 abbrev pub failed : Registers → Registers
 failed registers = record registers { host_error = true; runs = false; command_ring = record registers.command_ring { runs = false } }
 
+-- 5.4.1, 5.4.2: HSE and HSEE, which a system is told out of band
+abbrev pub tells_host_error : Registers → Bool
+tells_host_error registers = registers.host_error && registers.host_error_interrupts
+
 -- the port is this one now; where it owes an event that it didn't owe, PCD is set
 abbrev pub with_port : Registers → Port → Registers
 with_port registers port =

@@ -25,7 +25,7 @@ reset_registers attached = record {
   empty_port_wake = no_wake;
   port = idle_port attached;
   frame_index = 0;
-  interrupter = record { pending = false; enabled = false; moderation = 0; table_size = 0; table = 0; dequeue = 0; segment = 0; busy = false };
+  interrupter = record { pending = false; enabled = false; moderation = 4000; table_size = 0; table = 0; dequeue = 0; segment = 0; busy = false };
 }
 
 -- CONFIG's MaxSlotsEn, bits 7:0: slot 1 is enabled where it isn't 0 (5.4.7)
@@ -124,7 +124,7 @@ ports_written registers at value =
 abbrev pub runtime_written : Registers → ℕ → ℕ → Registers × Effect
 runtime_written registers at value =
     if at == 0x620 then only (management_written registers value)
-    else (if at == 0x624 then only (record registers { interrupter = record registers.interrupter { moderation = value } })
+    else (if at == 0x624 then only (record registers { interrupter = record registers.interrupter { moderation = field value 0 0x10000 } })
     else (if at == 0x628 then only (record registers { interrupter = record registers.interrupter { table_size = field value 0 0x10000 } })
     else (if at == 0x630 then (record registers { interrupter = record registers.interrupter { table = with_low registers.interrupter.table (multiple value 64) } }, EventRing)
     else (if at == 0x634 then (record registers { interrupter = record registers.interrupter { table = with_high registers.interrupter.table value } }, EventRing)

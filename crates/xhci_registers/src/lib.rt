@@ -85,8 +85,8 @@ pub struct Interrupter {
     pub pending: bool,
     /// IE.
     pub enabled: bool,
-    /// IMOD, which is kept; interrupts aren't moderated (own).
-    pub moderation: u32,
+    /// IMODI, the least time between two interrupts, in 250 ns; it is kept, and interrupts aren't moderated (own). IMODC is 0.
+    pub moderation: u16,
     /// ERSTSZ.
     pub table_size: u16,
     /// ERSTBA.

@@ -135,7 +135,7 @@ impl Registers {
         match at {
             0x600 => u32::from(self.frame_index),
             0x620 => self.management_word(),
-            0x624 => self.interrupter.moderation,
+            0x624 => u32::from(self.interrupter.moderation),
             0x628 => u32::from(self.interrupter.table_size),
             0x630 => low(self.interrupter.table),
             0x634 => high(self.interrupter.table),

@@ -1,6 +1,6 @@
 //! What the controller itself sets in its registers.
 ghost use Rattle.std.specs.Prelude.{◌≡◌};
-ghost use Rattle.xhci_registers.specs.Signals.{detecting, failed, is_asserted, is_detecting, messaged, plugged, raised, told, with_port};
+ghost use Rattle.xhci_registers.specs.Signals.{detecting, failed, is_asserted, is_detecting, messaged, plugged, raised, tells_host_error, told, with_port};
 
 use crate::{Port, Registers};
 
@@ -33,6 +33,13 @@ impl Registers {
             self.interrupter.pending = false;
         }
         asserted
+    }
+
+    /// Whether the system is to be told of an error of its own, out of band (PCI's SERR#): HSE and HSEE.
+    pub fn tells_host_error(&self) -> bool
+        ensures { result ≡ tells_host_error self.now }
+    {
+        self.host_error && self.host_error_interrupts
     }
 
     /// Memory of the controller's own data structures isn't there: HSE is set, and the controller stops (4.24).

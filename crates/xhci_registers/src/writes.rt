@@ -7,6 +7,11 @@ ghost use Rattle.xhci_registers.specs.Writes.{status_written, word_written};
 use crate::bits::{field, is_set, multiple, with_high, with_low};
 use crate::{CommandRing, Effect, Interrupter, Port, Registers, Wake};
 
+/// IMODI at a reset (5.5.2.2): 1 ms.
+const MODERATION_AT_RESET: u16 = 4000;
+
+const _: () = prove!(MODERATION_AT_RESET == 4000);
+
 impl Registers {
     /// As a reset of the controller leaves them. The disk is plugged in, or isn't.
     pub fn new(attached: bool) -> Registers
@@ -36,7 +41,7 @@ impl Registers {
             interrupter: Interrupter {
                 pending: false,
                 enabled: false,
-                moderation: 0,
+                moderation: MODERATION_AT_RESET,
                 table_size: 0,
                 table: 0,
                 dequeue: 0,
@@ -107,7 +112,7 @@ impl Registers {
     {
         match at {
             0x620 => self.write_management(value),
-            0x624 => self.interrupter.moderation = value,
+            0x624 => self.interrupter.moderation = field(value, 0, 0x10000) as u16,
             0x628 => self.interrupter.table_size = field(value, 0, 0x10000) as u16,
             0x630 => {
                 self.interrupter.table = with_low(self.interrupter.table, multiple(value, 64));

@@ -57,8 +57,8 @@ enum {
  * Faults: UAS_UNITS, UAS_BLOCKS, UAS_TASKS_BLOCK_BYTES, UAS_TASKS_SERIAL, UAS_TASKS_SET, UAS_TASKS_CHUNK, UAS_NO_MEMORY. */
 uint8_t uas_tasks_new(const struct uas_tasks_unit *units, size_t count, uint8_t set, uint16_t most, uint16_t chunk, uas_tasks **tasks);
 
-/* A logical unit of which its user says what there is to tell. Its first `size` bytes count, 16 to 152, and a field that ends behind them is 0; a
- * field of zeros is as usual. A text has printable characters up to a 0 or the end of its field. */
+/* A logical unit of which its user says what there is to tell. It has `size` bytes, 16 or more: fields behind them count as 0, and what a newer
+ * header has behind these has to be 0. A field of zeros is as usual. A text has printable characters up to a 0 or the end of its field. */
 struct uas_disk {
     uint32_t size;           /* sizeof(struct uas_disk) */
     uint32_t flags;          /* UAS_DISK_... */
@@ -80,17 +80,18 @@ UAS_TASKS_ASSERT(sizeof(struct uas_disk) == 152 && offsetof(struct uas_disk, ser
 
 enum {
     UAS_DISK_READ_ONLY = 1,
-    UAS_DISK_THIN = 2,          /* UNMAP; refused, since it isn't served yet, as the next two */
+    UAS_DISK_THIN = 2,          /* UNMAP; refused, since it isn't served yet, as the next three */
     UAS_DISK_REMOVABLE = 4,     /* the medium can be taken out */
     UAS_DISK_WRITE_THROUGH = 8, /* writes aren't cached */
     UAS_DISK_QUIET = 16         /* a change of it isn't told */
 };
 
-/* The same of logical units that say what there is to tell of them. With UAS_SET_DISK INQUIRY, vital product data and READ CAPACITY(16) tell it,
- * and `most` isn't looked at; the other sets tell the names, the block length and whether it is read only.
- * Faults: UAS_UNITS; of the first logical unit with one UAS_TASKS_SIZE, UAS_BLOCKS, UAS_TASKS_BLOCK_BYTES, UAS_TASKS_DISK; UAS_TASKS_SET,
- * UAS_TASKS_CHUNK, UAS_NO_MEMORY. */
-uint8_t uas_tasks_new_disks(const struct uas_disk *disks, size_t count, uint8_t set, uint16_t most, uint16_t chunk, uas_tasks **tasks);
+/* The same of logical units that say what there is to tell of them: one behind another in `bytes` bytes, so an array and its sizeof. With
+ * UAS_SET_DISK INQUIRY, vital product data and READ CAPACITY(16) tell it, and `most` isn't looked at; the other sets tell the names, the block
+ * length and whether it is read only.
+ * Faults: UAS_UNITS; of the first logical unit with one UAS_UNITS (the sixteenth), UAS_TASKS_SIZE (it isn't whole, too), UAS_BLOCKS,
+ * UAS_TASKS_BLOCK_BYTES, UAS_TASKS_DISK; UAS_TASKS_SET, UAS_TASKS_CHUNK, UAS_NO_MEMORY. */
+uint8_t uas_tasks_new_disks(const struct uas_disk *disks, size_t bytes, uint8_t set, uint16_t most, uint16_t chunk, uas_tasks **tasks);
 
 /* Gives back all memory that the device holds, but the block of malloc that the pointer is of. For uas_tasks_free alone. */
 void uas_tasks_close(uas_tasks *tasks);

@@ -228,7 +228,7 @@ pub const TASKS_SET: u8 = 151;
 /// A chunk of no blocks, or of more than 128.
 pub const TASKS_CHUNK: u8 = 152;
 
-/// A record of a logical unit of fewer than 16 bytes, or of more than 152.
+/// A record of a logical unit that has fewer than 16 bytes, isn't whole, or has unknown bytes that aren't 0.
 pub const TASKS_SIZE: u8 = 153;
 
 /// A field of such a record that can't be told of a logical unit, or isn't served.

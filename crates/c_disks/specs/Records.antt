@@ -1,8 +1,10 @@
--- A logical unit of which C says what there is to tell, in a record of 152 bytes.
-use Rattle.std.specs.Prelude.{ℕ, ◌^◌, ◌==◌, nat_lt, nat_le, Bool, not, ◌&&◌, ◌||◌, if◌then◌else◌, List, length, replicate, take}
+-- A logical unit of which C says what there is to tell, in a record of bytes that begins with its size.
+use Rattle.std.specs.Prelude.{ℕ, ◌-◌, ◌^◌, ◌==◌, nat_lt, nat_le, min, Bool, not, ◌&&◌, ◌||◌, if◌then◌else◌, List, ◌++◌, drop, length, replicate}
+use Rattle.std.specs.Prelude.{slice_index, take}
 use Rattle.std.specs.Prelude.{Option, None, Some, option_and_then, option_map, Result, Ok, Err}
 use Rattle.std.specs.Result.{result_ok}
 use Rattle.std.specs.List.{list_all, position_or_len}
+use Rattle.byteorder.specs.Endian.{little_number}
 use Rattle.scsi_cmd.specs.Fields.{is_bit_set}
 use Rattle.disk_units.specs.declared.designators.Eui.{Eui}
 use Rattle.disk_units.specs.declared.designators.Naa.{Naa}
@@ -18,37 +20,72 @@ use Rattle.host_commands.specs.declared.BlockLength.TheVariants.{Bytes512, Bytes
 use Rattle.host_commands.specs.Shapes.{Shape, plain_shape, with_disk}
 use Rattle.c_disks.specs.declared.RecordFault.{RecordFault}
 use Rattle.c_disks.specs.declared.RecordFault.TheVariants.{Size, Blocks, BlockBytes, Field}
-use Rattle.c_disks.specs.declared.record.UasDisk.{UasDisk}
+use Rattle.c_disks.specs.declared.fields.DiskRecord.{DiskRecord}
+use Rattle.c_disks.specs.declared.fields.LimitFields.{LimitFields}
+use Rattle.c_disks.specs.declared.fields.TextFields.{TextFields}
+use Rattle.c_disks.specs.declared.fields.UnitFields.{UnitFields}
+use Rattle.c_disks.specs.declared.fields.WorldFields.{WorldFields}
 
--- THE RECORD: its first `size` bytes count, and a field behind them is 0
+-- THE BYTES OF A RECORD: its size in the first four; the lowest byte of a number is the first
 
-abbrev pub kept_number : ℕ → ℕ → ℕ → ℕ
-kept_number size end number = if nat_le end size then number else 0
+abbrev pub is_zero : List ℕ → Bool
+is_zero bytes = list_all (λ byte. byte == 0) bytes
 
-abbrev pub kept_bytes : ℕ → ℕ → List ℕ → List ℕ
-kept_bytes size end bytes = if nat_le end size then bytes else replicate (length bytes) 0
+-- those from a place on are 0
+abbrev pub ends_in_zeros : ℕ → List ℕ → Bool
+ends_in_zeros place bytes = nat_le (length bytes) place || is_zero (drop place bytes)
 
-abbrev pub cut : UasDisk → UasDisk
-cut disk = record {
-  size = disk.size;
-  flags = disk.flags;
-  blocks = disk.blocks;
-  block_bytes = kept_number disk.size 20 disk.block_bytes;
-  physical_bytes = kept_number disk.size 24 disk.physical_bytes;
-  most = kept_number disk.size 28 disk.most;
-  discard_blocks = kept_number disk.size 32 disk.discard_blocks;
-  rotation = kept_number disk.size 34 disk.rotation;
-  form = kept_number disk.size 35 disk.form;
-  eui_bytes = kept_number disk.size 36 disk.eui_bytes;
-  revision = kept_bytes disk.size 40 disk.revision;
-  vendor = kept_bytes disk.size 48 disk.vendor;
-  product = kept_bytes disk.size 64 disk.product;
-  serial = kept_bytes disk.size 100 disk.serial;
-  reserved = kept_bytes disk.size 104 disk.reserved;
-  naa = kept_bytes disk.size 120 disk.naa;
-  eui = kept_bytes disk.size 136 disk.eui;
-  uuid = kept_bytes disk.size 152 disk.uuid;
+-- it has as many bytes as it says, 16 or more, and those behind 152 are 0
+abbrev pub has_size : List ℕ → Bool
+has_size bytes = not (nat_lt (length bytes) 16) && (little_number 4 bytes == length bytes && ends_in_zeros 152 bytes)
+
+-- Records lie one behind another. The first has as many bytes as it says, or those that are there: then it isn't whole.
+abbrev pub first_size : List ℕ → ℕ
+first_size bytes = if nat_lt (length bytes) 16 then length bytes else min (little_number 4 bytes) (length bytes)
+
+-- so many bytes: the first of more, or with zeros behind them
+abbrev pub sized : ℕ → List ℕ → List ℕ
+sized most bytes = if nat_lt most (length bytes) then take most bytes else bytes ++ replicate (most - length bytes) 0
+
+-- so many bytes at a place
+abbrev pub field : ℕ → ℕ → List ℕ → List ℕ
+field place count bytes = take count (drop place bytes)
+
+abbrev pub unit_in : List ℕ → UnitFields
+unit_in bytes = record {
+  flags = little_number 4 (drop 4 bytes);
+  blocks = little_number 8 (drop 8 bytes);
+  block_bytes = little_number 4 (drop 16 bytes);
+  physical_bytes = little_number 4 (drop 20 bytes);
 }
+
+abbrev pub limits_in : List ℕ → LimitFields
+limits_in bytes = record {
+  most = little_number 4 (drop 24 bytes);
+  discard_blocks = little_number 4 (drop 28 bytes);
+  rotation = little_number 2 (drop 32 bytes);
+  form = slice_index bytes 34;
+}
+
+abbrev pub texts_in : List ℕ → TextFields
+texts_in bytes =
+    record { revision = field 36 4 bytes; vendor = field 40 8 bytes; product = field 48 16 bytes; serial = field 64 36 bytes }
+
+abbrev pub world_in : List ℕ → WorldFields
+world_in bytes = record {
+  reserved = field 100 4 bytes;
+  naa = field 104 16 bytes;
+  eui_bytes = slice_index bytes 35;
+  eui = field 120 16 bytes;
+  uuid = field 136 16 bytes;
+}
+
+abbrev pub record_in : List ℕ → DiskRecord
+record_in bytes = record { unit = unit_in bytes; limits = limits_in bytes; texts = texts_in bytes; world = world_in bytes }
+
+-- fields that its user doesn't have are 0
+abbrev pub record_of : List ℕ → DiskRecord
+record_of bytes = record_in (sized 152 bytes)
 
 -- WHAT A FIELD SAYS: zeros are the usual
 
@@ -68,19 +105,21 @@ revision_of text = if length text == 0 then Some usual_revision else result_ok (
 abbrev pub serial_asked : List ℕ → Option (Option SerialText)
 serial_asked text = if length text == 0 then Some None else option_map Some (result_ok (serial_of text))
 
-abbrev pub is_zero : List ℕ → Bool
-is_zero bytes = list_all (λ byte. byte == 0) bytes
-
 -- an NAA name that begins with 6 has all 16 bytes, another has 8
 abbrev pub naa_asked : List ℕ → Option (Option Naa)
 naa_asked field =
     if is_zero field then Some None
     else option_map Some (result_ok (naa_of (if kind_of field == 6 then field else take 8 field)))
 
+-- an EUI-64 name of so many bytes
+abbrev pub is_eui_size : ℕ → Bool
+is_eui_size bytes = bytes == 0 || (bytes == 8 || (bytes == 12 || bytes == 16))
+
+abbrev pub eui_named : List ℕ → Option (Option Eui)
+eui_named name = if is_zero name then Some None else option_map Some (result_ok (eui_of name))
+
 abbrev pub eui_asked : ℕ → List ℕ → Option (Option Eui)
-eui_asked bytes field =
-    if bytes == 0 || is_zero field then Some None
-    else (if nat_lt 16 bytes then None else option_map Some (result_ok (eui_of (take bytes field))))
+eui_asked bytes field = if not (is_eui_size bytes) then None else eui_named (take bytes field)
 
 abbrev pub uuid_asked : List ℕ → Option Uuid
 uuid_asked field = if is_zero field then None else Some (record { bytes = field })
@@ -92,68 +131,68 @@ abbrev pub rotation_asked : ℕ → Option ℕ
 rotation_asked rate = if rate == 0 then Some 1 else result_ok (rotation_of rate)
 
 -- flags: READ_ONLY 1, THIN 2, REMOVABLE 4, WRITE_THROUGH 8, QUIET 16
-abbrev pub disk_of : UasDisk → Option DiskUnit
+abbrev pub disk_of : DiskRecord → Option DiskUnit
 disk_of disk =
     option_and_then (λ most. option_and_then (λ rotation. option_and_then (λ form.
     option_and_then (λ serial. option_and_then (λ naa. option_and_then (λ eui. Some (record {
-      removable = is_bit_set disk.flags 2;
-      thin = is_bit_set disk.flags 1;
-      write_through = is_bit_set disk.flags 3;
-      quiet = is_bit_set disk.flags 4;
-      physical_bytes = disk.physical_bytes;
+      removable = is_bit_set disk.unit.flags 2;
+      thin = is_bit_set disk.unit.flags 1;
+      write_through = is_bit_set disk.unit.flags 3;
+      quiet = is_bit_set disk.unit.flags 4;
+      physical_bytes = disk.unit.physical_bytes;
       most = most;
-      discard_blocks = disk.discard_blocks;
+      discard_blocks = disk.limits.discard_blocks;
       rotation = rotation;
       form = form;
       serial = serial;
       naa = naa;
       eui = eui;
-      uuid = uuid_asked disk.uuid;
-    })) (eui_asked disk.eui_bytes disk.eui)) (naa_asked disk.naa)) (serial_asked (text_of disk.serial)))
-    (result_ok (form_of disk.form))) (rotation_asked disk.rotation)) (most_of disk.most)
+      uuid = uuid_asked disk.world.uuid;
+    })) (eui_asked disk.world.eui_bytes disk.world.eui)) (naa_asked disk.world.naa)) (serial_asked (text_of disk.texts.serial)))
+    (result_ok (form_of disk.limits.form))) (rotation_asked disk.limits.rotation)) (most_of disk.limits.most)
 
-abbrev pub names_of : UasDisk → Option UnitNames
+abbrev pub names_of : DiskRecord → Option UnitNames
 names_of disk =
     option_and_then (λ vendor. option_and_then (λ product. option_and_then (λ revision.
     Some (record { vendor = vendor; product = product; revision = revision }))
-    (revision_of (text_of disk.revision))) (product_of (text_of disk.product))) (vendor_of (text_of disk.vendor))
+    (revision_of (text_of disk.texts.revision))) (product_of (text_of disk.texts.product))) (vendor_of (text_of disk.texts.vendor))
 
 -- a block of 0 bytes is one of 512
-abbrev pub block_bytes_of : UasDisk → ℕ
-block_bytes_of disk = if disk.block_bytes == 0 then 512 else disk.block_bytes
+abbrev pub block_bytes_of : DiskRecord → ℕ
+block_bytes_of disk = if disk.unit.block_bytes == 0 then 512 else disk.unit.block_bytes
 
 abbrev pub block_length_of : ℕ → BlockLength
 block_length_of bytes = if bytes == 4096 then Bytes4096 else Bytes512
 
 -- the logical unit of a number, unless something can't be told of it
-abbrev pub named_shape : ℕ → UasDisk → UnitNames → Shape
+abbrev pub named_shape : ℕ → DiskRecord → UnitNames → Shape
 named_shape number disk names =
-    record (plain_shape disk.blocks (block_length_of (block_bytes_of disk)) number) { read_only = is_bit_set disk.flags 0; names = names }
+    record (plain_shape disk.unit.blocks (block_length_of (block_bytes_of disk)) number) { read_only = is_bit_set disk.unit.flags 0; names = names }
 
-abbrev pub shape_said : ℕ → UasDisk → Option Shape
+abbrev pub shape_said : ℕ → DiskRecord → Option Shape
 shape_said number disk =
-    if nat_lt 31 disk.flags || not (is_zero disk.reserved) then None
+    if nat_lt 31 disk.unit.flags || not (is_zero disk.world.reserved) then None
     else option_and_then (λ names. option_and_then (λ unit. result_ok (with_disk (named_shape number disk names) unit)) (disk_of disk)) (names_of disk)
 
 -- FAULTS
 
-abbrev pub disk_has_blocks : UasDisk → Bool
-disk_has_blocks disk = not (disk.blocks == 0) && not (nat_lt (2 ^ 48) disk.blocks)
+-- 1 to 2^48 blocks, of 512 or 4,096 bytes
+abbrev pub has_blocks : DiskRecord → Bool
+has_blocks disk = not (disk.unit.blocks == 0) && not (nat_lt (2 ^ 48) disk.unit.blocks)
 
-abbrev pub disk_has_block_bytes : UasDisk → Bool
-disk_has_block_bytes disk = block_bytes_of disk == 512 || block_bytes_of disk == 4096
+abbrev pub has_block_bytes : DiskRecord → Bool
+has_block_bytes disk = block_bytes_of disk == 512 || block_bytes_of disk == 4096
 
 abbrev pub shape_or_fault : Option Shape → Result Shape RecordFault
 shape_or_fault None = Err Field
 shape_or_fault (Some shape) = Ok shape
 
--- the logical unit of a number, or its first fault: the size of the record, blocks, their bytes, and then any other field
-abbrev pub cut_asked : ℕ → UasDisk → Result Shape RecordFault
-cut_asked number disk =
-    if not (disk_has_blocks disk) then Err Blocks
-    else (if not (disk_has_block_bytes disk) then Err BlockBytes
+abbrev pub shape_asked : ℕ → DiskRecord → Result Shape RecordFault
+shape_asked number disk =
+    if not (has_blocks disk) then Err Blocks
+    else (if not (has_block_bytes disk) then Err BlockBytes
     else shape_or_fault (shape_said number disk))
 
-abbrev pub disk_asked : ℕ → UasDisk → Result Shape RecordFault
-disk_asked number disk =
-    if nat_lt disk.size 16 || nat_lt 152 disk.size then Err Size else cut_asked number (cut disk)
+-- The logical unit of a number, or its first fault: the size of its record, blocks, their bytes, and then any other field.
+abbrev pub disk_asked : ℕ → List ℕ → Result Shape RecordFault
+disk_asked number bytes = if not (has_size bytes) then Err Size else shape_asked number (record_of bytes)

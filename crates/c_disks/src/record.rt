@@ -1,84 +1,24 @@
-//! A logical unit of which C says what there is to tell, in a record of 152 bytes.
+//! What a record says of a logical unit: each field by itself, and then the logical unit of them.
 ghost use Rattle.std.specs.Prelude.{◌≡◌, ◌^◌, ◌≤◌, ◌==◌, Some, IsTrue, length};
 ghost use Rattle.std.specs.List.{position_or_len};
-ghost use Rattle.c_disks.specs.Records.{block_bytes_of, block_length_of, cut, cut_asked, disk_asked, disk_has_block_bytes, disk_has_blocks, disk_of, eui_asked, is_zero};
-ghost use Rattle.c_disks.specs.Records.{kept_bytes, kept_number, most_of, naa_asked, named_shape, names_of, product_of, revision_of, rotation_asked};
-ghost use Rattle.c_disks.specs.Records.{serial_asked, shape_said, text_of, uuid_asked, vendor_of};
+ghost use Rattle.std.specs.Result.{result_ok};
+ghost use Rattle.scsi_cmd.specs.Fields.{is_bit_set};
+ghost use Rattle.host_commands.specs.Shapes.{plain_shape, with_disk};
+ghost use Rattle.c_disks.specs.Records.{block_bytes_of, block_length_of, disk_asked, disk_of, eui_asked, eui_named, has_block_bytes, has_blocks};
+ghost use Rattle.c_disks.specs.Records.{is_eui_size, most_of, naa_asked, named_shape, names_of, product_of, revision_of, rotation_asked, serial_asked, shape_asked, shape_said, text_of};
+ghost use Rattle.c_disks.specs.Records.{uuid_asked, vendor_of};
 
 use crate::RecordFault;
+use crate::fields::{DiskRecord, NAME_BYTES, has_size, is_zero, read};
 use host_commands::{
     BlockLength, DiskUnit, Eui, FormFactor, LogicalUnitShape, MOST_BLOCKS, Naa, Product, Revision,
     Rotation, SerialNumber, SerialText, TransferLength, UnitNames, Uuid, Vendor,
 };
 
-/// A logical unit as C has it: its first `size` bytes count, 16 to 152, and a field that ends behind them is 0. A field of zeros is as usual.
-#[repr(C)]
-#[derive(Clone, Copy)]
-pub struct UasDisk {
-    pub size: u32,
-    /// Read only 1, thin 2, removable 4, write through 8, quiet 16.
-    pub flags: u32,
-    /// 1 to 2^48.
-    pub blocks: u64,
-    /// 512 or 4,096; usual 512.
-    pub block_bytes: u32,
-    /// Of a block of the medium; usual the same.
-    pub physical_bytes: u32,
-    /// The most blocks of a READ or WRITE; usual 128.
-    pub most: u32,
-    pub discard_blocks: u32,
-    pub rotation: u16,
-    pub form: u8,
-    /// How many bytes `eui` has.
-    pub eui_bytes: u8,
-    pub revision: [u8; 4],
-    pub vendor: [u8; 8],
-    pub product: [u8; 16],
-    pub serial: [u8; 36],
-    pub reserved: [u8; 4],
-    pub naa: [u8; 16],
-    pub eui: [u8; 16],
-    pub uuid: [u8; 16],
-}
+/// All flags of a record.
+const ALL_FLAGS: u32 = 31;
 
-fn kept_number(size: u32, end: u32, number: u32) -> u32
-    ensures { result ≡ kept_number size end number }
-{
-    if end <= size { number } else { 0 }
-}
-
-fn kept_bytes<const N: usize>(size: u32, end: u32, bytes: &[u8; N]) -> [u8; N]
-    ensures { result ≡ kept_bytes size end bytes.now }
-{
-    if end <= size { *bytes } else { [0; N] }
-}
-
-/// The record with 0 in each field that doesn't count.
-fn cut(disk: &UasDisk) -> UasDisk
-    ensures { result ≡ cut disk.now }
-{
-    let size = disk.size;
-    UasDisk {
-        size,
-        flags: disk.flags,
-        blocks: disk.blocks,
-        block_bytes: kept_number(size, 20, disk.block_bytes),
-        physical_bytes: kept_number(size, 24, disk.physical_bytes),
-        most: kept_number(size, 28, disk.most),
-        discard_blocks: kept_number(size, 32, disk.discard_blocks),
-        rotation: if 34 <= size { disk.rotation } else { 0 },
-        form: if 35 <= size { disk.form } else { 0 },
-        eui_bytes: if 36 <= size { disk.eui_bytes } else { 0 },
-        revision: kept_bytes(size, 40, &disk.revision),
-        vendor: kept_bytes(size, 48, &disk.vendor),
-        product: kept_bytes(size, 64, &disk.product),
-        serial: kept_bytes(size, 100, &disk.serial),
-        reserved: kept_bytes(size, 104, &disk.reserved),
-        naa: kept_bytes(size, 120, &disk.naa),
-        eui: kept_bytes(size, 136, &disk.eui),
-        uuid: kept_bytes(size, 152, &disk.uuid),
-    }
-}
+const _: () = prove!(ALL_FLAGS == 31);
 
 /// How many bytes of a field come before its first 0.
 fn text_size(field: &[u8]) -> usize
@@ -100,12 +40,6 @@ fn text_of(field: &[u8]) -> &[u8]
     ensures { result.now ≡ text_of field.now }
 {
     &field[..text_size(field)]
-}
-
-fn is_zero(bytes: &[u8]) -> bool
-    ensures { result ≡ is_zero bytes.now }
-{
-    bytes.iter().all(|byte| *byte == 0)
 }
 
 fn vendor_of(text: &[u8]) -> Option<Vendor>
@@ -138,12 +72,12 @@ fn revision_of(text: &[u8]) -> Option<Revision>
     }
 }
 
-fn names_of(disk: &UasDisk) -> Option<UnitNames>
+fn names_of(disk: &DiskRecord) -> Option<UnitNames>
     ensures { result ≡ names_of disk.now }
 {
-    let vendor = vendor_of(text_of(&disk.vendor))?;
-    let product = product_of(text_of(&disk.product))?;
-    let revision = revision_of(text_of(&disk.revision))?;
+    let vendor = vendor_of(text_of(&disk.texts.vendor))?;
+    let product = product_of(text_of(&disk.texts.product))?;
+    let revision = revision_of(text_of(&disk.texts.revision))?;
     Some(UnitNames {
         vendor,
         product,
@@ -160,7 +94,7 @@ fn serial_asked(text: &[u8]) -> Option<Option<SerialText>>
     SerialText::of_bytes(text).ok().map(Some)
 }
 
-fn naa_asked(field: &[u8; 16]) -> Option<Option<Naa>>
+fn naa_asked(field: &[u8; NAME_BYTES]) -> Option<Option<Naa>>
     ensures { result ≡ naa_asked field.now }
 {
     if is_zero(field) {
@@ -174,19 +108,32 @@ fn naa_asked(field: &[u8; 16]) -> Option<Option<Naa>>
     Naa::new(name).ok().map(Some)
 }
 
-fn eui_asked(bytes: u8, field: &[u8; 16]) -> Option<Option<Eui>>
-    ensures { result ≡ eui_asked bytes field.now }
+fn is_eui_size(bytes: u8) -> bool
+    ensures size { result ≡ is_eui_size bytes }
+    ensures most { IsTrue result → bytes ≤ 16 }
 {
-    if bytes == 0 || is_zero(field) {
-        return Some(None);
-    }
-    if bytes > 16 {
-        return None;
-    }
-    Eui::new(&field[..bytes as usize]).ok().map(Some)
+    matches!(bytes, 0 | 8 | 12 | 16)
 }
 
-fn uuid_asked(field: &[u8; 16]) -> Option<Uuid>
+fn eui_named(name: &[u8]) -> Option<Option<Eui>>
+    ensures { result ≡ eui_named name.now }
+{
+    if is_zero(name) {
+        return Some(None);
+    }
+    Eui::new(name).ok().map(Some)
+}
+
+fn eui_asked(bytes: u8, field: &[u8; NAME_BYTES]) -> Option<Option<Eui>>
+    ensures { result ≡ eui_asked bytes field.now }
+{
+    if !is_eui_size(bytes) {
+        return None;
+    }
+    eui_named(&field[..usize::from(bytes)])
+}
+
+fn uuid_asked(field: &[u8; NAME_BYTES]) -> Option<Uuid>
     ensures { result ≡ uuid_asked field.now }
 {
     if is_zero(field) {
@@ -219,52 +166,52 @@ fn rotation_asked(rate: u16) -> Option<Rotation>
 }
 
 /// What is said of it, where that can be.
-fn disk_of(disk: &UasDisk) -> Option<DiskUnit>
+fn disk_of(disk: &DiskRecord) -> Option<DiskUnit>
     ensures { result ≡ disk_of disk.now }
 {
-    let most = most_of(disk.most)?;
-    let rotation = rotation_asked(disk.rotation)?;
-    let form = FormFactor::new(disk.form).ok()?;
-    let serial = serial_asked(text_of(&disk.serial))?;
-    let naa = naa_asked(&disk.naa)?;
-    let eui = eui_asked(disk.eui_bytes, &disk.eui)?;
+    let most = most_of(disk.limits.most)?;
+    let rotation = rotation_asked(disk.limits.rotation)?;
+    let form = FormFactor::new(disk.limits.form).ok()?;
+    let serial = serial_asked(text_of(&disk.texts.serial))?;
+    let naa = naa_asked(&disk.world.naa)?;
+    let eui = eui_asked(disk.world.eui_bytes, &disk.world.eui)?;
     Some(DiskUnit {
-        removable: disk.flags >> 2 & 1 == 1,
-        thin: disk.flags >> 1 & 1 == 1,
-        write_through: disk.flags >> 3 & 1 == 1,
-        quiet: disk.flags >> 4 & 1 == 1,
-        physical_bytes: disk.physical_bytes,
+        removable: disk.unit.flags >> 2 & 1 == 1,
+        thin: disk.unit.flags >> 1 & 1 == 1,
+        write_through: disk.unit.flags >> 3 & 1 == 1,
+        quiet: disk.unit.flags >> 4 & 1 == 1,
+        physical_bytes: disk.unit.physical_bytes,
         most,
-        discard_blocks: disk.discard_blocks,
+        discard_blocks: disk.limits.discard_blocks,
         rotation,
         form,
         serial,
         naa,
         eui,
-        uuid: uuid_asked(&disk.uuid),
+        uuid: uuid_asked(&disk.world.uuid),
     })
 }
 
-fn block_bytes_of(disk: &UasDisk) -> u32
+fn block_bytes_of(disk: &DiskRecord) -> u32
     ensures { result ≡ block_bytes_of disk.now }
 {
-    if disk.block_bytes == 0 {
+    if disk.unit.block_bytes == 0 {
         512
     } else {
-        disk.block_bytes
+        disk.unit.block_bytes
     }
 }
 
-fn has_blocks(disk: &UasDisk) -> bool
-    ensures blocks { result ≡ disk_has_blocks disk.now }
-    ensures some { IsTrue result → 1 ≤ disk.now.blocks }
-    ensures most { IsTrue result → disk.now.blocks ≤ 2 ^ 48 }
+fn has_blocks(disk: &DiskRecord) -> bool
+    ensures blocks { result ≡ has_blocks disk.now }
+    ensures some { IsTrue result → 1 ≤ disk.now.unit.blocks }
+    ensures most { IsTrue result → disk.now.unit.blocks ≤ 2 ^ 48 }
 {
-    disk.blocks != 0 && disk.blocks <= MOST_BLOCKS
+    disk.unit.blocks != 0 && disk.unit.blocks <= MOST_BLOCKS
 }
 
-fn has_block_bytes(disk: &UasDisk) -> bool
-    ensures { result ≡ disk_has_block_bytes disk.now }
+fn has_block_bytes(disk: &DiskRecord) -> bool
+    ensures { result ≡ has_block_bytes disk.now }
 {
     let bytes = block_bytes_of(disk);
     bytes == 512 || bytes == 4096
@@ -280,40 +227,72 @@ fn block_length(bytes: u32) -> BlockLength
     }
 }
 
-/// The logical unit of a number with these names.
-fn named_shape(number: u8, disk: &UasDisk, names: &UnitNames) -> Option<LogicalUnitShape>
-    requires some { 1 ≤ disk.now.blocks }
-    requires most { disk.now.blocks ≤ 2 ^ 48 }
-    ensures { result ≡ Some (named_shape number disk.now names.now) }
+fn unit_serial(number: u8) -> Option<SerialNumber>
+    ensures { result ≡ Some number }
 {
-    let serial = SerialNumber::new(u32::from(number)).ok()?;
-    let length = block_length(block_bytes_of(disk));
-    let shape = LogicalUnitShape::new(disk.blocks, length, serial).ok()?;
-    Some(
-        shape
-            .read_only(disk.flags & 1 == 1)
-            .named(names.vendor, names.product)
-            .revised(names.revision),
-    )
+    SerialNumber::new(u32::from(number)).ok()
+}
+
+/// The logical unit of a number with its blocks, of which nothing else is said.
+fn plain(number: u8, disk: &DiskRecord) -> Option<LogicalUnitShape>
+    requires some { 1 ≤ disk.now.unit.blocks }
+    requires most { disk.now.unit.blocks ≤ 2 ^ 48 }
+    ensures { result ≡ Some (plain_shape disk.now.unit.blocks (block_length_of (block_bytes_of disk.now)) number) }
+{
+    let serial = unit_serial(number)?;
+    LogicalUnitShape::new(disk.unit.blocks, block_length(block_bytes_of(disk)), serial).ok()
+}
+
+/// The same, read only or not, with names.
+fn named(plain: LogicalUnitShape, flags: u32, names: UnitNames) -> LogicalUnitShape
+    ensures { result ≡ record plain { read_only = is_bit_set flags 0; names = names } }
+{
+    plain
+        .read_only(flags & 1 == 1)
+        .named(names.vendor, names.product)
+        .revised(names.revision)
+}
+
+fn named_shape(number: u8, disk: &DiskRecord, names: UnitNames) -> Option<LogicalUnitShape>
+    requires some { 1 ≤ disk.now.unit.blocks }
+    requires most { disk.now.unit.blocks ≤ 2 ^ 48 }
+    ensures { result ≡ Some (named_shape number disk.now names) }
+{
+    let plain = plain(number, disk)?;
+    Some(named(plain, disk.unit.flags, names))
+}
+
+/// The logical unit of a number with these names and of which that is said, where that can be.
+fn told_shape(
+    number: u8,
+    disk: &DiskRecord,
+    names: UnitNames,
+    unit: DiskUnit,
+) -> Option<LogicalUnitShape>
+    requires some { 1 ≤ disk.now.unit.blocks }
+    requires most { disk.now.unit.blocks ≤ 2 ^ 48 }
+    ensures { result ≡ result_ok (with_disk (named_shape number disk.now names) unit) }
+{
+    let shape = named_shape(number, disk, names)?;
+    shape.as_disk(unit).ok()
 }
 
 /// The logical unit of a number, unless something can't be told of it.
-fn shape_said(number: u8, disk: &UasDisk) -> Option<LogicalUnitShape>
-    requires some { 1 ≤ disk.now.blocks }
-    requires most { disk.now.blocks ≤ 2 ^ 48 }
+fn shape_said(number: u8, disk: &DiskRecord) -> Option<LogicalUnitShape>
+    requires some { 1 ≤ disk.now.unit.blocks }
+    requires most { disk.now.unit.blocks ≤ 2 ^ 48 }
     ensures { result ≡ shape_said number disk.now }
 {
-    if disk.flags > 31 || !is_zero(&disk.reserved) {
+    if disk.unit.flags > ALL_FLAGS || !is_zero(&disk.world.reserved) {
         return None;
     }
     let names = names_of(disk)?;
     let unit = disk_of(disk)?;
-    let shape = named_shape(number, disk, &names)?;
-    shape.as_disk(unit).ok()
+    told_shape(number, disk, names, unit)
 }
 
-fn cut_asked(number: u8, disk: &UasDisk) -> Result<LogicalUnitShape, RecordFault>
-    ensures { result ≡ cut_asked number disk.now }
+fn shape_asked(number: u8, disk: &DiskRecord) -> Result<LogicalUnitShape, RecordFault>
+    ensures { result ≡ shape_asked number disk.now }
 {
     if !has_blocks(disk) {
         Err(RecordFault::Blocks)
@@ -327,12 +306,12 @@ fn cut_asked(number: u8, disk: &UasDisk) -> Result<LogicalUnitShape, RecordFault
     }
 }
 
-/// The logical unit of a number, or its first fault.
-pub fn disk_asked(number: u8, disk: &UasDisk) -> Result<LogicalUnitShape, RecordFault>
-    ensures { result ≡ disk_asked number disk.now }
+/// The logical unit of a number of which this is the record, or its first fault.
+pub fn disk_asked(number: u8, record: &[u8]) -> Result<LogicalUnitShape, RecordFault>
+    ensures { result ≡ disk_asked number record.now }
 {
-    if disk.size < 16 || disk.size > 152 {
+    if !has_size(record) {
         return Err(RecordFault::Size);
     }
-    cut_asked(number, &cut(disk))
+    shape_asked(number, &read(record))
 }

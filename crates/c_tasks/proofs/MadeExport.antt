@@ -54,7 +54,6 @@ use Rattle.c_common.proofs.HandedOut.{Made, as_it_was, handed, made_laws, one_va
 use Rattle.c_tasks.specs.Disks.{disks_fault}
 use Rattle.c_tasks.specs.Making.{making_fault, tells}
 use Rattle.c_tasks.specs.contracts.UasTasksUnit.{the_row as unit_row}
-use Rattle.c_disks.specs.contracts.record.UasDisk.{the_row as disk_row}
 
 -- a record of a logical unit as C has it, and the first fault of a list of them, of the set of this number and most blocks, of this chunk
 pub record Asked : Type 1 where
@@ -62,12 +61,12 @@ pub record Asked : Type 1 where
   pub one : One row.mir
   pub fault : List row.Denot → ℕ → ℕ → ℕ → Option ℕ
 
--- those that say no more than their blocks, and those that say what there is to tell
+-- those that say no more than their blocks, and those that say what there is to tell, in bytes
 abbrev pub of_units : Asked
 of_units = record { row = unit_row; one = tt; fault = making_fault }
 
 abbrev pub of_disks : Asked
-of_disks = record { row = disk_row; one = tt; fault = disks_fault }
+of_disks = record { row = u8; one = tt; fault = disks_fault }
 
 -- what is made of them
 abbrev pub MadeOf : Asked → RattleType → Type 1

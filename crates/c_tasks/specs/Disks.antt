@@ -1,12 +1,11 @@
 -- A device of logical units of which C says what there is to tell.
-use Rattle.std.specs.Prelude.{ℕ, suc, ◌*◌, ◌==◌, nat_lt, Bool, not, ◌||◌, if◌then◌else◌, List, [], ◌∷◌, ◌++◌, length, map}
+use Rattle.std.specs.Prelude.{ℕ, zero, suc, ◌*◌, ◌==◌, Bool, not, ◌||◌, if◌then◌else◌, List, [], ◌∷◌, drop, length, map, take}
 use Rattle.std.specs.Prelude.{Option, None, Some, unwrap_or, Result, Ok, Err}
-use Rattle.std.specs.Result.{result_ok}
+use Rattle.std.specs.Result.{result_err, result_ok}
 use Rattle.c_common.specs.declared.faults.TheConstants.{BLOCKS, TASKS_BLOCK_BYTES, TASKS_CHUNK, TASKS_DISK, TASKS_SET, TASKS_SIZE, UNITS}
 use Rattle.c_disks.specs.declared.RecordFault.{RecordFault}
 use Rattle.c_disks.specs.declared.RecordFault.TheVariants.{Size, Blocks, BlockBytes, Field}
-use Rattle.c_disks.specs.declared.record.UasDisk.{UasDisk}
-use Rattle.c_disks.specs.Records.{disk_asked}
+use Rattle.c_disks.specs.Records.{disk_asked, first_size}
 use Rattle.host_commands.specs.declared.CommandSet.{CommandSet}
 use Rattle.host_commands.specs.declared.CommandSet.TheVariants.{Disk}
 use Rattle.host_commands.specs.Shapes.{Shape}
@@ -23,22 +22,22 @@ record_fault Blocks = BLOCKS
 record_fault BlockBytes = TASKS_BLOCK_BYTES
 record_fault Field = TASKS_DISK
 
--- A DEVICE OF SUCH LOGICAL UNITS
+-- THE LOGICAL UNITS OF RECORDS that lie one behind another
 
--- the logical units from a number on, or the first fault of the first that has one
-abbrev pub disk_then : Result Shape RecordFault → Result (List Shape) RecordFault → Result (List Shape) RecordFault
-disk_then (Err fault) rest = Err fault
-disk_then (Ok shape) (Err fault) = Err fault
-disk_then (Ok shape) (Ok shapes) = Ok (shape ∷ shapes)
+-- the first and those behind it, or the fault of the first that has one
+abbrev pub shape_then : Result Shape RecordFault → Result (List Shape) ℕ → Result (List Shape) ℕ
+shape_then (Err fault) behind = Err (record_fault fault)
+shape_then (Ok shape) (Err fault) = Err fault
+shape_then (Ok shape) (Ok shapes) = Ok (shape ∷ shapes)
 
-unfoldable pub disk_shapes : ℕ → List UasDisk → Result (List Shape) RecordFault
-disk_shapes number [] = Ok []
-disk_shapes number (disk ∷ disks) = disk_then (disk_asked number disk) (disk_shapes (suc number) disks)
+-- those from a number on, where so many may come
+unfoldable pub disk_shapes : ℕ → ℕ → List ℕ → Result (List Shape) ℕ
+disk_shapes zero number bytes = if length bytes == 0 then Ok [] else Err UNITS
+disk_shapes (suc more) number bytes =
+    if length bytes == 0 then Ok []
+    else shape_then (disk_asked number (take (first_size bytes) bytes)) (disk_shapes more (suc number) (drop (first_size bytes) bytes))
 
--- these and then those
-abbrev pub prefixed : List Shape → Result (List Shape) RecordFault → Result (List Shape) RecordFault
-prefixed first (Ok rest) = Ok (first ++ rest)
-prefixed first (Err fault) = Err fault
+-- A DEVICE OF THEM
 
 -- set 2 is the disk set, whose logical units have maximums of their own
 abbrev pub is_disk_set : ℕ → ℕ → Bool
@@ -47,26 +46,22 @@ is_disk_set number most = number == 2 || is_set number most
 abbrev pub disk_set_of : ℕ → ℕ → CommandSet
 disk_set_of number most = if number == 2 then Disk else set_of number most
 
--- the first fault of what is asked for
-abbrev pub shapes_fault : Result (List Shape) RecordFault → Option ℕ
-shapes_fault (Ok shapes) = None
-shapes_fault (Err fault) = Some (record_fault fault)
-
 abbrev pub fault_or : Option ℕ → Option ℕ → Option ℕ
 fault_or (Some fault) rest = Some fault
 fault_or None rest = rest
 
-abbrev pub disks_fault : List UasDisk → ℕ → ℕ → ℕ → Option ℕ
-disks_fault disks number most chunk =
-    if length disks == 0 || nat_lt MAX_UNITS (length disks) then Some UNITS
-    else fault_or (shapes_fault (disk_shapes 0 disks))
-    (if not (is_disk_set number most) then Some TASKS_SET
+-- the first fault of what is asked for: no logical unit, the first fault of the first that has one, which a sixteenth has, the set, the chunk
+abbrev pub disks_fault : List ℕ → ℕ → ℕ → ℕ → Option ℕ
+disks_fault bytes set most chunk =
+    if length bytes == 0 then Some UNITS
+    else fault_or (result_err (disk_shapes MAX_UNITS 0 bytes))
+    (if not (is_disk_set set most) then Some TASKS_SET
     else (if not (is_chunk chunk) then Some TASKS_CHUNK
     else None))
 
-abbrev pub disk_units : List UasDisk → List LogicalUnit
-disk_units disks = map quiet (unwrap_or (result_ok (disk_shapes 0 disks)) [])
+abbrev pub disk_units : List ℕ → List LogicalUnit
+disk_units bytes = map quiet (unwrap_or (result_ok (disk_shapes MAX_UNITS 0 bytes)) [])
 
 -- A device of these logical units without a task, as `made_tasks` of such that say nothing.
-abbrev pub made_of_disks : List UasDisk → ℕ → ℕ → ℕ → Machine
-made_of_disks disks set most chunk = opening (disk_units disks) (disk_set_of set most) chunk (chunk * greatest_block (disk_units disks))
+abbrev pub made_of_disks : List ℕ → ℕ → ℕ → ℕ → Machine
+made_of_disks bytes set most chunk = opening (disk_units bytes) (disk_set_of set most) chunk (chunk * greatest_block (disk_units bytes))

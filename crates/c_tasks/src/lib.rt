@@ -6,7 +6,8 @@
 //! `proofs/MadeExport.antt` proves, once for every handle of such units, that an export which makes a box and hands it out meets its
 //! contract.
 //!
-//! Logical units of which C says what there is to tell ([`disks_fault`], [`make_of_disks`], specs/Disks.antt) are c_disks' records.
+//! Logical units of which C says what there is to tell ([`disks_fault`], [`make_of_disks`], specs/Disks.antt) are c_disks' records, one behind
+//! another.
 //!
 //! It stands on `host_commands`, `c_disks` and `uas_tasks`, and for that proof on `c_common`.
 #![tactic(auto)]
@@ -20,7 +21,6 @@ ghost use Rattle.c_tasks.specs.Making.{block_length_of, has_block_bytes, has_blo
 ghost use Rattle.c_tasks.specs.Making.{set_of, shape_of};
 
 use c_common::faults::{BLOCKS, TASKS_BLOCK_BYTES, TASKS_CHUNK, TASKS_SERIAL, TASKS_SET, UNITS};
-pub use c_disks::UasDisk;
 use host_commands::{
     BlockLength, CommandSet, LogicalUnitShape, MOST_BLOCKS, SERIAL_NUMBERS, SerialNumber,
 };

@@ -1,14 +1,15 @@
 //! A device of logical units that say what there is to tell of them.
-ghost use Rattle.std.specs.Prelude.{◌≡◌, ◌+◌, ◌<◌, ◌≤◌, IfOk, IfSome, None, OnOk, Result, length, true};
+ghost use Rattle.std.specs.Prelude.{◌≡◌, ◌<◌, ◌≤◌, IfOk, IfSome, None, Result, length, true};
+ghost use Rattle.std.specs.Result.{result_err};
 ghost use Rattle.uas_profile.specs.declared.TheConstants.{MAX_UNITS};
-ghost use Rattle.c_tasks.specs.Disks.{disk_set_of, disk_shapes, disks_fault, fault_or, is_disk_set, made_of_disks, prefixed, record_fault, shapes_fault};
+ghost use Rattle.c_tasks.specs.Disks.{disk_set_of, disk_shapes, disks_fault, is_disk_set, made_of_disks, record_fault};
 ghost use Rattle.c_tasks.specs.Making.{is_chunk};
 
 use crate::{command_set, is_chunk, is_set};
 use c_common::faults::{
     BLOCKS, TASKS_BLOCK_BYTES, TASKS_CHUNK, TASKS_DISK, TASKS_SET, TASKS_SIZE, UNITS,
 };
-use c_disks::{RecordFault, UasDisk, disk_asked};
+use c_disks::{RecordFault, disk_asked, first_size};
 use host_commands::{CommandSet, LogicalUnitShape};
 use std::alloc::{AllocError, Global};
 use uas_profile::MAX_UNITS;
@@ -30,41 +31,45 @@ fn record_fault(fault: RecordFault) -> u8
     }
 }
 
-/// The first fault of logical units, from a number on.
-#[tactic(auto, unfolding(crate::specs::Disks::disk_shapes))]
-fn shapes_fault(number: u8, disks: &[UasDisk]) -> Option<u8>
-    requires { number + length disks.now ≤ MAX_UNITS }
-    ensures fault { result ≡ shapes_fault (disk_shapes number disks.now) }
+/// The first fault of the logical units whose records these are, one behind another.
+fn shapes_fault(records: &[u8]) -> Option<u8>
+    ensures fault { result ≡ result_err (disk_shapes MAX_UNITS 0 records.now) }
     ensures not_0 { IfSome result (λ fault. 0 < fault) }
 {
-    let [first, rest @ ..] = disks else {
-        return None;
-    };
-    match disk_asked(number, first) {
-        Ok(_) => shapes_fault(number + 1, rest),
-        Err(fault) => Some(record_fault(fault)),
+    let mut rest = records;
+    for number in 0..MAX_UNITS as u8 {
+        if rest.is_empty() {
+            return None;
+        }
+        let (first, behind) = rest.split_at(first_size(rest));
+        if let Err(fault) = disk_asked(number, first) {
+            return Some(record_fault(fault));
+        }
+        rest = behind;
     }
+    if rest.is_empty() { None } else { Some(UNITS) }
 }
 
-/// Adds the logical units from a number on. The error is want of memory.
-#[tactic(auto, unfolding(crate::specs::Disks::disk_shapes))]
-fn add_shapes(
-    number: u8,
-    disks: &[UasDisk],
-    shapes: &mut Vec<LogicalUnitShape>,
-) -> Result<(), AllocError>
-    requires { number + length disks.now ≤ MAX_UNITS }
-    ensures { OnOk result (prefixed shapes.old.items (disk_shapes number disks.now) ≡ Result.Ok shapes.new.items) }
+/// The logical units whose records these are, one behind another. The error is want of memory.
+fn shapes(alloc: Global, records: &[u8]) -> Result<Vec<LogicalUnitShape>, AllocError>
+    ensures shapes { IfOk result (λ shapes. disk_shapes MAX_UNITS 0 records.now ≡ Result.Ok shapes.items) }
+    ensures most { IfOk result (λ shapes. length shapes.items ≤ MAX_UNITS) }
 {
-    let [first, rest @ ..] = disks else {
-        return Ok(());
-    };
-    // (each is whole: their faults were told before)
-    let Ok(shape) = disk_asked(number, first) else {
-        return Err(AllocError);
-    };
-    shapes.push(shape)?;
-    add_shapes(number + 1, rest, shapes)
+    let mut shapes = Vec::new(alloc);
+    let mut rest = records;
+    for number in 0..MAX_UNITS as u8 {
+        if rest.is_empty() {
+            return Ok(shapes);
+        }
+        let (first, behind) = rest.split_at(first_size(rest));
+        // (each is whole: their faults were told before)
+        let Ok(shape) = disk_asked(number, first) else {
+            return Err(AllocError);
+        };
+        shapes.push(shape)?;
+        rest = behind;
+    }
+    if rest.is_empty() { Ok(shapes) } else { Err(AllocError) }
 }
 
 fn is_disk_set(number: u8, most: u16) -> bool
@@ -83,16 +88,15 @@ fn disk_set(number: u8, most: u16) -> Option<CommandSet>
 }
 
 /// The first fault of what is asked for.
-pub fn disks_fault(disks: &[UasDisk], set: u8, most: u16, chunk: u16) -> Option<u8>
-    ensures fault { result ≡ disks_fault disks.now set most chunk }
-    ensures units { result ≡ None → length disks.now ≤ MAX_UNITS }
+pub fn disks_fault(records: &[u8], set: u8, most: u16, chunk: u16) -> Option<u8>
+    ensures fault { result ≡ disks_fault records.now set most chunk }
     ensures chunk { result ≡ None → is_chunk chunk ≡ true }
     ensures not_0 { IfSome result (λ fault. 0 < fault) }
 {
-    if disks.is_empty() || disks.len() > MAX_UNITS {
+    if records.is_empty() {
         return Some(UNITS);
     }
-    if let Some(fault) = shapes_fault(0, disks) {
+    if let Some(fault) = shapes_fault(records) {
         return Some(fault);
     }
     if !is_disk_set(set, most) {
@@ -107,17 +111,15 @@ pub fn disks_fault(disks: &[UasDisk], set: u8, most: u16, chunk: u16) -> Option<
 /// The device of what is asked for, where that has no fault. The error is want of memory.
 pub fn make_of_disks(
     alloc: Global,
-    disks: &[UasDisk],
+    records: &[u8],
     set: u8,
     most: u16,
     chunk: u16,
 ) -> Result<Tasks, AllocError>
-    requires units { length disks.now ≤ MAX_UNITS }
-    requires chunk { is_chunk chunk ≡ true }
-    ensures { IfOk result (λ tasks. tasks ≡ made_of_disks disks.now set most chunk) }
+    requires { is_chunk chunk ≡ true }
+    ensures { IfOk result (λ tasks. tasks ≡ made_of_disks records.now set most chunk) }
 {
-    let mut shapes = Vec::new(alloc);
-    add_shapes(0, disks, &mut shapes)?;
+    let shapes = shapes(alloc, records)?;
     let Some(set) = disk_set(set, most) else {
         return Err(AllocError);
     };

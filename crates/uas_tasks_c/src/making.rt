@@ -9,7 +9,7 @@ ghost use Rattle.uas_tasks_c.specs.contracts.door.KeptTasks.{the_row as tasks_ro
 use crate::door::KeptTasks;
 use c_common::faults::NO_MEMORY;
 use c_common::hand_out_made;
-use c_tasks::{UasDisk, UasTasksUnit, disks_fault, make_of_disks, make_tasks, making_fault};
+use c_tasks::{UasTasksUnit, disks_fault, make_of_disks, make_tasks, making_fault};
 use std::alloc::Global;
 
 /// The device's name in C, which knows no more of it.
@@ -62,14 +62,15 @@ fn made(
     }
 }
 
-/// Makes a device of logical units that say what there is to tell of them, as `uas_tasks_new` does of others; `set` may be 2 too, for the
-/// commands of virtual disks, of which each logical unit has its own maximum. The number of the fault, where `tasks` is as it was, or 0: `UNITS`,
-/// of the first logical unit with one `TASKS_SIZE`, `BLOCKS`, `TASKS_BLOCK_BYTES` or `TASKS_DISK`, then `TASKS_SET`, `TASKS_CHUNK`, `NO_MEMORY`.
-/// At 0 that very device, `made_of_disks`, lies at `tasks` and is the caller's.
+/// Makes a device of logical units that say what there is to tell of them, as `uas_tasks_new` does of others. Their records lie one behind another
+/// in `disks`. `set` may be 2 too, for the commands of virtual disks, of which each logical unit has its own maximum. The number of the fault, where
+/// `tasks` is as it was, or 0: `UNITS` without a byte; of the first logical unit with one `UNITS`, which the sixteenth has, `TASKS_SIZE`, `BLOCKS`,
+/// `TASKS_BLOCK_BYTES` or `TASKS_DISK`; then `TASKS_SET`, `TASKS_CHUNK`, `NO_MEMORY`. At 0 that very device, `made_of_disks`, lies at `tasks` and is
+/// the caller's.
 #[unsafe(no_mangle)]
 pub extern "C" fn uas_tasks_new_disks(
     alloc: Global,
-    disks: &[UasDisk],
+    disks: &[u8],
     set: u8,
     most: u16,
     chunk: u16,
@@ -85,7 +86,7 @@ pub extern "C" fn uas_tasks_new_disks(
 /// The error is the number of the fault.
 fn made_of_disks(
     alloc: Global,
-    disks: &[UasDisk],
+    disks: &[u8],
     set: u8,
     most: u16,
     chunk: u16,

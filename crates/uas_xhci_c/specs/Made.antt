@@ -1,7 +1,6 @@
 -- What a controller that was just made is.
 use Rattle.std.specs.Prelude.{◌≡◌, ℕ, List}
 use Rattle.c_tasks.specs.declared.UasTasksUnit.{UasTasksUnit}
-use Rattle.c_disks.specs.declared.record.UasDisk.{UasDisk}
 use Rattle.c_tasks.specs.Disks.{made_of_disks}
 use Rattle.c_tasks.specs.Making.{made_tasks}
 use Rattle.guest_tasks.specs.Active.{IsIdle}
@@ -14,6 +13,6 @@ IsMade units set most chunk machine =
     (machine.device.tasks ≡ made_tasks units set most chunk) × IsIdle machine.device × (machine ≡ opened machine.device)
 
 -- the same, of logical units that say what there is to tell of them
-abbrev pub IsMadeOfDisks : List UasDisk → ℕ → ℕ → ℕ → Machine → Type 0
+abbrev pub IsMadeOfDisks : List ℕ → ℕ → ℕ → ℕ → Machine → Type 0
 IsMadeOfDisks disks set most chunk machine =
     (machine.device.tasks ≡ made_of_disks disks set most chunk) × IsIdle machine.device × (machine ≡ opened machine.device)

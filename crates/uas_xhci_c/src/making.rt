@@ -10,7 +10,7 @@ ghost use Rattle.uas_xhci_c.specs.contracts.door.KeptXhci.{the_row as xhci_row};
 use crate::door::KeptXhci;
 use c_common::faults::NO_MEMORY;
 use c_common::hand_out_made;
-use c_tasks::{UasDisk, UasTasksUnit, disks_fault, make_of_disks, make_tasks, making_fault};
+use c_tasks::{UasTasksUnit, disks_fault, make_of_disks, make_tasks, making_fault};
 use std::alloc::Global;
 use xhci_machine::Machine;
 
@@ -68,13 +68,14 @@ fn made(
 }
 
 /// Makes a controller after a reset, with a disk plugged in whose logical units say what there is to tell of them, as `uas_xhci_new` does with
-/// others; `set` may be 2 too, for the commands of virtual disks, of which each logical unit has its own maximum. The number of the fault, where
-/// `xhci` is as it was, or 0: `UNITS`, of the first logical unit with one `TASKS_SIZE`, `BLOCKS`, `TASKS_BLOCK_BYTES` or `TASKS_DISK`, then
-/// `TASKS_SET`, `TASKS_CHUNK`, `NO_MEMORY`. At 0 such a controller (`IsMadeOfDisks`) lies at `xhci` and is the caller's.
+/// others. Their records lie one behind another in `disks`. `set` may be 2 too, for the commands of virtual disks, of which each logical unit has its
+/// own maximum. The number of the fault, where `xhci` is as it was, or 0: `UNITS` without a byte; of the first logical unit with one `UNITS`, which the
+/// sixteenth has, `TASKS_SIZE`, `BLOCKS`, `TASKS_BLOCK_BYTES` or `TASKS_DISK`; then `TASKS_SET`, `TASKS_CHUNK`, `NO_MEMORY`. At 0 such a controller
+/// (`IsMadeOfDisks`) lies at `xhci` and is the caller's.
 #[unsafe(no_mangle)]
 pub extern "C" fn uas_xhci_new_disks(
     alloc: Global,
-    disks: &[UasDisk],
+    disks: &[u8],
     set: u8,
     most: u16,
     chunk: u16,
@@ -90,7 +91,7 @@ pub extern "C" fn uas_xhci_new_disks(
 /// The error is the number of the fault.
 fn made_of_disks(
     alloc: Global,
-    disks: &[UasDisk],
+    disks: &[u8],
     set: u8,
     most: u16,
     chunk: u16,

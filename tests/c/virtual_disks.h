@@ -28,7 +28,7 @@ static void virtual_disks(void)
     struct uas_disk disk = virtual_disk();
     struct ended ended;
     uas_tasks_free(tasks);
-    CHECK(uas_tasks_new_disks(&disk, 1, UAS_SET_DISK, 0, 128, &tasks) == UAS_OK);
+    CHECK(uas_tasks_new_disks(&disk, disk.size, UAS_SET_DISK, 0, 128, &tasks) == UAS_OK);
     tells("12 00 00 00 ff 00", "000006025b00000241434d4520202020564449534b2020202020202020202020312e3020"
         "0000000000000000000000000000000000000000000000a01740046004c0", 96);
     tells("12 01 00 00 ff 00", "0000000700808386b0b1b2", 11);
@@ -46,41 +46,65 @@ static void virtual_disks(void)
     /* one that says nothing but its blocks is as in the host set, but for its INQUIRY data */
     disk = (struct uas_disk){ .size = 16, .blocks = BLOCKS, .most = 7 };
     uas_tasks_free(tasks);
-    CHECK(uas_tasks_new_disks(&disk, 1, UAS_SET_DISK, 0, 128, &tasks) == UAS_OK);
+    CHECK(uas_tasks_new_disks(&disk, disk.size, UAS_SET_DISK, 0, 128, &tasks) == UAS_OK);
     tells("12 01 83 00 ff 00", "008300300201002053494d4449534b205541532053494d204449534b202020203030303030303030010300083000000000000000", 52);
+}
+
+/* A field of a good record with another value, and what that comes to. */
+static const struct {
+    size_t at, length;
+    uint64_t value;
+    uint8_t fault;
+} disk_rows[] = {
+    { 0, 4, 15, UAS_TASKS_SIZE }, { 0, 4, 153, UAS_TASKS_SIZE }, { 4, 4, 1, UAS_OK }, { 4, 4, 2, UAS_TASKS_DISK }, { 4, 4, 4, UAS_TASKS_DISK },
+    { 4, 4, 8, UAS_TASKS_DISK }, { 4, 4, 16, UAS_TASKS_DISK }, { 4, 4, 32, UAS_TASKS_DISK }, { 8, 8, 0, UAS_BLOCKS }, { 8, 8, 1ull << 48, UAS_OK },
+    { 8, 8, (1ull << 48) + 1, UAS_BLOCKS }, { 16, 4, 512, UAS_OK }, { 16, 4, 4096, UAS_OK }, { 16, 4, 1024, UAS_TASKS_BLOCK_BYTES }, { 20, 4, 0, UAS_OK },
+    { 20, 4, 512, UAS_OK }, { 20, 4, 1024, UAS_TASKS_DISK }, { 24, 4, 0, UAS_OK }, { 24, 4, 65528, UAS_OK }, { 24, 4, 65536, UAS_TASKS_DISK },
+    { 24, 4, 12, UAS_TASKS_DISK }, { 28, 4, 8, UAS_OK }, { 28, 4, 65536, UAS_OK }, { 28, 4, 12, UAS_TASKS_DISK }, { 28, 4, 65544, UAS_TASKS_DISK },
+    { 32, 2, 1, UAS_OK }, { 32, 2, 0x400, UAS_TASKS_DISK }, { 32, 2, 0xffff, UAS_TASKS_DISK }, { 34, 1, 5, UAS_OK }, { 34, 1, 6, UAS_TASKS_DISK },
+    { 35, 1, 7, UAS_TASKS_DISK }, { 35, 1, 16, UAS_OK }, { 36, 1, 0x1f, UAS_TASKS_DISK }, { 40, 1, 0x7f, UAS_TASKS_DISK }, { 48, 1, 0, UAS_OK },
+    { 64, 1, 9, UAS_TASKS_DISK }, { 103, 1, 1, UAS_TASKS_DISK }, { 104, 1, 0x40, UAS_TASKS_DISK }, { 104, 1, 0x60, UAS_OK }, { 104, 1, 0, UAS_TASKS_DISK },
+};
+
+static uint8_t fault_of_disks(const void *disks, size_t bytes, uint8_t set, uint16_t chunk)
+{
+    uas_tasks *made = NULL;
+    uint8_t fault = uas_tasks_new_disks(disks, bytes, set, 128, chunk, &made);
+    CHECK((made != NULL) == (fault == UAS_OK));
+    uas_tasks_free(made);
+    return fault;
 }
 
 static void making_disks(void)
 {
-    struct { size_t at, length; uint64_t value; uint8_t fault; } rows[] = {
-        { 0, 4, 15, UAS_TASKS_SIZE }, { 0, 4, 153, UAS_TASKS_SIZE }, { 0, 4, 16, UAS_OK }, { 4, 4, 1, UAS_OK }, { 4, 4, 2, UAS_TASKS_DISK },
-        { 4, 4, 4, UAS_TASKS_DISK }, { 4, 4, 8, UAS_TASKS_DISK }, { 4, 4, 16, UAS_OK }, { 4, 4, 32, UAS_TASKS_DISK }, { 8, 8, 0, UAS_BLOCKS },
-        { 8, 8, 1ull << 48, UAS_OK }, { 8, 8, (1ull << 48) + 1, UAS_BLOCKS }, { 16, 4, 512, UAS_OK }, { 16, 4, 4096, UAS_OK },
-        { 16, 4, 1024, UAS_TASKS_BLOCK_BYTES }, { 20, 4, 0, UAS_OK }, { 20, 4, 512, UAS_OK }, { 20, 4, 1024, UAS_TASKS_DISK }, { 24, 4, 0, UAS_OK },
-        { 24, 4, 65528, UAS_OK }, { 24, 4, 65536, UAS_TASKS_DISK }, { 24, 4, 12, UAS_TASKS_DISK }, { 28, 4, 8, UAS_OK }, { 28, 4, 65536, UAS_OK },
-        { 28, 4, 12, UAS_TASKS_DISK }, { 28, 4, 65544, UAS_TASKS_DISK }, { 32, 2, 1, UAS_OK }, { 32, 2, 0x400, UAS_TASKS_DISK },
-        { 32, 2, 0xffff, UAS_TASKS_DISK }, { 34, 1, 5, UAS_OK }, { 34, 1, 6, UAS_TASKS_DISK }, { 36, 1, 0x1f, UAS_TASKS_DISK },
-        { 40, 1, 0x7f, UAS_TASKS_DISK }, { 48, 1, 0, UAS_OK }, { 64, 1, 9, UAS_TASKS_DISK }, { 103, 1, 1, UAS_TASKS_DISK },
-        { 104, 1, 0x40, UAS_TASKS_DISK }, { 104, 1, 0x60, UAS_OK }, { 104, 1, 0, UAS_TASKS_DISK },
-    };
-    for (size_t k = 0; k < sizeof rows / sizeof rows[0]; k++) {
-        struct uas_disk disk = virtual_disk();
-        uas_tasks *made = NULL;
-        memcpy((uint8_t *)&disk + rows[k].at, &rows[k].value, rows[k].length);
-        CHECK(uas_tasks_new_disks(&disk, 1, UAS_SET_DISK, 0, 8, &made) == rows[k].fault);
-        CHECK((made != NULL) == (rows[k].fault == UAS_OK));
-        uas_tasks_free(made);
+    struct uas_disk disk = virtual_disk(), disks[16];
+    uint64_t longer[25] = { 0 }, short_ones[6] = { 0 };
+    for (size_t k = 0; k < sizeof disk_rows / sizeof disk_rows[0]; k++) {
+        struct uas_disk changed = disk;
+        memcpy((uint8_t *)&changed + disk_rows[k].at, &disk_rows[k].value, disk_rows[k].length);
+        CHECK(fault_of_disks(&changed, sizeof changed, UAS_SET_DISK, 8) == disk_rows[k].fault);
     }
-    struct uas_disk disk = virtual_disk();
-    uas_tasks *made = NULL;
-    for (uint8_t bytes = 0; bytes < 18; bytes++) {
-        disk.eui_bytes = bytes;
-        memset(disk.eui, 0xee, sizeof disk.eui);
-        CHECK((uas_tasks_new_disks(&disk, 1, UAS_SET_DISK, 0, 8, &made) == UAS_OK) == (bytes == 0 || bytes == 8 || bytes == 12 || bytes == 16));
-        uas_tasks_free(made);
-        made = NULL;
-    }
-    CHECK(uas_tasks_new_disks(&disk, 0, UAS_SET_DISK, 0, 8, &made) == UAS_UNITS && uas_tasks_new_disks(&disk, 1, 3, 0, 8, &made) == UAS_TASKS_DISK);
+    /* a newer header's, of 200 bytes */
+    memcpy(longer, &disk, sizeof disk);
+    longer[0] = 200 | (uint64_t)UAS_DISK_READ_ONLY << 32;
+    CHECK(fault_of_disks(longer, 200, UAS_SET_DISK, 8) == UAS_OK);
+    CHECK(fault_of_disks(longer, 199, UAS_SET_DISK, 8) == UAS_TASKS_SIZE);
+    longer[24] = 1ull << 56;
+    CHECK(fault_of_disks(longer, 200, UAS_SET_DISK, 8) == UAS_TASKS_SIZE);
+    /* three of 16 bytes each, and one whose fourth isn't whole */
+    for (size_t k = 0; k < 6; k += 2)
+        short_ones[k] = 16, short_ones[k + 1] = BLOCKS;
+    CHECK(fault_of_disks(short_ones, 48, UAS_SET_HOST, 8) == UAS_OK && fault_of_disks(short_ones, 47, UAS_SET_HOST, 8) == UAS_TASKS_SIZE);
+    short_ones[3] = 0;
+    CHECK(fault_of_disks(short_ones, 47, UAS_SET_HOST, 8) == UAS_BLOCKS);
+    /* sixteen, and then the second has a fault */
+    for (size_t k = 0; k < 16; k++)
+        disks[k] = disk;
+    CHECK(fault_of_disks(disks, 0, UAS_SET_DISK, 8) == UAS_UNITS && fault_of_disks(disks, 15 * sizeof disk, UAS_SET_DISK, 8) == UAS_OK);
+    CHECK(fault_of_disks(disks, sizeof disks, 3, 8) == UAS_UNITS);
+    disks[1].form = 6;
+    CHECK(fault_of_disks(disks, sizeof disks, 3, 8) == UAS_TASKS_DISK && fault_of_disks(disks, sizeof disk, 3, 0) == UAS_TASKS_SET);
+    CHECK(fault_of_disks(disks, sizeof disk, UAS_SET_DISK, 129) == UAS_TASKS_CHUNK);
 }
 
 #endif

@@ -36,7 +36,7 @@ abbrev pub ends_in_zeros : ℕ → List ℕ → Bool
 ends_in_zeros place bytes = nat_le (length bytes) place || is_zero (drop place bytes)
 
 -- it has as many bytes as it says, 16 or more, and those behind 152 are 0
-abbrev pub has_size : List ℕ → Bool
+unfoldable pub has_size : List ℕ → Bool
 has_size bytes = not (nat_lt (length bytes) 16) && (little_number 4 bytes == length bytes && ends_in_zeros 152 bytes)
 
 -- Records lie one behind another. The first has as many bytes as it says, or those that are there: then it isn't whole.
@@ -84,7 +84,7 @@ abbrev pub record_in : List ℕ → DiskRecord
 record_in bytes = record { unit = unit_in bytes; limits = limits_in bytes; texts = texts_in bytes; world = world_in bytes }
 
 -- fields that its user doesn't have are 0
-abbrev pub record_of : List ℕ → DiskRecord
+unfoldable pub record_of : List ℕ → DiskRecord
 record_of bytes = record_in (sized 152 bytes)
 
 -- WHAT A FIELD SAYS: zeros are the usual

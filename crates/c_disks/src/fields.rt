@@ -81,6 +81,7 @@ fn ends_in_zeros(bytes: &[u8], place: usize) -> bool
 }
 
 /// Whether these are as many bytes as a record says that it has, and those behind the last field are 0.
+#[tactic(auto, unfolding(crate::specs::Records::has_size))]
 pub(crate) fn has_size(record: &[u8]) -> bool
     ensures { result ≡ has_size record.now }
 {

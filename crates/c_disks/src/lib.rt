@@ -3,8 +3,8 @@
 //! The record begins with its size, which says how many bytes its user has: of 152 those behind them are 0, and those behind 152 have to be. A
 //! field of zeros is as usual. The faults are tested in this order: the size, the blocks, their length, and then any other field.
 //!
-//! What is promised: [`disk_asked`] is the function `disk_asked` of `specs/Records.antt`, for all bytes; [`first_size`] cuts off the first of
-//! records that lie one behind another.
+//! What is promised: [`disk_asked`] is the function `disk_asked` of `specs/Records.antt`, for all bytes. [`first_size`] cuts off the first of
+//! records that lie one behind another, each as long as it says, so that an array of them may grow too.
 //!
 //! It stands on `host_commands` for the logical unit and what is said of it (`disk_units`). It takes no memory.
 #![tactic(auto)]

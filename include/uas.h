@@ -154,6 +154,8 @@ enum uas_fault {
     UAS_TASKS_SERIAL = 150,      /* a serial number of more than eight digits */
     UAS_TASKS_SET = 151,         /* no such command set, or no maximum transfer length */
     UAS_TASKS_CHUNK = 152,       /* a chunk of no blocks, or of more than 128 */
+    UAS_TASKS_SIZE = 153,        /* a struct uas_disk of fewer than 16 bytes, or with unknown ones that aren't 0 */
+    UAS_TASKS_DISK = 154,        /* another field of one that can't be told, or isn't served */
     /* the controller over a caller's memory (uas_xhci.h) */
     UAS_XHCI_MANY = 160,    /* more regions than a call takes */
     UAS_XHCI_WRAPS = 161,   /* a region that goes past the last address */

@@ -21,7 +21,7 @@
  * once. A chunk is of at most as many blocks as the device was made with.
  *
  * The duties of a caller are those of uas.h, for a uas_tasks pointer as for its others; but a call finds 8 KiB of stack. Memory is taken by
- * uas_tasks_new alone. */
+ * uas_tasks_new and uas_tasks_new_disks alone. */
 #ifndef UAS_TASKS_H
 #define UAS_TASKS_H
 
@@ -47,7 +47,8 @@ UAS_TASKS_ASSERT(sizeof(struct uas_tasks_unit) == 16);
 /* Which commands the device knows. */
 enum {
     UAS_SET_PROFILE = 0, /* the nine of uas_device, of at most 128 blocks */
-    UAS_SET_HOST = 1     /* those and what hosts send: vital product data, MODE SENSE, REPORT LUNS, VERIFY, REQUEST SENSE and others */
+    UAS_SET_HOST = 1,    /* those and what hosts send: vital product data, MODE SENSE, REPORT LUNS, VERIFY, REQUEST SENSE and others */
+    UAS_SET_DISK = 2     /* the same for virtual disks, of uas_tasks_new_disks: names of their own, 512e, limits of each logical unit */
 };
 
 /* A device of `count` logical units, without a task and without an attention. With UAS_SET_HOST a READ or WRITE has at most `most` blocks, a
@@ -55,6 +56,42 @@ enum {
  * each of the 240 tags has a buffer of one chunk. *tasks is for uas_tasks_free.
  * Faults: UAS_UNITS, UAS_BLOCKS, UAS_TASKS_BLOCK_BYTES, UAS_TASKS_SERIAL, UAS_TASKS_SET, UAS_TASKS_CHUNK, UAS_NO_MEMORY. */
 uint8_t uas_tasks_new(const struct uas_tasks_unit *units, size_t count, uint8_t set, uint16_t most, uint16_t chunk, uas_tasks **tasks);
+
+/* A logical unit of which its user says what there is to tell. It has `size` bytes, 16 or more: fields behind them count as 0, and what a newer
+ * header has behind these has to be 0. A field of zeros is as usual. A text has printable characters up to a 0 or the end of its field. */
+struct uas_disk {
+    uint32_t size;           /* sizeof(struct uas_disk) */
+    uint32_t flags;          /* UAS_DISK_... */
+    uint64_t blocks;         /* 1 to 2^48 */
+    uint32_t block_bytes;    /* 512 or 4,096; usual 512 */
+    uint32_t physical_bytes; /* of a block of the medium: the same (usual), or 4,096 (512e) */
+    uint32_t most;           /* UAS_SET_DISK: the most blocks of a READ or WRITE, a multiple of 8 from 8 to 65,528; usual 128 */
+    uint32_t discard_blocks; /* how many are given back at once: a multiple of 4,096 bytes, up to 65,536 blocks; usual 4,096 bytes */
+    uint16_t rotation;       /* 1 where it doesn't turn (usual), else 1,025 to 65,534 rounds a minute */
+    uint8_t form;            /* 0 not told, 1 5.25 inches, 2 3.5, 3 2.5, 4 1.8, 5 less */
+    uint8_t eui_bytes;       /* of `eui`: 8, 12 or 16; 0 for none */
+    char revision[4], vendor[8], product[16];
+    char serial[36];         /* usual: its number in the device, in eight digits */
+    uint8_t reserved[4];     /* 0 */
+    uint8_t naa[16];         /* begins with 2, 3 or 5 and has 8 bytes, or with 6 and has 16; zeros for none */
+    uint8_t eui[16], uuid[16]; /* zeros for none */
+};
+UAS_TASKS_ASSERT(sizeof(struct uas_disk) == 152 && offsetof(struct uas_disk, serial) == 64 && offsetof(struct uas_disk, uuid) == 136);
+
+enum {
+    UAS_DISK_READ_ONLY = 1,
+    UAS_DISK_THIN = 2,          /* UNMAP; refused, since it isn't served yet, as the next three */
+    UAS_DISK_REMOVABLE = 4,     /* the medium can be taken out */
+    UAS_DISK_WRITE_THROUGH = 8, /* writes aren't cached */
+    UAS_DISK_QUIET = 16         /* a change of it isn't told */
+};
+
+/* The same of logical units that say what there is to tell of them: one behind another in `bytes` bytes, so an array and its sizeof. With
+ * UAS_SET_DISK INQUIRY, vital product data and READ CAPACITY(16) tell it, and `most` isn't looked at; the other sets tell the names, the block
+ * length and whether it is read only.
+ * Faults: UAS_UNITS; of the first logical unit with one UAS_UNITS (the sixteenth), UAS_TASKS_SIZE (it isn't whole, too), UAS_BLOCKS,
+ * UAS_TASKS_BLOCK_BYTES, UAS_TASKS_DISK; UAS_TASKS_SET, UAS_TASKS_CHUNK, UAS_NO_MEMORY. */
+uint8_t uas_tasks_new_disks(const struct uas_disk *disks, size_t bytes, uint8_t set, uint16_t most, uint16_t chunk, uas_tasks **tasks);
 
 /* Gives back all memory that the device holds, but the block of malloc that the pointer is of. For uas_tasks_free alone. */
 void uas_tasks_close(uas_tasks *tasks);

@@ -57,6 +57,10 @@ UAS_XHCI_ASSERT(sizeof(struct uas_region) == 24 && offsetof(struct uas_region, b
  * Faults: UAS_UNITS, UAS_BLOCKS, UAS_TASKS_BLOCK_BYTES, UAS_TASKS_SERIAL, UAS_TASKS_SET, UAS_TASKS_CHUNK, UAS_NO_MEMORY. */
 uint8_t uas_xhci_new(const struct uas_tasks_unit *units, size_t count, uint8_t set, uint16_t most, uint16_t chunk, uas_xhci **xhci);
 
+/* The same, of logical units that say what there is to tell of them. All but the last parameter are those of uas_tasks_new_disks.
+ * Faults: those of uas_tasks_new_disks. */
+uint8_t uas_xhci_new_disks(const struct uas_disk *disks, size_t bytes, uint8_t set, uint16_t most, uint16_t chunk, uas_xhci **xhci);
+
 /* Gives back all memory that the controller holds, but the block of malloc that the pointer is of. For uas_xhci_free alone. */
 void uas_xhci_close(uas_xhci *xhci);
 

@@ -15,6 +15,7 @@ static uint8_t bytes[UAS_BLOCK_BYTES];
 static void null_tasks(void) { uas_tasks_reset(NULL); }
 static void null_xhci(void) { uas_xhci_read(NULL, 0, 4); }
 static void null_units(void) { uas_tasks_new(NULL, 1, UAS_SET_HOST, 64, 8, &tasks); }
+static void null_disks(void) { uas_tasks_new_disks(NULL, 152, UAS_SET_DISK, 0, 8, &tasks); }
 static void null_made(void) { uas_xhci_new(&unit, 1, UAS_SET_HOST, 64, 8, NULL); }
 static void null_data(void) { uas_xhci_data(xhci, 1, NULL, sizeof bytes); }
 static void null_answer(void) { uas_tasks_answered(tasks, 1, UAS_DONE, NULL, sizeof bytes); }
@@ -108,6 +109,7 @@ static const struct mistake mistakes[] = {
     { "uas_tasks_reset: tasks is a null pointer\n", null_tasks },
     { "uas_xhci_read: xhci is a null pointer\n", null_xhci },
     { "uas_tasks_new: units is a null pointer\n", null_units },
+    { "uas_tasks_new_disks: disks is a null pointer\n", null_disks },
     { "uas_xhci_new: xhci is a null pointer\n", null_made },
     { "uas_xhci_data: bytes is a null pointer\n", null_data },
     { "uas_tasks_answered: bytes is a null pointer\n", null_answer },

@@ -287,6 +287,8 @@ static void stale_writes(void)
     CHECK(uas_tasks_answered(tasks, second.number, UAS_DONE, NULL, 0) == UAS_OK && phase_of(5) == UAS_ASKS);
 }
 
+#include "virtual_disks.h"
+
 static void making(void)
 {
     struct uas_tasks_unit good = { 1, 0, 512 }, unit = good;
@@ -318,6 +320,8 @@ static void making(void)
 int main(void)
 {
     making();
+    making_disks();
+    virtual_disks();
     host_commands();
     blocks();
     requests();

@@ -1,6 +1,7 @@
--- The making of a handle of logical units for C, once for every type R behind one and every name N of it in C: the code of an export that makes a
--- box and hands it out by `hand_out_made`, and that it meets the export's contract, where what makes the box meets its own.
-use Rattle.std.proofs.Common.{◌≡◌, ℕ, ◌<◌, List, [], ◌∷◌, true, refl, sym, subst, w8, w16}
+-- The making of a handle of logical units for C, once for every type R behind one, every name N of it in C and every record U of a logical unit: the
+-- code of an export that makes a box and hands it out by `hand_out_made`, and that it meets the export's contract, where what makes the box meets
+-- its own.
+use Rattle.std.proofs.Common.{◌≡◌, ℕ, ◌<◌, List, [], ◌∷◌, Option, true, refl, sym, subst, w8, w16}
 use Rattle.std.specs.Prelude.{IfErr, IfOk}
 use mir.Syntax.{Args, Callee, Dict, Fn, a_type, dcons, dnil, method, no_args}
 use mir.Syntax.{named, erased, imm, mut, ty_int, ty_ptr, ty_ref, deref, place, copy, addr_of, seq, assign, call, return}
@@ -27,7 +28,7 @@ use denote.Param.{bounded, layout, param}
 use denote.Param.Laws.{Laws}
 use denote.Plain.{uint_Lawful, uint_Tells}
 use denote.Signature.{types_at, plain}
-use denote.Builtin.{RawPtr, RefMutOf, u8, u16, SliceRefOf}
+use denote.Builtin.{One, RawPtr, RefMutOf, u8, u16, SliceRefOf}
 use denote.Ref.{mut_vals}
 use denote.Slice.{shr_slice_vals, slice_ty}
 use denote.Steps.{nothing, only, heard, peeks}
@@ -50,24 +51,37 @@ use Rattle.c_common.proofs.Behind.{Known, known_laws}
 use Rattle.c_common.proofs.ExportCode.{one_local}
 use Rattle.c_common.proofs.Given.{As, glue_of, letting_go, silent}
 use Rattle.c_common.proofs.HandedOut.{Made, as_it_was, handed, made_laws, one_value}
+use Rattle.c_tasks.specs.Disks.{disks_fault}
 use Rattle.c_tasks.specs.Making.{making_fault, tells}
-use Rattle.c_tasks.specs.declared.UasTasksUnit.{UasTasksUnit}
 use Rattle.c_tasks.specs.contracts.UasTasksUnit.{the_row as unit_row}
 
--- what is made of these logical units, of the set of this number and most blocks, of this chunk
-abbrev pub MadeOf : RattleType → Type 1
-MadeOf R = List UasTasksUnit → ℕ → ℕ → ℕ → R.Denot → Type 0
+-- a record of a logical unit as C has it, and the first fault of a list of them, of the set of this number and most blocks, of this chunk
+pub record Asked : Type 1 where
+  pub row : RattleType
+  pub one : One row.mir
+  pub fault : List row.Denot → ℕ → ℕ → ℕ → Option ℕ
+
+-- those that say no more than their blocks, and those that say what there is to tell, in bytes
+abbrev pub of_units : Asked
+of_units = record { row = unit_row; one = tt; fault = making_fault }
+
+abbrev pub of_disks : Asked
+of_disks = record { row = u8; one = tt; fault = disks_fault }
+
+-- what is made of them
+abbrev pub MadeOf : Asked → RattleType → Type 1
+MadeOf U R = List U.row.Denot → ℕ → ℕ → ℕ → R.Denot → Type 0
 
 -- THE CODE
 
-abbrev pub function : RattleType → Callee → Callee → Fn
-function R make over = record {
+abbrev pub function : Asked → RattleType → Callee → Callee → Fn
+function U R make over = record {
   lifetimes = 2;
   outlives = [];
   ty_params = [];
   givens = 0;
   params = 6;
-  locals = one_local (ty_int w8) ∷ one_local (layout heap.the_row) ∷ one_local (slice_ty (ty_ref (named 0) imm (unit_row.written.ty)))
+  locals = one_local (ty_int w8) ∷ one_local (layout heap.the_row) ∷ one_local (slice_ty (ty_ref (named 0) imm (U.row.written.ty)))
       ∷ one_local (ty_int w8) ∷ one_local (ty_int w16) ∷ one_local (ty_int w16) ∷ one_local (ty_ref (named 1) mut ty_ptr)
       ∷ one_local (layout (Made (As R))) ∷ one_local (ty_ref erased mut ty_ptr) ∷ [];
   body = seq (call make (copy (place 1 []) ∷ copy (place 2 []) ∷ copy (place 3 []) ∷ copy (place 4 []) ∷ copy (place 5 []) ∷ []) (place 7 []))
@@ -77,12 +91,12 @@ function R make over = record {
 
 -- THE CONTRACT OF WHAT MAKES THE BOX
 
-abbrev pub made_ended : RattleType → Ended
-made_ended R = record {
+abbrev pub made_ended : Asked → RattleType → Ended
+made_ended U R = record {
   signature = record {
     lifetimes = 1;
     outlives = [];
-    params = plain (λ κs. heap.the_row) ∷ SliceRefOf (0 ∷ []) tt (plain (λ κs. unit_row)) (λ κs. tt)
+    params = plain (λ κs. heap.the_row) ∷ SliceRefOf (0 ∷ []) tt (plain (λ κs. U.row)) (λ κs. U.one)
         ∷ plain (λ κs. u8) ∷ plain (λ κs. u16) ∷ plain (λ κs. u16) ∷ [];
     result = plain (λ κs. Made (As R));
   };
@@ -90,24 +104,24 @@ made_ended R = record {
 }
 
 -- what is made is that, else the fault is told, and it is not 0
-abbrev pub made_clauses : (R : RattleType) → MadeOf R → {M : Type 1} {𝓤 : Ura M} (𝓛 : Logic 𝓤) → Clauses 𝓤 (made_ended R)
-made_clauses R IsMade {𝓤 = 𝓤} 𝓛 κs args =
+abbrev pub made_clauses : (U : Asked) (R : RattleType) → MadeOf U R → {M : Type 1} {𝓤 : Ura M} (𝓛 : Logic 𝓤) → Clauses 𝓤 (made_ended U R)
+made_clauses U R IsMade {𝓤 = 𝓤} 𝓛 κs args =
     let units = args.1.0.now in let set = args.1.1.0 in let most = args.1.1.1.0 in let chunk = args.1.1.1.1.0 in
     record {
       ghost = Unit {0};
       requires = λ ghost. emp 𝓤;
       ensures = λ ghost m end. sep 𝓤 (fact 𝓤 (IfOk m (λ made. IsMade units set most chunk made.value)))
-          (sep 𝓤 (fact 𝓤 (tells (made_number m) (making_fault units set most chunk) ≡ true)) (fact 𝓤 (IfErr m (λ number. 0 < number))));
+          (sep 𝓤 (fact 𝓤 (tells (made_number m) (U.fault units set most chunk) ≡ true)) (fact 𝓤 (IfErr m (λ number. 0 < number))));
     }
 
 -- THE CONTRACT OF THE EXPORT
 
-abbrev pub ended : Ended
-ended = record {
+abbrev pub ended : Asked → Ended
+ended U = record {
   signature = record {
     lifetimes = 2;
     outlives = [];
-    params = plain (λ κs. heap.the_row) ∷ SliceRefOf (0 ∷ []) tt (plain (λ κs. unit_row)) (λ κs. tt)
+    params = plain (λ κs. heap.the_row) ∷ SliceRefOf (0 ∷ []) tt (plain (λ κs. U.row)) (λ κs. U.one)
         ∷ plain (λ κs. u8) ∷ plain (λ κs. u16) ∷ plain (λ κs. u16) ∷ RefMutOf (1 ∷ []) tt (plain (λ κs. RawPtr)) (λ κs. tt) ∷ [];
     result = plain (λ κs. u8);
   };
@@ -115,24 +129,24 @@ ended = record {
 }
 
 -- the fault is told, the pointer stays where there is one, and else what was made is handed out
-abbrev pub clauses : (R : RattleType) → MadeOf R → {M : Type 1} {𝓤 : Ura M} (𝓛 : Logic 𝓤) → Clauses 𝓤 ended
-clauses R IsMade {𝓤 = 𝓤} 𝓛 κs args =
+abbrev pub clauses : (U : Asked) (R : RattleType) → MadeOf U R → {M : Type 1} {𝓤 : Ura M} (𝓛 : Logic 𝓤) → Clauses 𝓤 (ended U)
+clauses U R IsMade {𝓤 = 𝓤} 𝓛 κs args =
     let units = args.1.0.now in let set = args.1.1.0 in let most = args.1.1.1.0 in let chunk = args.1.1.1.1.0 in
     record {
       ghost = Unit {0};
       requires = λ ghost. emp 𝓤;
-      ensures = λ ghost r end. sep 𝓤 (fact 𝓤 (tells r (making_fault units set most chunk) ≡ true))
+      ensures = λ ghost r end. sep 𝓤 (fact 𝓤 (tells r (U.fault units set most chunk) ≡ true))
           (sep 𝓤 (fact 𝓤 (0 < r → end.1.1.1.1.1.0.now ≡ args.1.1.1.1.1.0.now))
           (sem 𝓛 (handed_out (param 0 (As R)) (IsMade units set most chunk) r end.1.1.1.1.1.0.now)));
     }
 
 -- THE WALK
 
-abbrev stayed : Stays (ended).signature.params (ended).kept
-stayed = (
+abbrev stayed : (U : Asked) → Stays (ended U).signature.params (ended U).kept
+stayed U = (
   stay_dropped (plain (λ κs. heap.the_row)) yes,
   (
-    stay_dropped (SliceRefOf (0 ∷ []) tt (plain (λ κs. unit_row)) (λ κs. tt)) yes,
+    stay_dropped (SliceRefOf (0 ∷ []) tt (plain (λ κs. U.row)) (λ κs. U.one)) yes,
     (
       stay_dropped (plain (λ κs. u8)) yes,
       (stay_dropped (plain (λ κs. u16)) yes, (stay_dropped (plain (λ κs. u16)) yes, (gave_ref (1 ∷ []) tt (plain (λ κs. RawPtr)), tt))),
@@ -140,25 +154,25 @@ stayed = (
   ),
 )
 
-pub meets : (R N : RattleType) (L : Laws (As R)) (IsMade : MadeOf R) (dR : Dict) (make hands : Callee)
+pub meets : (U : Asked) (R N : RattleType) (L : Laws (As R)) (IsMade : MadeOf U R) (dR : Dict) (make hands : Callee)
     → ((κ : Lft) → κ ⊑ R.lives) → ((κ : Lft) → κ ⊑ N.lives)
     → {M : Type 1} (𝓤 : Ura M) (𝓛 : Logic 𝓤) (𝓜 : Model 𝓤 𝓛.H) (𝓡 : Running 𝓤 𝓛.H 𝓜)
-    → Meets 𝓛 (made_ended R).signature ((tables 𝓤 𝓛.H 𝓜 𝓡 𝓡.env).C make) (closing 𝓛 (made_ended R) (made_clauses R IsMade 𝓛))
+    → Meets 𝓛 (made_ended U R).signature ((tables 𝓤 𝓛.H 𝓜 𝓡 𝓡.env).C make) (closing 𝓛 (made_ended U R) (made_clauses U R IsMade 𝓛))
     → Triple 𝓤 ((tables 𝓤 𝓛.H 𝓜 𝓡 𝓡.env).C hands)
     (triple_of 𝓛 (over.signature (As R) (As N)) (over.spec (As R) (As N) dR 𝓛 𝓜.mem 𝓡.returns))
     → (export : Callee)
-    → Closed 𝓤 𝓛.H (tables 𝓤 𝓛.H 𝓜 𝓡 𝓡.env).C (tables 𝓤 𝓛.H 𝓜 𝓡 𝓡.env).Λ export (function R make hands)
-    → Meets 𝓛 (ended).signature ((tables 𝓤 𝓛.H 𝓜 𝓡 𝓡.env).C export) (closing 𝓛 ended (clauses R IsMade 𝓛))
-meets R N L IsMade dR make hands within name_within 𝓤 𝓛 𝓜 𝓡 known known' export closed =
+    → Closed 𝓤 𝓛.H (tables 𝓤 𝓛.H 𝓜 𝓡 𝓡.env).C (tables 𝓤 𝓛.H 𝓜 𝓡 𝓡.env).Λ export (function U R make hands)
+    → Meets 𝓛 (ended U).signature ((tables 𝓤 𝓛.H 𝓜 𝓡 𝓡.env).C export) (closing 𝓛 (ended U) (clauses U R IsMade 𝓛))
+meets U R N L IsMade dR make hands within name_within 𝓤 𝓛 𝓜 𝓡 known known' export closed =
     let H = 𝓛.H in
     let 𝓣 = tables 𝓤 H 𝓜 𝓡 𝓡.env in
-    let c = clauses R IsMade 𝓛 in
-    let fn = function R make hands in
+    let c = clauses U R IsMade 𝓛 in
+    let fn = function U R make hands in
     let T : RattleType = As R in
-    proved_at 𝓛 ended stayed c 𝓜 𝓡 (
+    proved_at 𝓛 (ended U) (stayed U) c 𝓜 𝓡 (
       Goes-dropped 𝓛 2 (plain (λ κs. heap.the_row)) yes (λ κs x f. refl),
       (
-        Goes-dropped 𝓛 2 (SliceRefOf (0 ∷ []) tt (plain (λ κs. unit_row)) (λ κs. tt)) yes (λ κs x f. refl),
+        Goes-dropped 𝓛 2 (SliceRefOf (0 ∷ []) tt (plain (λ κs. U.row)) (λ κs. U.one)) yes (λ κs x f. refl),
         (
           Goes-dropped 𝓛 2 (plain (λ κs. u8)) yes (λ κs x f. refl),
           (
@@ -168,7 +182,7 @@ meets R N L IsMade dR make hands within name_within 𝓤 𝓛 𝓜 𝓡 known kn
         ),
       ),
     ) export fn closed (λ z are.
-    let W = walk_of 𝓛 ended stayed c in
+    let W = walk_of 𝓛 (ended U) (stayed U) c in
     let κs = z.0.0 in let κ₀ = κs.0 in let κ₁ = κs.1.0 in
     let qs = z.0.1 in let q₀ = qs.0 in let q₁ = qs.1.0 in
     let a = z.0.3 in let alloc = a.0 in let units = a.1.0 in let r = a.1.1.1.1.1.0 in
@@ -177,20 +191,20 @@ meets R N L IsMade dR make hands within name_within 𝓤 𝓛 𝓜 𝓡 known kn
     let vs₂ : List Val = vint w8 set ∷ [] in
     let vs₃ : List Val = vint w16 most ∷ [] in
     let vs₄ : List Val = vint w16 chunk ∷ [] in
-    let vss : Vals (ended).signature κs = (vh ∷ [], (shr_slice_vals units, (vs₂, (vs₃, (vs₄, (mut_vals r, tt)))))) in
+    let vss : Vals (ended U).signature κs = (vh ∷ [], (shr_slice_vals units, (vs₂, (vs₃, (vs₄, (mut_vals r, tt)))))) in
     let eh : z.0.4.0 ≡ vh ∷ [] = one_value z.0.4.0 (heap_laws.the_row_laws.single alloc z.0.4.0 are.0) in
     let es : z.0.4.1.1.0 ≡ vs₂ = uint_Tells w8 set z.0.4.1.1.0 are.1.1.0 in
     let em : z.0.4.1.1.1.0 ≡ vs₃ = uint_Tells w16 most z.0.4.1.1.1.0 are.1.1.1.0 in
     let ec : z.0.4.1.1.1.1.0 ≡ vs₄ = uint_Tells w16 chunk z.0.4.1.1.1.1.0 are.1.1.1.1.0 in
-    let At : Vals (ended).signature κs → W.Ghost = λ vss. ((κs, qs, z.0.2, a, vss), z.1) in
-    let Goes : Vals (ended).signature κs → Type 1 =
+    let At : Vals (ended U).signature κs → W.Ghost = λ vss. ((κs, qs, z.0.2, a, vss), z.1) in
+    let Goes : Vals (ended U).signature κs → Type 1 =
     λ vss. ent 𝓤 (W.pre (At vss)) (WpFn 𝓤 H 𝓣.C 𝓣.Λ fn (W.args (At vss)) (W.post (At vss))) in
     let z' : W.Ghost = At vss in
     subst Goes (sym (λ i. (eh i, (are.1.0.0.0 i, (es i, (em i, (ec i, (are.1.1.1.1.1.0.0 i, tt)))))))) (
     let Is_made = IsMade units.now set most chunk in
-    let fault = making_fault units.now set most chunk in
-    let O = made_ended R in
-    let G = triple_of 𝓛 O.signature (closing 𝓛 O (made_clauses R IsMade 𝓛)) in
+    let fault = U.fault units.now set most chunk in
+    let O = made_ended U R in
+    let G = triple_of 𝓛 O.signature (closing 𝓛 O (made_clauses U R IsMade 𝓛)) in
     let y : G.Ghost = (
       ((κ₀, tt), (q₀, tt), tt, (alloc, (units, (set, (most, (chunk, tt))))), (vh ∷ [], (shr_slice_vals units, (vs₂, (vs₃, (vs₄, tt)))))),
       tt,
@@ -200,7 +214,7 @@ meets R N L IsMade dR make hands within name_within 𝓤 𝓛 𝓜 𝓡 known kn
     let static = ‵ (flft [] full_share) in
     let kept₀ = ‵ (flft κ₀ q₀) ⊛ ‵ ftrue in
     let toks = ‵ (flft κ₁ q₁) ⊛ static ⊛ static ⊛ ‵ ftrue in
-    let brought = ‵ (owns (types_at (ended).signature.params κs) a vss) in
+    let brought = ‵ (owns (types_at (ended U).signature.params κs) a vss) in
     qed 𝓛 (((‵ (flft κ₀ q₀) ⊛ ‵ (flft κ₁ q₁) ⊛ ‵ ftrue) ⊛ brought) ∷ ‵ ftrue ∷ []) ∵
     split ! $ split ! $ move ! (1 ∷ []) $ split ! $ move ! (3 ∷ []) $ fsplit ! $ move ! (1 ∷ []) $ fsplit ! $ move ! (1 ∷ []) $ fsplit ! $
     move ! (1 ∷ []) $ fsplit ! $ move ! (1 ∷ []) $ fsplit ! $ move ! (1 ∷ []) $ fsplit ! $
@@ -257,7 +271,7 @@ meets R N L IsMade dR make hands within name_within 𝓤 𝓛 𝓜 𝓡 known kn
     use0 𝓛 (raw (fact 𝓤 (0 < n → end.1.0 ≡ r.now))) (fact_i 𝓤 (0 < n → end.1.0 ≡ r.now) (emp 𝓤) (as_it_was m n answer kept)) $ join ! $
     use0 𝓛 (raw (fact 𝓤 (tells n fault ≡ true))) (fact_i 𝓤 (tells n fault ≡ true) (emp 𝓤)
     (subst (λ (k : ℕ). tells k fault ≡ true) (sym answer) told)) $ join ! $ keep ! (2 ∷ 1 ∷ 3 ∷ 0 ∷ []) $
-    by ! (leaves 𝓛 ended stayed c z' v n (tt, (tt, (tt, (tt, (tt, (end.1.0, tt)))))) (tt, (tt, (tt, (tt, (tt, (tt, tt)))))))))))))))))))))))
+    by ! (leaves 𝓛 (ended U) (stayed U) c z' v n (tt, (tt, (tt, (tt, (tt, (end.1.0, tt)))))) (tt, (tt, (tt, (tt, (tt, (tt, tt)))))))))))))))))))))))
 
 -- THE EXPORT OF A CRATE
 
@@ -265,17 +279,17 @@ abbrev pub given_types : Known → Known → Dict → Args
 given_types type name drops = bounded (a_type ∷ a_type ∷ []) (As type.row, (As name.row, tt)) (dcons drops dnil)
 
 -- The crate has a type behind the handle, made so by `make`, and let go by the `drop` under the name s.
-pub exported : (type name : Known) (IsMade : MadeOf type.row) (drops : Dict)
+pub exported : (U : Asked) (type name : Known) (IsMade : MadeOf U type.row) (drops : Dict)
     → {M : Type 1} (𝓤 : Ura M) (𝓛 : Logic 𝓤) (𝓜 : Model 𝓤 𝓛.H) (𝓡 : Running 𝓤 𝓛.H 𝓜) → Wired 𝓡.env over_code
     → (s : Callee) → 𝓡.env s ≼⁺ 𝓡.env (method drops 0 no_args) → Meets 𝓛 (letting_go type.row) (𝓡.run (𝓡.env s)) (silent type.row yes 𝓛)
     → (make : Callee)
-    → Meets 𝓛 (made_ended type.row).signature ((tables 𝓤 𝓛.H 𝓜 𝓡 𝓡.env).C make) (closing 𝓛 (made_ended type.row) (made_clauses type.row IsMade 𝓛))
+    → Meets 𝓛 (made_ended U type.row).signature ((tables 𝓤 𝓛.H 𝓜 𝓡 𝓡.env).C make) (closing 𝓛 (made_ended U type.row) (made_clauses U type.row IsMade 𝓛))
     → (export : Callee)
     → Closed 𝓤 𝓛.H (tables 𝓤 𝓛.H 𝓜 𝓡 𝓡.env).C (tables 𝓤 𝓛.H 𝓜 𝓡 𝓡.env).Λ export
-    (function type.row make (#hand_out (given_types type name drops)))
-    → Meets 𝓛 (ended).signature ((tables 𝓤 𝓛.H 𝓜 𝓡 𝓡.env).C export) (closing 𝓛 ended (clauses type.row IsMade 𝓛))
-exported type name IsMade drops 𝓤 𝓛 𝓜 𝓡 wired s above dropped make made export closed =
+    (function U type.row make (#hand_out (given_types type name drops)))
+    → Meets 𝓛 (ended U).signature ((tables 𝓤 𝓛.H 𝓜 𝓡 𝓡.env).C export) (closing 𝓛 (ended U) (clauses U type.row IsMade 𝓛))
+exported U type name IsMade drops 𝓤 𝓛 𝓜 𝓡 wired s above dropped make made export closed =
     let glue = glue_of type.row yes drops 𝓤 𝓛 𝓜 𝓡 s above dropped in
-    meets type.row name.row (known_laws type) IsMade drops make (#hand_out (given_types type name drops)) type.within name.within
+    meets U type.row name.row (known_laws type) IsMade drops make (#hand_out (given_types type name drops)) type.within name.within
     𝓤 𝓛 𝓜 𝓡 made
     (over_met 𝓤 𝓛 𝓜 𝓡 wired (As type.row) (As name.row) (known_laws type) (known_laws name) drops glue) export closed

@@ -1,2 +1,3 @@
 -- A device without blocks as C asks for it.
+pub mod Disks
 pub mod Making

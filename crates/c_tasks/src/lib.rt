@@ -6,8 +6,13 @@
 //! `proofs/MadeExport.antt` proves, once for every handle of such units, that an export which makes a box and hands it out meets its
 //! contract.
 //!
-//! It stands on `host_commands` and `uas_tasks`, and for that proof on `c_common`.
+//! Logical units of which C says what there is to tell ([`disks_fault`], [`make_of_disks`], specs/Disks.antt) are c_disks' records, one behind
+//! another.
+//!
+//! It stands on `host_commands`, `c_disks` and `uas_tasks`, and for that proof on `c_common`.
 #![tactic(auto)]
+
+mod making;
 
 ghost use Rattle.std.specs.Prelude.{◌≡◌, ◌<◌, ◌≤◌, IfOk, IfSome, None, length, map, true};
 ghost use Rattle.std.specs.List.{list_all};
@@ -19,6 +24,7 @@ use c_common::faults::{BLOCKS, TASKS_BLOCK_BYTES, TASKS_CHUNK, TASKS_SERIAL, TAS
 use host_commands::{
     BlockLength, CommandSet, LogicalUnitShape, MOST_BLOCKS, SERIAL_NUMBERS, SerialNumber,
 };
+pub use making::{disks_fault, make_of_disks};
 use std::alloc::{AllocError, Global};
 use uas_profile::MAX_UNITS;
 use uas_tasks::{MOST_CHUNK_BLOCKS, Tasks};

@@ -2,13 +2,14 @@
 ghost use Rattle.std.specs.Prelude.{◌≡◌, ◌<◌, IfErr, IfOk, true};
 ghost use types.Logic.{sem};
 ghost use Rattle.c_common.specs.HandedOut.{handed_out, made_number};
+ghost use Rattle.c_tasks.specs.Disks.{disks_fault, made_of_disks};
 ghost use Rattle.c_tasks.specs.Making.{made_tasks, making_fault, tells};
 ghost use Rattle.uas_tasks_c.specs.contracts.door.KeptTasks.{the_row as tasks_row};
 
 use crate::door::KeptTasks;
 use c_common::faults::NO_MEMORY;
 use c_common::hand_out_made;
-use c_tasks::{UasTasksUnit, make_tasks, making_fault};
+use c_tasks::{UasTasksUnit, disks_fault, make_of_disks, make_tasks, making_fault};
 use std::alloc::Global;
 
 /// The device's name in C, which knows no more of it.
@@ -53,6 +54,51 @@ fn made(
         return Err(fault);
     }
     let Ok(tasks) = make_tasks(alloc, units, set, most, chunk) else {
+        return Err(NO_MEMORY);
+    };
+    match Box::new(alloc, KeptTasks { tasks }) {
+        Ok(made) => Ok(made),
+        Err(_) => Err(NO_MEMORY),
+    }
+}
+
+/// Makes a device of logical units that say what there is to tell of them, as `uas_tasks_new` does of others. Their records lie one behind another
+/// in `disks`. `set` may be 2 too, for the commands of virtual disks, of which each logical unit has its own maximum. The number of the fault, where
+/// `tasks` is as it was, or 0: `UNITS` without a byte; of the first logical unit with one `UNITS`, which the sixteenth has, `TASKS_SIZE`, `BLOCKS`,
+/// `TASKS_BLOCK_BYTES` or `TASKS_DISK`; then `TASKS_SET`, `TASKS_CHUNK`, `NO_MEMORY`. At 0 that very device, `made_of_disks`, lies at `tasks` and is
+/// the caller's.
+#[unsafe(no_mangle)]
+pub extern "C" fn uas_tasks_new_disks(
+    alloc: Global,
+    disks: &[u8],
+    set: u8,
+    most: u16,
+    chunk: u16,
+    tasks: &mut *mut UasTasks,
+) -> u8
+    ensures fault { tells result (disks_fault disks.now set most chunk) ≡ true }
+    ensures refused { 0 < result → tasks.new ≡ tasks.old }
+    ensures* handed_out { sem 𝓛 (handed_out tasks_row (λ made. made ≡ made_of_disks disks.now set most chunk) result tasks.new) }
+{
+    hand_out_made(made_of_disks(alloc, disks, set, most, chunk), tasks)
+}
+
+/// The error is the number of the fault.
+fn made_of_disks(
+    alloc: Global,
+    disks: &[u8],
+    set: u8,
+    most: u16,
+    chunk: u16,
+) -> Result<Box<KeptTasks, Global>, u8>
+    ensures made { IfOk result (λ made. made.value ≡ made_of_disks disks.now set most chunk) }
+    ensures fault { tells (made_number result) (disks_fault disks.now set most chunk) ≡ true }
+    ensures number { IfErr result (λ number. 0 < number) }
+{
+    if let Some(fault) = disks_fault(disks, set, most, chunk) {
+        return Err(fault);
+    }
+    let Ok(tasks) = make_of_disks(alloc, disks, set, most, chunk) else {
         return Err(NO_MEMORY);
     };
     match Box::new(alloc, KeptTasks { tasks }) {

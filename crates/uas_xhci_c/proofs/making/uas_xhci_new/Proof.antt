@@ -2,7 +2,7 @@
 use Rattle.std.proofs.Common.{[], ◌∷◌, refl}
 use mir.Syntax.{Dict, dnil, impl, method, no_args, tnil}
 use Rattle.c_common.proofs.Behind.{known}
-use Rattle.c_tasks.proofs.MadeExport.{exported}
+use Rattle.c_tasks.proofs.MadeExport.{exported, of_units}
 use Rattle.uas_xhci_c.specs.Made.{IsMade}
 use Rattle.uas_xhci_c.specs.contracts.door.KeptXhci.{the_row}
 use Rattle.uas_xhci_c.proofs.door.KeptXhci.TheLaws as laws
@@ -20,7 +20,7 @@ pub uas_xhci_new_spec : {M : Type 1} → statement M
 uas_xhci_new_spec 𝓤 𝓛 𝓜 𝓡 wired =
     let drops : Dict = impl ("uas_xhci_c::uas_xhci_c++door++KeptXhci+Destruct::drop" ∷ []) tnil dnil in
     let drop = code.calls-uas_xhci_c::uas_xhci_c++door++KeptXhci+Destruct::drop 𝓡.env wired in
-    exported (known the_row laws.the_row_laws refl laws.the_within) (known name_row name_laws.the_row_laws refl name_laws.the_within)
+    exported of_units (known the_row laws.the_row_laws refl laws.the_within) (known name_row name_laws.the_row_laws refl name_laws.the_within)
     IsMade drops 𝓤 𝓛 𝓜 𝓡 (code.calls-c_common::hand_out_made 𝓡.env wired)
     dropped.name (dropped.as_method 𝓡.env drop (method drops 0 no_args) refl) (met 𝓤 𝓛 𝓜 𝓡 drop)
     #made (made_met 𝓤 𝓛 𝓜 𝓡 (code.calls-uas_xhci_c::making::made 𝓡.env wired)) name (code.unfolded 𝓤 𝓛.H 𝓜 𝓡 wired)

@@ -1,0 +1,110 @@
+/* Logical units that say what there is to tell of them, by rows worked out by hand: what a host is told, and what is refused. Part of tasks.c. */
+#ifndef VIRTUAL_DISKS_H
+#define VIRTUAL_DISKS_H
+
+/* A disk of 32 MiB over blocks of 4,096 bytes, with names. */
+static struct uas_disk virtual_disk(void)
+{
+    struct uas_disk disk = { .size = sizeof disk, .blocks = 65536, .physical_bytes = 4096, .most = 2048, .rotation = 7200, .form = 2,
+        .vendor = "ACME", .product = "VDISK", .revision = "1.0", .serial = "QM00042", .naa = { 0x50, [7] = 0x42 } };
+    for (size_t k = 0; k < sizeof disk.uuid; k++)
+        disk.uuid[k] = (uint8_t)(0x11 * k);
+    return disk;
+}
+
+/* A command gives these bytes, and then zeros up to so many. */
+static void tells(const char *cdb, const char *text, size_t length)
+{
+    struct ended ended = run(0, cdb);
+    size_t front = strlen(text) / 2, zeros = front;
+    while (zeros < length && data[zeros] == 0)
+        zeros++;
+    CHECK(ended.status == UAS_GOOD && ended.given == length && zeros == length);
+    CHECK_BYTES(data, front, text);
+}
+
+static void virtual_disks(void)
+{
+    struct uas_disk disk = virtual_disk();
+    struct ended ended;
+    uas_tasks_free(tasks);
+    CHECK(uas_tasks_new_disks(&disk, disk.size, UAS_SET_DISK, 0, 128, &tasks) == UAS_OK);
+    tells("12 00 00 00 ff 00", "000006025b00000241434d4520202020564449534b2020202020202020202020312e3020"
+        "0000000000000000000000000000000000000000000000a01740046004c0", 96);
+    tells("12 01 00 00 ff 00", "0000000700808386b0b1b2", 11);
+    tells("12 01 80 00 ff 00", "00800007514d3030303432", 11);
+    tells("12 01 83 00 ff 00", "008300450201001f41434d4520202020564449534b2020202020202020202020514d3030303432010300085000000000000042"
+        "010a00121000" "00112233445566778899aabbccddeeff", 73);
+    tells("12 01 86 00 ff 00", "0086003c000101", 64);
+    tells("12 01 b0 00 ff 00", "00b0003c000000080000080000000800", 64);
+    tells("12 01 b1 00 ff 00", "00b1003c1c200002", 64);
+    tells("12 01 b2 00 ff 00", "00b20004", 8);
+    tells("9e 10 00 00 00 00 00 00 00 00 00 00 00 20 00 00", "000000000000ffff000002000003", 32);
+    CHECK(begin(1, 0, "28 00 00 00 00 00 00 08 00 00"));
+    ended = run(0, "28 00 00 00 00 00 00 08 01 00");
+    CHECK(ended.status == UAS_CHECK_CONDITION && memcmp(ended.sense, (uint8_t[]){ 5, 0x24, 0 }, 3) == 0);
+    /* one that says nothing but its blocks is as in the host set, but for its INQUIRY data */
+    disk = (struct uas_disk){ .size = 16, .blocks = BLOCKS, .most = 7 };
+    uas_tasks_free(tasks);
+    CHECK(uas_tasks_new_disks(&disk, disk.size, UAS_SET_DISK, 0, 128, &tasks) == UAS_OK);
+    tells("12 01 83 00 ff 00", "008300300201002053494d4449534b205541532053494d204449534b202020203030303030303030010300083000000000000000", 52);
+}
+
+/* A field of a good record with another value, and what that comes to. */
+static const struct {
+    size_t at, length;
+    uint64_t value;
+    uint8_t fault;
+} disk_rows[] = {
+    { 0, 4, 15, UAS_TASKS_SIZE }, { 0, 4, 153, UAS_TASKS_SIZE }, { 4, 4, 1, UAS_OK }, { 4, 4, 2, UAS_TASKS_DISK }, { 4, 4, 4, UAS_TASKS_DISK },
+    { 4, 4, 8, UAS_TASKS_DISK }, { 4, 4, 16, UAS_TASKS_DISK }, { 4, 4, 32, UAS_TASKS_DISK }, { 8, 8, 0, UAS_BLOCKS }, { 8, 8, 1ull << 48, UAS_OK },
+    { 8, 8, (1ull << 48) + 1, UAS_BLOCKS }, { 16, 4, 512, UAS_OK }, { 16, 4, 4096, UAS_OK }, { 16, 4, 1024, UAS_TASKS_BLOCK_BYTES }, { 20, 4, 0, UAS_OK },
+    { 20, 4, 512, UAS_OK }, { 20, 4, 1024, UAS_TASKS_DISK }, { 24, 4, 0, UAS_OK }, { 24, 4, 65528, UAS_OK }, { 24, 4, 65536, UAS_TASKS_DISK },
+    { 24, 4, 12, UAS_TASKS_DISK }, { 28, 4, 8, UAS_OK }, { 28, 4, 65536, UAS_OK }, { 28, 4, 12, UAS_TASKS_DISK }, { 28, 4, 65544, UAS_TASKS_DISK },
+    { 32, 2, 1, UAS_OK }, { 32, 2, 0x400, UAS_TASKS_DISK }, { 32, 2, 0xffff, UAS_TASKS_DISK }, { 34, 1, 5, UAS_OK }, { 34, 1, 6, UAS_TASKS_DISK },
+    { 35, 1, 7, UAS_TASKS_DISK }, { 35, 1, 16, UAS_OK }, { 36, 1, 0x1f, UAS_TASKS_DISK }, { 40, 1, 0x7f, UAS_TASKS_DISK }, { 48, 1, 0, UAS_OK },
+    { 64, 1, 9, UAS_TASKS_DISK }, { 103, 1, 1, UAS_TASKS_DISK }, { 104, 1, 0x40, UAS_TASKS_DISK }, { 104, 1, 0x60, UAS_OK }, { 104, 1, 0, UAS_TASKS_DISK },
+};
+
+static uint8_t fault_of_disks(const void *disks, size_t bytes, uint8_t set, uint16_t chunk)
+{
+    uas_tasks *made = NULL;
+    uint8_t fault = uas_tasks_new_disks(disks, bytes, set, 128, chunk, &made);
+    CHECK((made != NULL) == (fault == UAS_OK));
+    uas_tasks_free(made);
+    return fault;
+}
+
+static void making_disks(void)
+{
+    struct uas_disk disk = virtual_disk(), disks[16];
+    uint64_t longer[25] = { 0 }, short_ones[6] = { 0 };
+    for (size_t k = 0; k < sizeof disk_rows / sizeof disk_rows[0]; k++) {
+        struct uas_disk changed = disk;
+        memcpy((uint8_t *)&changed + disk_rows[k].at, &disk_rows[k].value, disk_rows[k].length);
+        CHECK(fault_of_disks(&changed, sizeof changed, UAS_SET_DISK, 8) == disk_rows[k].fault);
+    }
+    /* a newer header's, of 200 bytes */
+    memcpy(longer, &disk, sizeof disk);
+    longer[0] = 200 | (uint64_t)UAS_DISK_READ_ONLY << 32;
+    CHECK(fault_of_disks(longer, 200, UAS_SET_DISK, 8) == UAS_OK);
+    CHECK(fault_of_disks(longer, 199, UAS_SET_DISK, 8) == UAS_TASKS_SIZE);
+    longer[24] = 1ull << 56;
+    CHECK(fault_of_disks(longer, 200, UAS_SET_DISK, 8) == UAS_TASKS_SIZE);
+    /* three of 16 bytes each, and one whose fourth isn't whole */
+    for (size_t k = 0; k < 6; k += 2)
+        short_ones[k] = 16, short_ones[k + 1] = BLOCKS;
+    CHECK(fault_of_disks(short_ones, 48, UAS_SET_HOST, 8) == UAS_OK && fault_of_disks(short_ones, 47, UAS_SET_HOST, 8) == UAS_TASKS_SIZE);
+    short_ones[3] = 0;
+    CHECK(fault_of_disks(short_ones, 47, UAS_SET_HOST, 8) == UAS_BLOCKS);
+    /* sixteen, and then the second has a fault */
+    for (size_t k = 0; k < 16; k++)
+        disks[k] = disk;
+    CHECK(fault_of_disks(disks, 0, UAS_SET_DISK, 8) == UAS_UNITS && fault_of_disks(disks, 15 * sizeof disk, UAS_SET_DISK, 8) == UAS_OK);
+    CHECK(fault_of_disks(disks, sizeof disks, 3, 8) == UAS_UNITS);
+    disks[1].form = 6;
+    CHECK(fault_of_disks(disks, sizeof disks, 3, 8) == UAS_TASKS_DISK && fault_of_disks(disks, sizeof disk, 3, 0) == UAS_TASKS_SET);
+    CHECK(fault_of_disks(disks, sizeof disk, UAS_SET_DISK, 129) == UAS_TASKS_CHUNK);
+}
+
+#endif

@@ -1,7 +1,7 @@
 //! The program's command: its subcommands, their arguments and what each says of itself.
 ghost use Rattle.std.specs.Prelude.{◌≡◌, IfOk, false, true};
 ghost use Rattle.clap.specs.Words.{App, app_of, rule_of, with_subcommand};
-ghost use Rattle.uas_words.specs.CommandLine.{audit_app, capture_app, decode_app, draw_app, dump_app, fill_app, info_app, make_app, program_app};
+ghost use Rattle.uas_words.specs.CommandLine.{audit_app, capture_app, decode_app, depth_rule, draw_app, dump_app, fill_app, info_app, make_app, program_app};
 ghost use Rattle.uas_words.specs.CommandLine.{replay_app, tags_rule, top_app, trace_app, with_disks, with_extent, with_work, work_app};
 
 use crate::arguments::{flag, log, number, number_option, option, required};
@@ -134,7 +134,15 @@ fn add_work<'a>(alloc: Global, command: Command<'a>) -> Result<Command<'a>, Allo
         .arg(number(alloc, "ROUNDS", 1, MAX_ROUNDS, ROUNDS_HELP))?
         .arg(log(alloc, LOG_HELP))?
         .arg(tags(alloc))?
-        .arg(number_option(alloc, "depth", "D", 1, MOST_DEPTH, DEPTH_HELP))
+        .arg(depth(alloc))
+}
+
+/// How many commands each client has out at a time.
+fn depth<'a>(alloc: Global) -> Arg<'a>
+    ensures rule { rule_of result ≡ depth_rule }
+    ensures local { result.global ≡ false }
+{
+    number_option(alloc, "depth", "D", 1, MOST_DEPTH, DEPTH_HELP)
 }
 
 fn decode_command<'a>(alloc: Global) -> Result<Command<'a>, AllocError>

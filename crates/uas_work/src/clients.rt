@@ -1,6 +1,7 @@
 //! The part of a client: it posts its commands on the desk, so many at a time, and looks for what they came to.
-ghost use Rattle.std.specs.Prelude.{◌≡◌, ◌+◌, ◌++◌, ◌≤◌, ◌<◌, ◌^◌, vec_len, vec_capacity};
-ghost use Rattle.tag_desk.specs.Seats.{IsTagOf};
+ghost use Rattle.std.specs.Prelude.{◌≡◌, ◌+◌, ◌*◌, ◌++◌, ◌≤◌, ◌<◌, ◌^◌, true, MatchOption, vec_len, vec_capacity};
+ghost use Rattle.tag_desk.specs.Seats.{IsTagOf, ReapsAt};
+ghost use Rattle.uas_work.specs.Batches.{Account, Took, TookInOrder, account_of};
 ghost use Rattle.uas_work.specs.Parts.{HasRoomForRounds, IsClientPart, IsSeatOfClient};
 ghost use Rattle.uas_work.specs.Rounds.{IsDepth, kept_of};
 
@@ -62,6 +63,7 @@ impl ClientPart {
         requires room { HasRoomForRounds rounds self.old }
         ensures part { IsClientPart shared.now.desk shared.now.board self.new }
         ensures same { self.new.client ≡ self.old.client }
+        ensures tickets { result ≡ true → self.new.tags.held.next ≡ self.old.tags.held.next + 2 * rounds }
     {
         let all = 2 * u64::from(rounds);
         let mut next = 0;
@@ -94,6 +96,8 @@ impl ClientPart {
         ensures same { self.new.client ≡ self.old.client }
         ensures most { vec_len self.new.replies ≤ vec_len self.old.replies + count }
         ensures room { vec_capacity self.new.replies ≡ vec_capacity self.old.replies }
+        ensures tickets { result ≡ true → self.new.tags.held.next ≡ self.old.tags.held.next + count }
+        ensures taken { result ≡ true → (posted : Account) × TookInOrder shared.now.desk.tags self.old.client count posted (account_of self.new) }
     {
         if locked.is_over(gate, u32::from(self.client)) {
             return false;
@@ -120,6 +124,7 @@ impl ClientPart {
         ensures same { self.new.client ≡ self.old.client }
         ensures room { self.new.replies ≡ self.old.replies }
         ensures most { result ≤ count }
+        ensures tickets { result ≡ count → self.new.tags.held.next ≡ self.old.tags.held.next + count }
     {
         for posted in 0..count {
             let Ok(command) = ticket_command(locked.alloc, self.client, first + posted as u64)
@@ -141,6 +146,7 @@ impl ClientPart {
         ensures part { IsClientPart shared.now.desk shared.now.board self.new }
         ensures same { self.new.client ≡ self.old.client }
         ensures room { self.new.replies ≡ self.old.replies }
+        ensures ticket { result ≡ true → self.new.tags.held.next ≡ self.old.tags.held.next + 1 }
     {
         let Ok((tag, ticket)) = self.tags.issue() else {
             return false;
@@ -160,6 +166,7 @@ impl ClientPart {
         ensures part { IsClientPart shared.now.desk shared.now.board self.new }
         ensures same { self.new.client ≡ self.old.client }
         ensures room { self.new.replies ≡ self.old.replies }
+        ensures tags { self.new.tags ≡ self.old.tags }
     {
         let client = usize::from(self.client);
         let bell = place(self.tags.tags(), client, FIRST_BELL);
@@ -183,12 +190,16 @@ impl ClientPart {
         ensures same { self.new.client ≡ self.old.client }
         ensures most { vec_len self.new.replies ≤ vec_len self.old.replies + count }
         ensures room { vec_capacity self.new.replies ≡ vec_capacity self.old.replies }
+        ensures tickets { self.new.tags.held.next ≡ self.old.tags.held.next }
+        ensures taken { result ≡ true → TookInOrder shared.now.desk.tags self.old.client count (account_of self.old) (account_of self.new) }
     {
         let client = usize::from(self.client);
         let mut goes_on = true;
         for slot in 0..count {
             let tag = tag_of(self.tags.tags(), Place { client, slot });
-            goes_on &= self.took_one(rt, locked, shared, gate, tag);
+            if !self.took_one(rt, locked, shared, gate, tag) {
+                goes_on = false;
+            }
         }
         goes_on
     }
@@ -209,6 +220,8 @@ impl ClientPart {
         ensures same { self.new.client ≡ self.old.client }
         ensures one { vec_len self.new.replies ≤ vec_len self.old.replies + 1 }
         ensures room { vec_capacity self.new.replies ≡ vec_capacity self.old.replies }
+        ensures tickets { self.new.tags.held.next ≡ self.old.tags.held.next }
+        ensures taken { result ≡ true → Took tag (account_of self.old) (account_of self.new) }
     {
         match self.awaited(rt, locked, shared, gate, tag) {
             Some(slip) => locked.may_tell(rt, gate, self.client) && self.took(slip, tag),
@@ -230,6 +243,8 @@ impl ClientPart {
         ensures part { IsClientPart shared.now.desk shared.now.board self.new }
         ensures same { self.new.client ≡ self.old.client }
         ensures room { self.new.replies ≡ self.old.replies }
+        ensures tags { self.new.tags ≡ self.old.tags }
+        ensures slip { MatchOption result (self.new.seat ≡ self.old.seat) (ReapsAt self.old.seat self.new.seat tag) }
     {
         for _ in rt.forever() {
             let is_last = locked.are_pumps_done();
@@ -253,6 +268,8 @@ impl ClientPart {
         ensures same { self.new.client ≡ self.old.client }
         ensures room { self.new.replies ≡ self.old.replies }
         ensures tag { IsTagOf self.new.seat.tags self.new.seat.client tag }
+        ensures tags { self.new.tags ≡ self.old.tags }
+        ensures slip { MatchOption result (self.new.seat ≡ self.old.seat) (ReapsAt self.old.seat self.new.seat tag) }
     {
         for _ in 0..MOST_LOOKS {
             let slip = shared.desk.look(&mut self.seat, tag);

@@ -1,4 +1,4 @@
-use Rattle.std.specs.Prelude.{◌≡◌, ◌-◌, ◌≤◌, vec_len, vec_capacity}
+use Rattle.std.specs.Prelude.{◌≡◌, ◌+◌, ◌-◌, ◌≤◌, vec_len, vec_capacity}
 use Rattle.uas_work.specs.Parts.{IsClientPart}
 use Rattle.uas_work.proofs.parts.ClientPart.took_rounds.Given as goal
 
@@ -10,6 +10,7 @@ invariant-loop-next g l =
     × (vec_len l.self.replies ≤ l.next)
     × (l.all ≤ vec_capacity l.self.replies)
     × (l.next ≤ l.all)
+    × (l.self.tags.held.next ≡ l.fn.self.tags.held.next + l.next)
 
 abbrev pub decreases-loop-next : goal.decreases-loop-next
 decreases-loop-next g l = l.all - l.next

@@ -6,6 +6,7 @@ _uasdisk() {
         --bad) return ;;
         --block-size) return ;;
         --color) COMPREPLY=($(compgen -W 'always auto never' -- "$word")); return ;;
+        --depth) return ;;
         --head) return ;;
         --product) return ;;
         --serial) return ;;
@@ -20,7 +21,7 @@ _uasdisk() {
     case ${COMP_WORDS[1]} in
         replay) words='--bad --tags -h --help' ;;
         trace) words='--bad --tags --color -h --help' ;;
-        work) words='--tags --sync -h --help' files=1 ;;
+        work) words='--tags --depth --sync -h --help' files=1 ;;
         decode) words='--color -h --help' ;;
         make) words='--force -h --help' files=1 ;;
         info) words='-h --help' files=1 ;;

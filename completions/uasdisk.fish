@@ -11,6 +11,7 @@ complete -c uasdisk -n '__fish_seen_subcommand_from trace' -l color -x -a 'alway
 complete -c uasdisk -n '__fish_seen_subcommand_from trace' -s h -l help -d 'Print help'
 complete -c uasdisk -n __fish_use_subcommand -a work -d 'Lets clients write and read in threads, and counts what they read'
 complete -c uasdisk -n '__fish_seen_subcommand_from work' -l tags -x -d 'How many tags each client has, one of them for task management: 2 to 16, usually 16; 248 in all'
+complete -c uasdisk -n '__fish_seen_subcommand_from work' -l depth -x -d 'How many commands each client has out at a time: 1 to 15, fewer than tags; usually 1'
 complete -c uasdisk -n '__fish_seen_subcommand_from work' -l sync -x -d 'Keep LOG while it grows, synced after each N steps, or at the end alone where N is 0: 0 to 4294967295'
 complete -c uasdisk -n '__fish_seen_subcommand_from work' -s h -l help -d 'Print help'
 complete -c uasdisk -n '__fish_seen_subcommand_from work' -F

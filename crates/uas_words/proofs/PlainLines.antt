@@ -134,8 +134,8 @@ fill_faults d ds e es f fs h hs plain m n o =
 pub plain_asks : (asked : Asked) (words : List Text) → AsksPlainly asked words → (asked_for words ≡ Some asked) × (fault_of program_app words ≡ [])
 plain_asks (replay clients tags blocks bad) words plain = replay_asked clients tags blocks bad words plain
 plain_asks (trace clients tags blocks bad) words plain = trace_asked clients tags blocks bad words plain
-plain_asks (work clients tags rounds log) words plain = work_asked clients tags rounds log words plain
-plain_asks (keep clients tags rounds log every) words plain = absurd plain
+plain_asks (work clients tags depth rounds log) words plain = work_asked clients tags depth rounds log words plain
+plain_asks (keep clients tags depth rounds log every) words plain = absurd plain
 plain_asks decode words plain = (ap asked_for plain.1 ∙ decode_asks plain.0, ap (fault_of program_app) plain.1 ∙ decode_passes plain.0)
 plain_asks (make file blocks true) words plain = absurd plain
 plain_asks (make file blocks false) words plain = make_asked file blocks words plain

@@ -15,7 +15,7 @@ use Rattle.std.specs.Option.{option_map_or}
 use Rattle.std.specs.Prelude.{find}
 use Rattle.uas_profile.specs.declared.TheConstants.{MAX_CLIENTS, TAGS, USUAL_CLIENTS}
 use Rattle.byte_io.specs.Words.{number_in}
-use Rattle.uas_words.specs.CommandLine.{AsksWork, asked_for, asked_in, clients_of, log_of, program_app, rounds_of, sync_of, tags_of, work, work_of}
+use Rattle.uas_words.specs.CommandLine.{AsksWork, asked_for, asked_in, clients_of, depth_of, log_of, program_app, rounds_of, sync_of, tags_of, work, work_of}
 use Rattle.uas_words.proofs.Levels.{Enters}
 use Rattle.uas_words.proofs.Places.{clients_in, clients_row, ends, found, on, pending}
 use Rattle.uas_words.proofs.PlainNumbers.{IsIn, clients_are_in, not-true, number_is_in}
@@ -36,9 +36,10 @@ work_level : (words : List Text) → entered_fault (built program_app) (Some (co
 work_level words = refl
 
 -- what is found, part by part, asks for clients that work
-worked_by : (clients tags rounds : ℕ) (log : Option Text) (rows : List Row) → clients_of TAGS rows ≡ Some clients → rounds_of rows ≡ Some rounds
-    → log_of rows ≡ log → sync_of rows ≡ Some None → tags_of rows ≡ Some TAGS → tags ≡ TAGS → work_of rows ≡ Some (work clients tags rounds log)
-worked_by clients tags rounds log rows p q l s u t = rw (u, p, q, l, s, t) refl
+worked_by : (clients tags depth rounds : ℕ) (log : Option Text) (rows : List Row) → clients_of TAGS rows ≡ Some clients → rounds_of rows ≡ Some rounds
+    → log_of rows ≡ log → sync_of rows ≡ Some None → tags_of rows ≡ Some TAGS → depth_of TAGS rows ≡ Some 1 → tags ≡ TAGS → depth ≡ 1
+    → work_of rows ≡ Some (work clients tags depth rounds log)
+worked_by clients tags depth rounds log rows p q l s u o t is = rw (u, p, o, q, l, s, t, is) refl
 
 -- WHERE THE WALK STANDS
 
@@ -153,33 +154,33 @@ log_faults d ds e es f fs m n plain =
 -- WHAT THEY ASK FOR
 
 -- the plain words of clients that work ask for that, and are not refused
-pub work_asked : (clients tags rounds : ℕ) (log : Option Text) (words : List Text) → AsksWork clients tags rounds log words
-    → (asked_for words ≡ Some (work clients tags rounds log)) × (fault_of program_app words ≡ [])
-work_asked clients tags rounds None words plain =
+pub work_asked : (clients tags depth rounds : ℕ) (log : Option Text) (words : List Text) → AsksWork clients tags depth rounds log words
+    → (asked_for words ≡ Some (work clients tags depth rounds log)) × (fault_of program_app words ≡ [])
+work_asked clients tags depth rounds None words plain =
     let m = clients_are_in clients plain.1 plain.4 in
     let n = number_is_in 1 1000 rounds plain.2 (omega arith) plain.5 in
     let is : words ≡ plain.0 ∷ codes "work" ∷ plain_words (m.0 ∷ m.1) (n.0 ∷ n.1) =
     plain.3 ∙ ap₂ (λ (a b : Text). plain.0 ∷ codes "work" ∷ a ∷ b ∷ []) m.2 n.2 in (
       ap asked_for is ∙ ((work_enters.0 (m.0 ∷ m.1) (n.0 ∷ n.1) plain.0).0 ∙ (asks (plain_words (m.0 ∷ m.1) (n.0 ∷ n.1)) (behind_rounds (m.0 ∷ m.1) (n.0 ∷ n.1)) (numbers (m.0 ∷ m.1) (n.0 ∷ n.1)) (plain_end m.0 m.1 n.0 n.1 m.3.hyphen n.3.hyphen) (plain_found (m.0 ∷ m.1) (n.0 ∷ n.1))
-          ∙ worked_by clients tags rounds None (numbers (m.0 ∷ m.1) (n.0 ∷ n.1))
+          ∙ worked_by clients tags depth rounds None (numbers (m.0 ∷ m.1) (n.0 ∷ n.1))
           (clients_in m.0 m.1 (rounds_row (n.0 ∷ n.1) ∷ []) m.3.hyphen m.3.plus ∙ (ap (number_in 1 USUAL_CLIENTS) (sym m.2) ∙ plain.4))
           (rounds_in (m.0 ∷ m.1) n.0 n.1 [] n.3.hyphen n.3.plus ∙ (ap (number_in 1 1000) (sym n.2) ∙ plain.5))
-          refl refl refl plain.6)),
+          refl refl refl refl plain.6 plain.7)),
       ap (fault_of program_app) is ∙ ((work_enters.0 (m.0 ∷ m.1) (n.0 ∷ n.1) plain.0).1
           ∙ ap (λ (k : Kinds). or_else k []) (work_level (plain_words (m.0 ∷ m.1) (n.0 ∷ n.1)) ∙ plain_faults m.0 m.1 n.0 n.1 m.3 n.3)),
     )
-work_asked clients tags rounds (Some []) words plain = absurd (true≢false (sym plain.4))
-work_asked clients tags rounds (Some (f ∷ fs)) words plain =
+work_asked clients tags depth rounds (Some []) words plain = absurd (true≢false (sym plain.4))
+work_asked clients tags depth rounds (Some (f ∷ fs)) words plain =
     let m = clients_are_in clients plain.1 plain.5 in
     let n = number_is_in 1 1000 rounds plain.2 (omega arith) plain.6 in
     let hyphen : (f == 45) ≡ false = not-true (f == 45) plain.4 in
     let is : words ≡ plain.0 ∷ codes "work" ∷ log_words (m.0 ∷ m.1) (n.0 ∷ n.1) (f ∷ fs) =
     plain.3 ∙ ap₂ (λ (a b : Text). plain.0 ∷ codes "work" ∷ a ∷ b ∷ (f ∷ fs) ∷ []) m.2 n.2 in (
       ap asked_for is ∙ ((work_enters.1 (m.0 ∷ m.1) (n.0 ∷ n.1) (f ∷ fs) plain.0).0 ∙ (asks (log_words (m.0 ∷ m.1) (n.0 ∷ n.1) (f ∷ fs)) (behind_log (m.0 ∷ m.1) (n.0 ∷ n.1) (f ∷ fs)) (logged (m.0 ∷ m.1) (n.0 ∷ n.1) (f ∷ fs)) (log_end m.0 m.1 n.0 n.1 f fs m.3.hyphen n.3.hyphen hyphen) (log_found (m.0 ∷ m.1) (n.0 ∷ n.1) (f ∷ fs))
-          ∙ worked_by clients tags rounds (Some (f ∷ fs)) (logged (m.0 ∷ m.1) (n.0 ∷ n.1) (f ∷ fs))
+          ∙ worked_by clients tags depth rounds (Some (f ∷ fs)) (logged (m.0 ∷ m.1) (n.0 ∷ n.1) (f ∷ fs))
           (clients_in m.0 m.1 (rounds_row (n.0 ∷ n.1) ∷ log_row (f ∷ fs) ∷ []) m.3.hyphen m.3.plus ∙ (ap (number_in 1 USUAL_CLIENTS) (sym m.2) ∙ plain.5))
           (rounds_in (m.0 ∷ m.1) n.0 n.1 (log_row (f ∷ fs) ∷ []) n.3.hyphen n.3.plus ∙ (ap (number_in 1 1000) (sym n.2) ∙ plain.6))
-          refl refl refl plain.7)),
+          refl refl refl refl plain.7 plain.8)),
       ap (fault_of program_app) is ∙ ((work_enters.1 (m.0 ∷ m.1) (n.0 ∷ n.1) (f ∷ fs) plain.0).1
           ∙ ap (λ (k : Kinds). or_else k []) (work_level (log_words (m.0 ∷ m.1) (n.0 ∷ n.1) (f ∷ fs)) ∙ log_faults m.0 m.1 n.0 n.1 f fs m.3 n.3 hyphen)),
     )

@@ -1,5 +1,5 @@
 -- What a command line asks for: the subcommands with their arguments, and what is read of each.
-use Rattle.std.specs.Prelude.{◌≡◌, ◌≢◌, ◌≤◌, ◌⊎◌, ◌==◌, ◌||◌, ℕ, Bool, not, pos, true, false, List, [], ◌∷◌, Option, Some, None, is_some, option_map}
+use Rattle.std.specs.Prelude.{◌≡◌, ◌≢◌, ◌≤◌, ◌⊎◌, ◌==◌, ◌||◌, ◌-◌, ℕ, Bool, not, pos, true, false, List, [], ◌∷◌, Option, Some, None, is_some, option_map}
 use Rattle.std.specs.Prelude.{option_and_then, if◌then◌else◌, codes, length, nat_le, ◌&&◌}
 use Rattle.std.specs.Str.{bytes_eq}
 use Rattle.std.specs.Char.{is_ascii_hexdigit}
@@ -20,7 +20,7 @@ use Rattle.uas_words.specs.declared.Run.TheVariants.{Replay, Trace, Work, Keep, 
 use Rattle.byte_io.specs.Words.{number_in}
 
 -- What is asked for, with a file's name as its text: to run a script of so many clients, tags of each and blocks, and of the block that is
--- bad in every unit, if one is; to run one and show its steps; to let so many clients with so many tags each work for so many rounds, and to save their log in a
+-- bad in every unit, if one is; to run one and show its steps; to let so many clients with so many tags each, with so many commands out at a time, work for so many rounds, and to save their log in a
 -- file, if one is named, or to keep it there while it grows, synced after so many steps; to tell what lines of bytes say; to make an image of so many
 -- blocks, in place of a file that is there or not, to tell the size of one, to print its
 -- blocks from a number on, so many of them, or to fill them with a byte; to audit a saved log, and to find there a checksum, if one is named; to draw a
@@ -28,8 +28,8 @@ use Rattle.byte_io.specs.Words.{number_in}
 pub data Asked : Type 0 where
   replay : ℕ → ℕ → ℕ → Option ℕ → Asked
   trace : ℕ → ℕ → ℕ → Option ℕ → Asked
-  work : ℕ → ℕ → ℕ → Option Text → Asked
-  keep : ℕ → ℕ → ℕ → Text → ℕ → Asked
+  work : ℕ → ℕ → ℕ → ℕ → Option Text → Asked
+  keep : ℕ → ℕ → ℕ → ℕ → Text → ℕ → Asked
   decode : Asked
   make : Text → ℕ → Bool → Asked
   info : Text → Asked
@@ -43,8 +43,8 @@ pub data Asked : Type 0 where
 abbrev pub asked_by : Run → Asked
 asked_by (Replay disks) = replay disks.clients disks.tags disks.blocks disks.bad
 asked_by (Trace disks) = trace disks.clients disks.tags disks.blocks disks.bad
-asked_by (Work clients tags rounds log) = work clients tags rounds (option_map (λ name. name.now) log)
-asked_by (Keep clients tags rounds log every) = keep clients tags rounds log.now every
+asked_by (Work clients tags depth rounds log) = work clients tags depth rounds (option_map (λ name. name.now) log)
+asked_by (Keep clients tags depth rounds log every) = keep clients tags depth rounds log.now every
 asked_by Decode = decode
 asked_by (Make file blocks replaces) = make file.now blocks replaces
 asked_by (Info file) = info file.now
@@ -68,6 +68,14 @@ usual_tags (Some word) = number_of LEAST_TAGS MOST_TAGS word
 
 abbrev pub tags_of : List Row → Option ℕ
 tags_of rows = usual_tags (one_of (codes "tags") rows)
+
+-- `--depth D` may stand or not, and D is a number from 1 to one less than there are tags; 1 is the usual one
+abbrev pub usual_depth : ℕ → Option Text → Option ℕ
+usual_depth tags None = Some 1
+usual_depth tags (Some word) = number_of 1 (tags - 1) word
+
+abbrev pub depth_of : ℕ → List Row → Option ℕ
+depth_of tags rows = usual_depth tags (one_of (codes "depth") rows)
 
 -- CLIENTS is a number from 1 to the most clients of so many tags; of 16 tags 15, of 8 tags 31
 abbrev pub clients_of : ℕ → List Row → Option ℕ
@@ -169,15 +177,16 @@ abbrev pub sync_of : List Row → Option (Option ℕ)
 sync_of rows = optional_number 0 max_lba (one_of (codes "sync") rows)
 
 -- a log is kept only in a file
-abbrev pub worked : ℕ → ℕ → ℕ → Option Text → Option ℕ → Option Asked
-worked clients tags rounds log None = Some (work clients tags rounds log)
-worked clients tags rounds None (Some every) = None
-worked clients tags rounds (Some log) (Some every) = Some (keep clients tags rounds log every)
+abbrev pub worked : ℕ → ℕ → ℕ → ℕ → Option Text → Option ℕ → Option Asked
+worked clients tags depth rounds log None = Some (work clients tags depth rounds log)
+worked clients tags depth rounds None (Some every) = None
+worked clients tags depth rounds (Some log) (Some every) = Some (keep clients tags depth rounds log every)
 
--- CLIENTS ROUNDS [LOG [--sync N]] [--tags N]
+-- CLIENTS ROUNDS [LOG [--sync N]] [--tags N] [--depth D]
 abbrev pub work_of : List Row → Option Asked
-work_of rows = option_and_then (λ tags. option_and_then (λ clients. option_and_then (λ rounds. option_and_then (worked clients tags rounds (log_of rows))
-    (sync_of rows)) (rounds_of rows)) (clients_of tags rows)) (tags_of rows)
+work_of rows = option_and_then (λ tags. option_and_then (λ clients. option_and_then (λ depth. option_and_then (λ rounds.
+    option_and_then (worked clients tags depth rounds (log_of rows)) (sync_of rows)) (rounds_of rows)) (depth_of tags rows)) (clients_of tags rows))
+    (tags_of rows)
 
 -- A checksum is written in 1 to 8 hexadecimal digits of either case.
 abbrev pub is_hex : Text → Bool
@@ -294,6 +303,10 @@ bad_rule = number_option_rule (codes "bad") 0 last_block
 abbrev pub tags_rule : Rule
 tags_rule = number_option_rule (codes "tags") LEAST_TAGS MOST_TAGS
 
+-- the option `--depth D`
+abbrev pub depth_rule : Rule
+depth_rule = number_option_rule (codes "depth") 1 (MOST_TAGS - 1)
+
 -- the option `--sync N`
 abbrev pub sync_rule : Rule
 sync_rule = number_option_rule (codes "sync") 0 max_lba
@@ -329,11 +342,11 @@ replay_app = with_disks (new_app (codes "replay"))
 abbrev pub trace_app : App
 trace_app = with_rule (with_disks (new_app (codes "trace"))) color_rule
 
--- clients that work: CLIENTS ROUNDS [LOG] [--tags N]
+-- clients that work: CLIENTS ROUNDS [LOG] [--tags N] [--depth D]
 abbrev pub with_work : App → App
-with_work app = with_rule (with_rule (with_rule (with_rule app clients_rule) rounds_rule) log_rule) tags_rule
+with_work app = with_rule (with_rule (with_rule (with_rule (with_rule app clients_rule) rounds_rule) log_rule) tags_rule) depth_rule
 
--- work CLIENTS ROUNDS [LOG] [--tags N] [--sync N]
+-- work CLIENTS ROUNDS [LOG] [--tags N] [--depth D] [--sync N]
 abbrev pub work_app : App
 work_app = with_rule (with_work (new_app (codes "work"))) sync_rule
 
@@ -421,11 +434,11 @@ AsksPage clients tags blocks (Some bad) words =
     × (tags ≡ TAGS)
 
 -- the words ask to let clients work: `work CLIENTS ROUNDS`, or `work CLIENTS ROUNDS LOG`
-abbrev pub AsksWork : ℕ → ℕ → ℕ → Option Text → List Text → Type 0
-AsksWork clients tags rounds None words = (program first second : Text) × (words ≡ program ∷ codes "work" ∷ first ∷ second ∷ [])
-    × (number_in 1 USUAL_CLIENTS first ≡ Some clients) × (number_in 1 max_rounds second ≡ Some rounds) × (tags ≡ TAGS)
-AsksWork clients tags rounds (Some log) words = (program first second : Text) × (words ≡ program ∷ codes "work" ∷ first ∷ second ∷ log ∷ [])
-    × (is_plain_name log ≡ true) × (number_in 1 USUAL_CLIENTS first ≡ Some clients) × (number_in 1 max_rounds second ≡ Some rounds) × (tags ≡ TAGS)
+abbrev pub AsksWork : ℕ → ℕ → ℕ → ℕ → Option Text → List Text → Type 0
+AsksWork clients tags depth rounds None words = (program first second : Text) × (words ≡ program ∷ codes "work" ∷ first ∷ second ∷ [])
+    × (number_in 1 USUAL_CLIENTS first ≡ Some clients) × (number_in 1 max_rounds second ≡ Some rounds) × (tags ≡ TAGS) × (depth ≡ 1)
+AsksWork clients tags depth rounds (Some log) words = (program first second : Text) × (words ≡ program ∷ codes "work" ∷ first ∷ second ∷ log ∷ [])
+    × (is_plain_name log ≡ true) × (number_in 1 USUAL_CLIENTS first ≡ Some clients) × (number_in 1 max_rounds second ≡ Some rounds) × (tags ≡ TAGS) × (depth ≡ 1)
 
 -- the words ask to capture a run: `capture CLIENTS BLOCKS FILE`, or `capture CLIENTS BLOCKS FILE --bad LBA`
 abbrev pub AsksCapture : ℕ → ℕ → ℕ → Text → Option ℕ → List Text → Type 0
@@ -443,12 +456,12 @@ AsksAudit log (Some head) words = (program second : Text) × (words ≡ program 
     × (is_plain_name log ≡ true) × (hex_number second ≡ Some head)
 
 -- The words ask for a run in their plain form: a subcommand and its arguments, each number in decimal digits, and an option after them;
--- no plain form is told of another number of tags than 16, of a log that is kept, and of an image in place of a file.
+-- no plain form is told of another number of tags than 16, of more commands out than 1, of a log that is kept, and of an image in place of a file.
 abbrev pub AsksPlainly : Asked → List Text → Type 0
 AsksPlainly (replay clients tags blocks bad) words = AsksScript (codes "replay") clients tags blocks bad words
 AsksPlainly (trace clients tags blocks bad) words = AsksScript (codes "trace") clients tags blocks bad words
-AsksPlainly (work clients tags rounds log) words = AsksWork clients tags rounds log words
-AsksPlainly (keep clients tags rounds log every) words = ⊥
+AsksPlainly (work clients tags depth rounds log) words = AsksWork clients tags depth rounds log words
+AsksPlainly (keep clients tags depth rounds log every) words = ⊥
 AsksPlainly decode words = (program : Text) × (words ≡ program ∷ codes "decode" ∷ [])
 AsksPlainly (make file blocks true) words = ⊥
 AsksPlainly (make file blocks false) words = (program second : Text) × (words ≡ program ∷ codes "make" ∷ file ∷ second ∷ [])
@@ -475,8 +488,8 @@ PlainLinesAsk = (asked : Asked) (words : List Text) → AsksPlainly asked words 
 abbrev pub MayEndRun : Asked → ℕ → Type 0
 MayEndRun (replay clients tags blocks bad) status = (status ≤ 1) ⊎ ((status ≡ 3) ⊎ (status ≡ 4))
 MayEndRun (trace clients tags blocks bad) status = (status ≤ 1) ⊎ ((status ≡ 3) ⊎ (status ≡ 4))
-MayEndRun (work clients tags rounds log) status = (status ≤ 1) ⊎ ((status ≡ 3) ⊎ (status ≡ 4))
-MayEndRun (keep clients tags rounds log every) status = (status ≤ 1) ⊎ ((status ≡ 3) ⊎ (status ≡ 4))
+MayEndRun (work clients tags depth rounds log) status = (status ≤ 1) ⊎ ((status ≡ 3) ⊎ (status ≡ 4))
+MayEndRun (keep clients tags depth rounds log every) status = (status ≤ 1) ⊎ ((status ≡ 3) ⊎ (status ≡ 4))
 MayEndRun decode status = (status ≤ 1) ⊎ ((status ≡ 3) ⊎ (status ≡ 4))
 MayEndRun (make file blocks replaces) status = (status ≡ 0) ⊎ ((status ≡ 3) ⊎ (status ≡ 4))
 MayEndRun (info file) status = (status ≡ 0) ⊎ ((status ≡ 3) ⊎ (status ≡ 4))

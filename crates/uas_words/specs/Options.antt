@@ -13,6 +13,10 @@ IsBlock block = block < MAX_BLOCKS
 abbrev pub IsMoved : ℕ → Type 0
 IsMoved count = (1 ≤ count) × (count ≤ MOST_BLOCKS_MOVED)
 
+-- of so many tags of a client, one of them for task management, 1 to the other ones have a command out at a time
+abbrev pub IsDepth : ℕ → ℕ → Type 0
+IsDepth tags depth = (1 ≤ depth) × (depth < tags)
+
 -- a client takes 1 to 1,000 rounds
 abbrev pub AreRounds : ℕ → Type 0
 AreRounds rounds = (1 ≤ rounds) × (rounds ≤ 1000)
@@ -21,8 +25,8 @@ AreRounds rounds = (1 ≤ rounds) × (rounds ≤ 1000)
 abbrev pub IsInRange : Run → Type 0
 IsInRange (Replay disks) = AreDisks disks × IfSome disks.bad IsBlock
 IsInRange (Trace disks) = AreDisks disks × IfSome disks.bad IsBlock
-IsInRange (Work clients tags rounds log) = AreClients tags clients × AreRounds rounds
-IsInRange (Keep clients tags rounds log every) = AreClients tags clients × AreRounds rounds
+IsInRange (Work clients tags depth rounds log) = AreClients tags clients × IsDepth tags depth × AreRounds rounds
+IsInRange (Keep clients tags depth rounds log every) = AreClients tags clients × IsDepth tags depth × AreRounds rounds
 IsInRange Decode = Unit {0}
 IsInRange (Make file blocks replaces) = AreBlocks blocks
 IsInRange (Info file) = Unit {0}

@@ -1,16 +1,16 @@
 //! The program's command: its subcommands, their arguments and what each says of itself.
 ghost use Rattle.std.specs.Prelude.{◌≡◌, IfOk, false, true};
 ghost use Rattle.clap.specs.Words.{App, app_of, rule_of, with_subcommand};
-ghost use Rattle.uas_words.specs.CommandLine.{audit_app, capture_app, decode_app, draw_app, dump_app, fill_app, info_app, make_app, program_app};
+ghost use Rattle.uas_words.specs.CommandLine.{audit_app, capture_app, decode_app, depth_rule, draw_app, dump_app, fill_app, info_app, make_app, program_app};
 ghost use Rattle.uas_words.specs.CommandLine.{replay_app, tags_rule, top_app, trace_app, with_disks, with_extent, with_work, work_app};
 
 use crate::arguments::{flag, log, number, number_option, option, required};
 use crate::helps::{
-    AUDIT_HELP, BYTE_HELP, CAPTURE_HELP, CLIENTS_HELP, COLOR_HELP, DRAW_HELP, DUMP_HELP, FILL_HELP,
-    HEAD_HELP, INFO_HELP, LBA_HELP, LOG_HELP, MAKE_HELP, PAGE_HELP, PROGRAM_HELP, ROUNDS_HELP,
-    SCRIPT_HELP, SYNC_HELP, TAGS_HELP, TRACE_HELP, WORK_HELP,
+    AUDIT_HELP, BYTE_HELP, CAPTURE_HELP, CLIENTS_HELP, COLOR_HELP, DEPTH_HELP, DRAW_HELP,
+    DUMP_HELP, FILL_HELP, HEAD_HELP, INFO_HELP, LBA_HELP, LOG_HELP, MAKE_HELP, PAGE_HELP,
+    PROGRAM_HELP, ROUNDS_HELP, SCRIPT_HELP, SYNC_HELP, TAGS_HELP, TRACE_HELP, WORK_HELP,
 };
-use crate::{LAST_BLOCK, MAX_BYTE, MAX_ROUNDS, MOST_MOVED, VERSION};
+use crate::{LAST_BLOCK, MAX_BYTE, MAX_ROUNDS, MOST_DEPTH, MOST_MOVED, VERSION};
 use clap::{Arg, Command};
 use decode_help::DECODE_HELP;
 use std::alloc::{AllocError, Global};
@@ -133,7 +133,16 @@ fn add_work<'a>(alloc: Global, command: Command<'a>) -> Result<Command<'a>, Allo
         .arg(number(alloc, "CLIENTS", 1, MAX_CLIENTS as u32, CLIENTS_HELP))?
         .arg(number(alloc, "ROUNDS", 1, MAX_ROUNDS, ROUNDS_HELP))?
         .arg(log(alloc, LOG_HELP))?
-        .arg(tags(alloc))
+        .arg(tags(alloc))?
+        .arg(depth(alloc))
+}
+
+/// How many commands each client has out at a time.
+fn depth<'a>(alloc: Global) -> Arg<'a>
+    ensures rule { rule_of result ≡ depth_rule }
+    ensures local { result.global ≡ false }
+{
+    number_option(alloc, "depth", "D", 1, MOST_DEPTH, DEPTH_HELP)
 }
 
 fn decode_command<'a>(alloc: Global) -> Result<Command<'a>, AllocError>

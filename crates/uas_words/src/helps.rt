@@ -83,13 +83,17 @@ pub(crate) const ROUNDS_HELP: &str =
 pub(crate) const LOG_HELP: &str =
     "A file that the log is saved in, in place of one that is there; each client is audited then";
 
+pub(crate) const DEPTH_HELP: &str =
+    "How many commands each client has out at a time: 1 to 15, fewer than tags; usually 1";
+
 pub(crate) const SYNC_HELP: &str = "\
 Keep LOG while it grows, synced after each N steps, or at the end alone where N is 0: 0 to 4294967295";
 
 /// What `work` does, and an example.
 pub(crate) const WORK_HELP: &str = "\
 Each client has a unit of 64 blocks and a thread of its own. In round r, from 0 on, client c fills 8 blocks from block
-8 (r mod 8) on with the byte (16 c + r) mod 256 and reads them back. Of each client a line is printed, by number:
+8 (r mod 8) on with the byte (16 c + r) mod 256 and reads them back. With --depth D it submits D of these commands, and
+has the replies of all of them before the next D. Of each client a line is printed, by number:
   client C writes R reads R equal E         R ended GOOD, E of the reads brought what had been written
 With LOG a second line follows of each client, by number, and then the log is saved in that file:
   audit C true                              its replies are those of a disk that it had alone; else false

@@ -11,10 +11,10 @@ ghost use Rattle.std.specs.Str.{bytes_eq};
 ghost use Rattle.std.specs.String.{string_bytes};
 ghost use Rattle.clap.specs.Words.{FailsBy, app_of, first_of, found_of, kind_of, one_of, rows_of, subcommand_rows_of};
 ghost use Rattle.byte_io.specs.Disks.{AreBlocks, AreClients, AreDisks};
-ghost use Rattle.uas_words.specs.Options.{AreRounds, IsBlock, IsInRange, IsMoved};
+ghost use Rattle.uas_words.specs.Options.{IsBlock, IsInRange, IsMoved};
 ghost use Rattle.uas_words.specs.CommandLine.{Asked, AsksPlainly, asked_by, asked_for, asked_in, blocks_of, capture_of, clients_of, decode_of};
 ghost use Rattle.uas_words.specs.CommandLine.{draw_of, dump_of, extent_of, fill_of, has_when, is_true, is_when, make_of, number_of, optional_number, program_app};
-ghost use Rattle.uas_words.specs.CommandLine.{refusals, script_of, tags_of, trace_of, work_of, worked};
+ghost use Rattle.uas_words.specs.CommandLine.{refusals, script_of, tags_of, trace_of, work_of};
 ghost use Rattle.uas_profile.specs.Tags.{AreTags};
 
 mod arguments;
@@ -22,6 +22,7 @@ mod audits;
 mod commands;
 mod helps;
 mod laws;
+mod works;
 
 use audits::audit_in;
 use byte_io::{Disks, Extent};
@@ -33,6 +34,7 @@ use std::alloc::{AllocError, Global};
 use uas_profile::{
     LEAST_TAGS, MAX_BLOCKS, MAX_CLIENTS, MOST_BLOCKS_MOVED, MOST_TAGS, TAGS, most_clients,
 };
+use works::{depths_in, work_in};
 
 const _: () = prove!(MAX_BLOCKS == 65_536);
 
@@ -48,6 +50,11 @@ const _: () = prove!(MOST_MOVED == 128);
 
 /// The most rounds of each client that works.
 pub(crate) const MAX_ROUNDS: u32 = 1_000;
+
+/// The most commands that a client of any number of tags can have out at a time.
+pub(crate) const MOST_DEPTH: u32 = MOST_TAGS as u32 - 1;
+
+const _: () = prove!(MOST_DEPTH == 15);
 
 /// The greatest byte.
 pub(crate) const MAX_BYTE: u32 = u8::MAX as u32;
@@ -65,11 +72,12 @@ pub enum Run<'a> {
     Replay(Disks),
     /// Run a script as `Replay` does, and show each step.
     Trace(Disks),
-    /// Let as many clients, with as many tags, work in threads, 1 to 1,000 rounds each. Where a file is named for the log, audit them and
-    /// save it there.
+    /// Let as many clients, with as many tags, work in threads, 1 to 1,000 rounds each, with so many commands out at a time, fewer than
+    /// tags. Where a file is named for the log, audit them and save it there.
     Work {
         clients: usize,
         tags: usize,
+        depth: usize,
         rounds: u32,
         log: Option<&'a str>,
     },
@@ -77,6 +85,7 @@ pub enum Run<'a> {
     Keep {
         clients: usize,
         tags: usize,
+        depth: usize,
         rounds: u32,
         log: &'a str,
         every: u32,
@@ -189,7 +198,15 @@ fn complaint(alloc: Global, matches: &ArgMatches<'_>) -> Result<String, AllocErr
                 "invalid value '{clients}' for '<CLIENTS>': {most} clients at most with {tags} tags"
             )
         }
-        None => format!(in alloc; "{}", missing(name, words)),
+        None => match depths_in(words) {
+            Some((depth, tags)) => {
+                let most = tags - 1;
+                format!(in alloc;
+                    "invalid value '{depth}' for '--depth <D>': {most} at most with {tags} tags"
+                )
+            }
+            None => format!(in alloc; "{}", missing(name, words)),
+        },
     }
 }
 
@@ -315,48 +332,6 @@ fn is_true(word: &str) -> bool
     ensures { result ≡ bytes_eq word.now (codes "true") }
 {
     word == "true"
-}
-
-fn work_in<'a>(words: &ArgMatches<'a>) -> Option<Run<'a>>
-    ensures range { IfSome result IsInRange }
-    ensures asked { option_map asked_by result ≡ work_of (rows_of (found_of words.now)) }
-{
-    let tags = tags_in(words)?;
-    let clients = clients_in(words, tags)?;
-    let rounds = number_in(words, "ROUNDS", 1, MAX_ROUNDS)?;
-    let every = option_in(words, "sync", 0, u32::MAX)?;
-    worked(clients, tags, rounds, word_in(words, "LOG"), every)
-}
-
-/// Clients that work, with a log that is saved or kept, where it is one.
-fn worked<'a>(
-    clients: usize,
-    tags: usize,
-    rounds: u32,
-    log: Option<&'a str>,
-    sync: Option<u32>,
-) -> Option<Run<'a>>
-    requires clients { AreClients tags clients }
-    requires rounds { AreRounds rounds }
-    ensures range { IfSome result IsInRange }
-    ensures asked { option_map asked_by result ≡ worked clients tags rounds (option_map (λ name. name.now) log.entry) sync }
-{
-    match (sync, log) {
-        (None, log) => Some(Run::Work {
-            clients,
-            tags,
-            rounds,
-            log,
-        }),
-        (Some(every), Some(log)) => Some(Run::Keep {
-            clients,
-            tags,
-            rounds,
-            log,
-            every,
-        }),
-        (Some(_), None) => None,
-    }
 }
 
 /// How many tags each client has.

@@ -1,3 +1,4 @@
+pub mod Batches
 pub mod Booked
 pub mod Control
 pub mod Held

@@ -1,28 +1,32 @@
-//! The part of a client: it posts its commands on the desk and looks for what they came to.
-ghost use Rattle.std.specs.Prelude.{◌≡◌, ◌+◌, ◌++◌, ◌≤◌, ◌<◌, ◌^◌, IfSome, vec_len, vec_capacity};
-ghost use Rattle.tag_desk.specs.Seats.{IsClientOf, IsTagOf};
+//! The part of a client: it posts its commands on the desk, so many at a time, and looks for what they came to.
+ghost use Rattle.std.specs.Prelude.{◌≡◌, ◌+◌, ◌*◌, ◌++◌, ◌≤◌, ◌<◌, ◌^◌, true, MatchOption, vec_len, vec_capacity};
+ghost use Rattle.tag_desk.specs.Seats.{IsTagOf, ReapsAt};
+ghost use Rattle.uas_work.specs.Batches.{Account, Took, TookInOrder, account_of};
 ghost use Rattle.uas_work.specs.Parts.{HasRoomForRounds, IsClientPart, IsSeatOfClient};
-ghost use Rattle.uas_work.specs.Rounds.{kept_of};
+ghost use Rattle.uas_work.specs.Rounds.{IsDepth, kept_of};
 
 use crate::desk_and_board::DeskAndBoard;
 use crate::handed::Origin;
 use crate::locked_bus::LockedBus;
 use crate::parking::Worker;
 use crate::parts::{ClientBack, ClientPart};
-use crate::rounds::{Half, command};
+use crate::rounds::ticket_command;
 use crate::{Ended, Gate};
 use door_board::place;
 use scsi_cmd::Command;
 use std::hint::spin_loop;
 use std::sync::Wait;
 use tag_desk::Slip;
-use uas_profile::slot_of;
+use uas_profile::{Place, tag_of};
 
 /// How many times a client looks for its reply before it parks.
 const MOST_LOOKS: u32 = 50;
 
+/// The bell of a client's first tag.
+const FIRST_BELL: usize = 1;
+
 impl ClientPart {
-    /// Takes so many rounds, or as many as the workers are let take: what is left of the part.
+    /// Takes so many rounds with so many commands out at a time, or as many as the workers are let take: what is left of the part.
     pub(crate) fn work<J: Origin, R: Wait, G: Gate>(
         mut self,
         rt: &R,
@@ -30,19 +34,21 @@ impl ClientPart {
         shared: &DeskAndBoard,
         gate: &G,
         rounds: u32,
+        depth: usize,
     ) -> ClientBack
         requires part { IsClientPart shared.now.desk shared.now.board self }
+        requires depth { IsDepth shared.now.desk.tags depth }
         requires room { HasRoomForRounds rounds self }
         ensures { IsSeatOfClient shared.now.desk self.client result.seat }
     {
-        if self.took_rounds(rt, locked, shared, gate, rounds) {
+        if self.took_rounds(rt, locked, shared, gate, rounds, depth) {
             locked.client_done();
         }
         let ClientPart { seat, replies, .. } = self;
         ClientBack { seat, replies }
     }
 
-    /// Takes so many rounds: whether it came to their end.
+    /// Takes so many rounds, two tickets each: whether it came to their end.
     fn took_rounds<J: Origin, R: Wait, G: Gate>(
         &mut self,
         rt: &R,
@@ -50,83 +56,177 @@ impl ClientPart {
         shared: &DeskAndBoard,
         gate: &G,
         rounds: u32,
+        depth: usize,
     ) -> bool
         requires part { IsClientPart shared.now.desk shared.now.board self.old }
+        requires depth { IsDepth shared.now.desk.tags depth }
         requires room { HasRoomForRounds rounds self.old }
         ensures part { IsClientPart shared.now.desk shared.now.board self.new }
         ensures same { self.new.client ≡ self.old.client }
+        ensures tickets { result ≡ true → self.new.tags.held.next ≡ self.old.tags.held.next + 2 * rounds }
     {
-        for round in 0..rounds {
-            if !self.took_half(rt, locked, shared, gate, round, Half::Write)
-                || !self.took_half(rt, locked, shared, gate, round, Half::Read)
-            {
+        let all = 2 * u64::from(rounds);
+        let mut next = 0;
+        while next < all {
+            let count = depth.min((all - next) as usize);
+            if !self.took_batch(rt, locked, shared, gate, next, count) {
                 return false;
             }
+            next += count as u64;
         }
         true
     }
 
-    /// One half of a round, posted and looked for. Whether the client goes on. Asks for room for a reply.
-    fn took_half<J: Origin, R: Wait, G: Gate>(
+    /// So many commands from a ticket on, posted with one ring and looked for in order. Whether the client goes on. Asks for a command tag
+    /// and for room for a reply of each.
+    fn took_batch<J: Origin, R: Wait, G: Gate>(
         &mut self,
         rt: &R,
         locked: &LockedBus<J>,
         shared: &DeskAndBoard,
         gate: &G,
-        round: u32,
-        half: Half,
+        first: u64,
+        count: usize,
     ) -> bool
         requires part { IsClientPart shared.now.desk shared.now.board self.old }
+        requires tickets { first + count < 2 ^ 33 }
+        requires tags { count < shared.now.desk.tags }
+        requires room { vec_len self.old.replies + count ≤ vec_capacity self.old.replies }
+        ensures part { IsClientPart shared.now.desk shared.now.board self.new }
+        ensures same { self.new.client ≡ self.old.client }
+        ensures most { vec_len self.new.replies ≤ vec_len self.old.replies + count }
+        ensures room { vec_capacity self.new.replies ≡ vec_capacity self.old.replies }
+        ensures tickets { result ≡ true → self.new.tags.held.next ≡ self.old.tags.held.next + count }
+        ensures taken { result ≡ true → (posted : Account) × TookInOrder shared.now.desk.tags self.old.client count posted (account_of self.new) }
+    {
+        if locked.is_over(gate, u32::from(self.client)) {
+            return false;
+        }
+        let posted = self.posted_all(locked, shared, first, count);
+        self.ring(shared);
+        locked
+            .parkers()
+            .unpark_pump(usize::from(self.client) % shared.pumps);
+        self.took_all(rt, locked, shared, gate, posted) && posted == count
+    }
+
+    /// Posts so many commands, each on a tag of its own: how many there were tags and memory for. Fewer end the workers.
+    fn posted_all<J: Origin>(
+        &mut self,
+        locked: &LockedBus<J>,
+        shared: &DeskAndBoard,
+        first: u64,
+        count: usize,
+    ) -> usize
+        requires part { IsClientPart shared.now.desk shared.now.board self.old }
+        requires tickets { first + count < 2 ^ 33 }
+        ensures part { IsClientPart shared.now.desk shared.now.board self.new }
+        ensures same { self.new.client ≡ self.old.client }
+        ensures room { self.new.replies ≡ self.old.replies }
+        ensures most { result ≤ count }
+        ensures tickets { result ≡ count → self.new.tags.held.next ≡ self.old.tags.held.next + count }
+    {
+        for posted in 0..count {
+            let Ok(command) = ticket_command(locked.alloc, self.client, first + posted as u64)
+            else {
+                locked.end(Ended::NoMemory);
+                return posted;
+            };
+            if !self.posted(shared, command) {
+                locked.end(Ended::Stopped);
+                return posted;
+            }
+        }
+        count
+    }
+
+    /// Posts a command on the client's least free tag. False where none is free.
+    fn posted(&mut self, shared: &DeskAndBoard, command: Command) -> bool
+        requires part { IsClientPart shared.now.desk shared.now.board self.old }
+        ensures part { IsClientPart shared.now.desk shared.now.board self.new }
+        ensures same { self.new.client ≡ self.old.client }
+        ensures room { self.new.replies ≡ self.old.replies }
+        ensures ticket { result ≡ true → self.new.tags.held.next ≡ self.old.tags.held.next + 1 }
+    {
+        let Ok((tag, ticket)) = self.tags.issue() else {
+            return false;
+        };
+        if !self.seat.is_free(tag) {
+            return false;
+        }
+        shared
+            .desk
+            .post(&mut self.seat, tag, Slip::Ask { ticket, command });
+        true
+    }
+
+    /// Rings the bell of the client's first tag: whoever collects it looks at all tags of the client.
+    fn ring(&mut self, shared: &DeskAndBoard)
+        requires part { IsClientPart shared.now.desk shared.now.board self.old }
+        ensures part { IsClientPart shared.now.desk shared.now.board self.new }
+        ensures same { self.new.client ≡ self.old.client }
+        ensures room { self.new.replies ≡ self.old.replies }
+        ensures tags { self.new.tags ≡ self.old.tags }
+    {
+        let client = usize::from(self.client);
+        let bell = place(self.tags.tags(), client, FIRST_BELL);
+        shared.board.ring(&mut self.bell, bell);
+    }
+
+    /// Looks for what the commands on so many tags came to, in the order of their tickets, which is that of the tags. Whether the client
+    /// goes on.
+    fn took_all<J: Origin, R: Wait, G: Gate>(
+        &mut self,
+        rt: &R,
+        locked: &LockedBus<J>,
+        shared: &DeskAndBoard,
+        gate: &G,
+        count: usize,
+    ) -> bool
+        requires part { IsClientPart shared.now.desk shared.now.board self.old }
+        requires tags { count < shared.now.desk.tags }
+        requires room { vec_len self.old.replies + count ≤ vec_capacity self.old.replies }
+        ensures part { IsClientPart shared.now.desk shared.now.board self.new }
+        ensures same { self.new.client ≡ self.old.client }
+        ensures most { vec_len self.new.replies ≤ vec_len self.old.replies + count }
+        ensures room { vec_capacity self.new.replies ≡ vec_capacity self.old.replies }
+        ensures tickets { self.new.tags.held.next ≡ self.old.tags.held.next }
+        ensures taken { result ≡ true → TookInOrder shared.now.desk.tags self.old.client count (account_of self.old) (account_of self.new) }
+    {
+        let client = usize::from(self.client);
+        let mut goes_on = true;
+        for slot in 0..count {
+            let tag = tag_of(self.tags.tags(), Place { client, slot });
+            if !self.took_one(rt, locked, shared, gate, tag) {
+                goes_on = false;
+            }
+        }
+        goes_on
+    }
+
+    /// Looks for what a tag's command came to. Whether the client goes on. Asks for room for a reply.
+    fn took_one<J: Origin, R: Wait, G: Gate>(
+        &mut self,
+        rt: &R,
+        locked: &LockedBus<J>,
+        shared: &DeskAndBoard,
+        gate: &G,
+        tag: u16,
+    ) -> bool
+        requires part { IsClientPart shared.now.desk shared.now.board self.old }
+        requires tag { IsTagOf self.old.seat.tags self.old.seat.client tag }
         requires room { vec_len self.old.replies < vec_capacity self.old.replies }
         ensures part { IsClientPart shared.now.desk shared.now.board self.new }
         ensures same { self.new.client ≡ self.old.client }
         ensures one { vec_len self.new.replies ≤ vec_len self.old.replies + 1 }
         ensures room { vec_capacity self.new.replies ≡ vec_capacity self.old.replies }
+        ensures tickets { self.new.tags.held.next ≡ self.old.tags.held.next }
+        ensures taken { result ≡ true → Took tag (account_of self.old) (account_of self.new) }
     {
-        if locked.is_over(gate, u32::from(self.client)) {
-            return false;
-        }
-        let Ok(command) = command(locked.alloc, self.client, round, half) else {
-            locked.end(Ended::NoMemory);
-            return false;
-        };
-        let Some(tag) = self.posted(shared, command) else {
-            locked.end(Ended::Stopped);
-            return false;
-        };
-        locked
-            .parkers()
-            .unpark_pump(usize::from(self.client) % shared.pumps);
         match self.awaited(rt, locked, shared, gate, tag) {
             Some(slip) => locked.may_tell(rt, gate, self.client) && self.took(slip, tag),
             None => false,
         }
-    }
-
-    /// Posts a command on a free tag of the client's and rings its bell: the tag. None where the client has no tag left.
-    fn posted(&mut self, shared: &DeskAndBoard, command: Command) -> Option<u16>
-        requires part { IsClientPart shared.now.desk shared.now.board self.old }
-        ensures part { IsClientPart shared.now.desk shared.now.board self.new }
-        ensures same { self.new.client ≡ self.old.client }
-        ensures room { self.new.replies ≡ self.old.replies }
-        ensures tag { IfSome result (IsTagOf self.new.seat.tags self.new.seat.client) }
-    {
-        let Ok((tag, ticket)) = self.tags.issue() else {
-            return None;
-        };
-        if !self.seat.is_free(tag) {
-            return None;
-        }
-        shared
-            .desk
-            .post(&mut self.seat, tag, Slip::Ask { ticket, command });
-        let tags = self.tags.tags();
-        let client = usize::from(self.client);
-        let index = slot_of(tags, tag) + 1;
-        shared
-            .board
-            .ring(&mut self.bell, place(tags, client, index));
-        Some(tag)
     }
 
     /// The slip with which the pump finished a tag, looked for some times a turn; none where all pumps ended and it wasn't finished.
@@ -143,6 +243,8 @@ impl ClientPart {
         ensures part { IsClientPart shared.now.desk shared.now.board self.new }
         ensures same { self.new.client ≡ self.old.client }
         ensures room { self.new.replies ≡ self.old.replies }
+        ensures tags { self.new.tags ≡ self.old.tags }
+        ensures slip { MatchOption result (self.new.seat ≡ self.old.seat) (ReapsAt self.old.seat self.new.seat tag) }
     {
         for _ in rt.forever() {
             let is_last = locked.are_pumps_done();
@@ -166,6 +268,8 @@ impl ClientPart {
         ensures same { self.new.client ≡ self.old.client }
         ensures room { self.new.replies ≡ self.old.replies }
         ensures tag { IsTagOf self.new.seat.tags self.new.seat.client tag }
+        ensures tags { self.new.tags ≡ self.old.tags }
+        ensures slip { MatchOption result (self.new.seat ≡ self.old.seat) (ReapsAt self.old.seat self.new.seat tag) }
     {
         for _ in 0..MOST_LOOKS {
             let slip = shared.desk.look(&mut self.seat, tag);

@@ -102,6 +102,8 @@ pub enum PumpCount {
 pub struct Plan {
     /// Rounds of each client: a WRITE and a READ of the same blocks.
     pub rounds: u32,
+    /// How many of these commands a client has out at a time, fewer than it has tags.
+    pub depth: usize,
     /// How many pumps there are.
     pub pumps: PumpCount,
     /// How many controllers there are.

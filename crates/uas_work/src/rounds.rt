@@ -1,6 +1,6 @@
 //! What a client does in a round: a WRITE of eight blocks, and a READ of the same.
-ghost use Rattle.std.specs.Prelude.{◌≡◌, IfOk};
-ghost use Rattle.uas_work.specs.Rounds.{round_command, round_fill, round_op};
+ghost use Rattle.std.specs.Prelude.{◌≡◌, ◌<◌, ◌^◌, IfOk};
+ghost use Rattle.uas_work.specs.Rounds.{half_at, round_command, round_fill, round_op, ticket_command};
 
 use scsi_cmd::{Buffer, Command, Op};
 use std::alloc::{AllocError, Global};
@@ -14,18 +14,31 @@ const ROUNDS_AROUND: u32 = 8;
 
 /// What a client submits in a round.
 #[derive(Clone, Copy)]
-pub(crate) enum Half {
+enum Half {
     Write,
     Read,
 }
 
+/// What a client asks for with a ticket.
+pub(crate) fn ticket_command(alloc: Global, client: u8, ticket: u64) -> Result<Command, AllocError>
+    requires { ticket < 2 ^ 33 }
+    ensures { IfOk result (λ command. command ≡ ticket_command client ticket) }
+{
+    command(alloc, client, (ticket / 2) as u32, half_at(ticket))
+}
+
+fn half_at(ticket: u64) -> Half
+    ensures { result ≡ half_at ticket }
+{
+    if ticket % 2 == 0 {
+        Half::Write
+    } else {
+        Half::Read
+    }
+}
+
 /// What a client asks for in a half of a round.
-pub(crate) fn command(
-    alloc: Global,
-    client: u8,
-    round: u32,
-    half: Half,
-) -> Result<Command, AllocError>
+fn command(alloc: Global, client: u8, round: u32, half: Half) -> Result<Command, AllocError>
     ensures { IfOk result (λ command. command ≡ round_command client round half) }
 {
     let bytes = BLOCK_BYTES * usize::from(ROUND_BLOCKS);

@@ -2,6 +2,7 @@
 ghost use Rattle.std.specs.Prelude.{◌≡◌, ◌≢◌, ◌<◌, ◌≤◌, [], IfOk, IfErr, IfSome, IfNone, length, vec_len, vec_capacity};
 ghost use Rattle.tag_desk.specs.Left.{IsAllClientsOf, IsAllPumpsOf};
 ghost use Rattle.uas_work.specs.Booked.{IsBooked, IsLater};
+ghost use Rattle.uas_work.specs.Rounds.{IsDepth};
 ghost use Rattle.uas_work.specs.Parts.{AreClientParts, ArePumpParts, ArePumpsHome, AreStartedClients, AreStartedPumps, HasRoomFor, HasRoomForRounds, IsClientPart, IsPumpPart, IsSeatOfClient, IsSeatOfPump};
 
 use crate::desk_and_board::{DeskAndBoard, Opened, open_desk_and_board};
@@ -78,8 +79,8 @@ struct Backs {
 /// Lets the clients of a bus, as many pumps and controllers as planned and one dispatcher work on it, each in a thread of its own,
 /// until each client has taken its rounds: in round r client c writes 8 blocks from block 8 (r mod 8) on with bytes
 /// (16 c + r) mod 256 and reads them again, with tickets from 0 on. Asks for at least one controller. The workers are numbered: the
-/// clients, the pumps, the controllers, the dispatcher. A client posts each command on a desk, where its pump claims it, and looks
-/// there for what it came to; no client takes the lock. A worker that ends early ends the others, and all are joined. Then the desk
+/// clients, the pumps, the controllers, the dispatcher. A client posts as many commands as planned on a desk, where its pump claims them,
+/// and looks there for what they came to before it posts more; no client takes the lock. A worker that ends early ends the others, and all are joined. Then the desk
 /// is closed: no claim is out there. The bus is the one that was handed in, with more steps. All lists are made before a worker
 /// starts, those of the desk that is closed apart. `AllocError` and the bus as it was where there is no memory to begin with.
 pub fn spawn_all<R: Threads + Wait + Sync, G: Gate + Sync>(
@@ -90,6 +91,7 @@ pub fn spawn_all<R: Threads + Wait + Sync, G: Gate + Sync>(
     plan: Plan,
 ) -> Result<Finished, (AllocError, Booked)>
     requires controllers { 1 ≤ plan.controllers }
+    requires depth { IsDepth booked.log.tags plan.depth }
     ensures later { IfOk result (λ finished. IsLater booked finished.booked) }
     ensures booked { IfOk result (λ finished. IsBooked finished.booked) }
     ensures replies { IfOk result (λ finished. length finished.replies.items ≡ length booked.bus.parts) }
@@ -119,6 +121,7 @@ fn finished<J: Origin + Send + Sync, R: Threads + Wait + Sync, G: Gate + Sync>(
 ) -> Finished
     requires origin { booked ≡ J.first }
     requires tags { opened.shared.desk.tags ≡ booked.bus.tags }
+    requires depth { IsDepth opened.shared.desk.tags plan.depth }
     requires clients { AreClientParts opened.shared.desk opened.shared.board plan.rounds opened.clients.items }
     requires pumps { ArePumpParts opened.shared.desk opened.shared.board opened.pumps.items }
     requires room { HasRoomFor opened.shared.clients opened.shared.pumps lists }
@@ -197,6 +200,7 @@ fn worked<'h, J: Origin + Send + Sync, R: Threads + Wait + Sync, G: Gate + Sync>
     pumps: Vec<PumpPart>,
     lists: Lists,
 ) -> Backs
+    requires depth { IsDepth shared.now.desk.tags plan.depth }
     requires clients { AreClientParts shared.now.desk shared.now.board plan.rounds clients.items }
     requires pumps { ArePumpParts shared.now.desk shared.now.board pumps.items }
     requires room { HasRoomFor shared.now.clients shared.now.pumps lists }
@@ -209,6 +213,7 @@ fn worked<'h, J: Origin + Send + Sync, R: Threads + Wait + Sync, G: Gate + Sync>
         thread::scope_env(),
         rt,
         move |scope| -> Backs
+            requires depth { IsDepth shared.now.desk.tags plan.depth }
             requires clients { AreClientParts shared.now.desk shared.now.board plan.rounds clients.items }
             requires pumps { ArePumpParts shared.now.desk shared.now.board pumps.items }
             requires room { HasRoomFor shared.now.clients shared.now.pumps lists }
@@ -244,6 +249,7 @@ fn started_and_joined<
     pumps: Vec<PumpPart>,
     lists: Lists,
 ) -> Backs
+    requires depth { IsDepth shared.now.desk.tags plan.depth }
     requires clients { AreClientParts shared.now.desk shared.now.board plan.rounds clients.items }
     requires pumps { ArePumpParts shared.now.desk shared.now.board pumps.items }
     requires room { HasRoomFor shared.now.clients shared.now.pumps lists }
@@ -266,6 +272,7 @@ fn started_and_joined<
         shared,
         gate,
         plan.rounds,
+        plan.depth,
         clients,
         client_hands,
     );
@@ -287,9 +294,11 @@ fn start_clients<'s, 'h: 's, E, J: Origin + Send + Sync, R: Wait + Sync, G: Gate
     shared: &'h DeskAndBoard,
     gate: &'h G,
     rounds: u32,
+    depth: usize,
     parts: Vec<ClientPart>,
     mut hands: Vec<StartedClient>,
 ) -> Vec<StartedClient>
+    requires depth { IsDepth shared.now.desk.tags depth }
     requires parts { AreClientParts shared.now.desk shared.now.board rounds parts.items }
     requires room { (vec_len hands ≡ 0) × (shared.now.clients ≤ vec_capacity hands) }
     ensures { AreStartedClients shared.now.desk result.items }
@@ -299,9 +308,10 @@ fn start_clients<'s, 'h: 's, E, J: Origin + Send + Sync, R: Wait + Sync, G: Gate
         let client = part.client;
         let work = move || -> ClientBack
             requires part { IsClientPart shared.now.desk shared.now.board part }
+            requires depth { IsDepth shared.now.desk.tags depth }
             requires room { HasRoomForRounds rounds part }
             ensures { IsSeatOfClient shared.entry.now.desk part.client result.seat }
-        { part.work(rt, locked, shared, gate, rounds) };
+        { part.work(rt, locked, shared, gate, rounds, depth) };
         let hand = match scope.spawn_with(ClientOf { desk, client }, work) {
             Ok(hand) => StartedClient::Thread(hand),
             Err(refused) => {

@@ -37,7 +37,7 @@ memory_ends (trace clients tags blocks bad) host old new status four kept files 
   fault = λ three. absurd (omega (arith, four, three));
   files = files;
 }
-memory_ends (work clients tags rounds None) host old new status four kept files input = record {
+memory_ends (work clients tags depth rounds None) host old new status four kept files input = record {
   statuses = inr (inr four);
   told = λ low. absurd (omega (arith, four, low));
   fault = λ three. absurd (omega (arith, four, three));
@@ -45,7 +45,7 @@ memory_ends (work clients tags rounds None) host old new status four kept files 
   files = files;
   input = input;
 }
-memory_ends (work clients tags rounds (Some file)) host old new status four kept files input = record {
+memory_ends (work clients tags depth rounds (Some file)) host old new status four kept files input = record {
   statuses = inr (inr four);
   saved = λ low. absurd (omega (arith, four, low));
   created = λ low. absurd (omega (arith, four, low));
@@ -54,7 +54,7 @@ memory_ends (work clients tags rounds (Some file)) host old new status four kept
   held = λ high tells. files;
   input = input;
 }
-memory_ends (keep clients tags rounds file every) host old new status four kept files input = record {
+memory_ends (keep clients tags depth rounds file every) host old new status four kept files input = record {
   statuses = inr (inr four);
   told = λ low. absurd (omega (arith, four, low));
   fault = λ three. absurd (omega (arith, four, three));

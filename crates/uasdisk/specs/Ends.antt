@@ -80,35 +80,35 @@ pub record TraceEnds (clients tags blocks : ℕ) (bad : Option ℕ) (host : Host
   pub fault : status ≡ 3 → ScriptStops clients tags host old new
   pub files : new.holds ≡ old.holds
 
--- `work CLIENTS ROUNDS [--tags N]`: standard output has got the lines of so many clients that worked in threads; no file is opened, and standard
+-- `work CLIENTS ROUNDS [--tags N] [--depth D]`: standard output has got the lines of so many clients that worked in threads; no file is opened, and standard
 -- input isn't read.
-pub record WorkEnds (clients tags rounds : ℕ) (host : Host) (old new : World) (status : ℕ) : Type 0 where
+pub record WorkEnds (clients tags depth rounds : ℕ) (host : Host) (old new : World) (status : ℕ) : Type 0 where
   pub statuses : (status ≤ 1) ⊎ ((status ≡ 3) ⊎ (status ≡ 4))
-  pub told : status ≤ 1 → Told clients tags rounds false old.output new.output status
+  pub told : status ≤ 1 → Told clients tags depth rounds false old.output new.output status
   pub fault : status ≡ 3 → IsTrue host.output_can_fail
   pub memory : status ≡ 4 → Keeps old.output new.output
   pub files : new.holds ≡ old.holds
   pub input : new.input ≡ old.input
 
--- `work CLIENTS ROUNDS LOG [--tags N]`: standard output has got the lines of so many clients that worked in threads, and behind them whether each
+-- `work CLIENTS ROUNDS LOG [--tags N] [--depth D]`: standard output has got the lines of so many clients that worked in threads, and behind them whether each
 -- of their audits is true; and the file of this name holds the text of the log of their bus. Where the run gave up, every file holds
 -- what it held.
-pub record SavedWorkEnds (clients tags rounds : ℕ) (file : Text) (host : Host) (old new : World) (status : ℕ) : Type 0 where
+pub record SavedWorkEnds (clients tags depth rounds : ℕ) (file : Text) (host : Host) (old new : World) (status : ℕ) : Type 0 where
   pub statuses : (status ≤ 1) ⊎ ((status ≡ 3) ⊎ (status ≡ 4))
-  pub saved : status ≤ 1 → Saved clients tags rounds host.tells (new.holds file) old.output new.output status
+  pub saved : status ≤ 1 → Saved clients tags depth rounds host.tells (new.holds file) old.output new.output status
   pub created : status ≤ 1 → IsTrue (host.can_create file)
   pub fault : status ≡ 3 → IsTrue host.output_can_fail
-      ⊎ NotSaved clients tags rounds (host.file_can_fail file) old.output new.output
-  pub memory : status ≡ 4 → Keeps old.output new.output ⊎ Unsaved clients tags rounds (λ log. ⊤) old.output new.output
+      ⊎ NotSaved clients tags depth rounds (host.file_can_fail file) old.output new.output
+  pub memory : status ≡ 4 → Keeps old.output new.output ⊎ Unsaved clients tags depth rounds (λ log. ⊤) old.output new.output
   pub held : 3 ≤ status → IsTrue host.tells → new.holds ≡ old.holds
   pub input : new.input ≡ old.input
 
--- `work CLIENTS ROUNDS LOG --sync N [--tags N]`: standard output has got the lines of so many clients that worked in threads, and behind them whether
+-- `work CLIENTS ROUNDS LOG --sync N [--tags N] [--depth D]`: standard output has got the lines of so many clients that worked in threads, and behind them whether
 -- each of their audits is true; and the file of this name holds the whole text of a log, with all that the log of their bus has behind
 -- some place.
-pub record KeptWorkEnds (clients tags rounds : ℕ) (file : Text) (host : Host) (old new : World) (status : ℕ) : Type 0 where
+pub record KeptWorkEnds (clients tags depth rounds : ℕ) (file : Text) (host : Host) (old new : World) (status : ℕ) : Type 0 where
   pub statuses : (status ≤ 1) ⊎ ((status ≡ 3) ⊎ (status ≡ 4))
-  pub told : status ≤ 1 → KeptTold clients tags rounds host.tells_kept (new.kept file) old.output new.output status
+  pub told : status ≤ 1 → KeptTold clients tags depth rounds host.tells_kept (new.kept file) old.output new.output status
   pub fault : status ≡ 3 → IsTrue host.output_can_fail ⊎ (IsTrue (host.kept_can_fail file) × Keeps old.output new.output)
   pub memory : status ≡ 4 → Keeps old.output new.output
   pub input : new.input ≡ old.input
@@ -217,9 +217,9 @@ pub record CaptureEnds (clients tags blocks : ℕ) (file : Text) (bad : Option �
 abbrev pub Ends : Asked → Host → World → World → ℕ → Type 0
 Ends (replay clients tags blocks bad) host old new status = ReplayEnds clients tags blocks bad host old new status
 Ends (trace clients tags blocks bad) host old new status = TraceEnds clients tags blocks bad host old new status
-Ends (work clients tags rounds None) host old new status = WorkEnds clients tags rounds host old new status
-Ends (work clients tags rounds (Some file)) host old new status = SavedWorkEnds clients tags rounds file host old new status
-Ends (keep clients tags rounds file every) host old new status = KeptWorkEnds clients tags rounds file host old new status
+Ends (work clients tags depth rounds None) host old new status = WorkEnds clients tags depth rounds host old new status
+Ends (work clients tags depth rounds (Some file)) host old new status = SavedWorkEnds clients tags depth rounds file host old new status
+Ends (keep clients tags depth rounds file every) host old new status = KeptWorkEnds clients tags depth rounds file host old new status
 Ends decode host old new status = DecodeEnds host old new status
 Ends (make file blocks replaces) host old new status = MakeEnds file blocks host old new status
 Ends (info file) host old new status = InfoEnds file host old new status

@@ -5,7 +5,7 @@
 //!                                                        runs a script on zeroed units, one for each client
 //! uasdisk trace CLIENTS BLOCKS [--bad LBA] [--tags N] [--color WHEN] < script
 //!                                                        the same, and prints each step with the bytes that it wrote
-//! uasdisk work CLIENTS ROUNDS [LOG [--sync N]] [--tags N]
+//! uasdisk work CLIENTS ROUNDS [LOG [--sync N]] [--tags N] [--depth D]
 //!                                                        lets clients write and read in threads, and counts what they read
 //! uasdisk decode [--color WHEN] < lines                  tells what lines of bytes say
 //! uasdisk make FILE BLOCKS [--force]                     makes an image of zeroed blocks; no file that is there, unless it is forced
@@ -21,9 +21,9 @@
 //!
 //! With `--color always`, and on a terminal that takes colours without `--color never`, the lines of `trace` and `decode` are in colours (`line_colours`).
 //! With `--bad LBA` the block of this number can neither be read nor written, in every unit that has it. With `--tags N` each client has N tags
-//! in place of 16. With LOG each client of `work`
-//! is audited, and the log of their bus is saved in that file, or with `--sync N` kept there while it grows. With `--head HEX`
-//! `audit` tells behind which step of a kept log the checksum HEX stands.
+//! in place of 16. With `--depth D` each client of `work` has D commands out at a time in place of 1. With LOG each is audited, and the
+//! log of their bus is saved in that file, or with `--sync N` kept there while it grows. With `--head HEX` `audit` tells behind which
+//! step of a kept log the checksum HEX stands.
 //!
 //! A line of a script submits a command or a task management for a client, takes one step of the bus, or drains it; what
 //! replies and refusals came of it is printed. A command on an image is submitted, drained and answered on a bus of its own. The exit status is 0

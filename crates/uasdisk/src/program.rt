@@ -78,6 +78,7 @@ pub fn run_words<
             Run::Work {
                 clients,
                 tags,
+                depth,
                 rounds,
                 log: None,
             },
@@ -87,6 +88,7 @@ pub fn run_words<
             Load {
                 clients,
                 tags,
+                depth,
                 rounds,
             },
             output,
@@ -97,6 +99,7 @@ pub fn run_words<
             Run::Work {
                 clients,
                 tags,
+                depth,
                 rounds,
                 log: Some(log),
             },
@@ -106,6 +109,7 @@ pub fn run_words<
             Load {
                 clients,
                 tags,
+                depth,
                 rounds,
             },
             files,
@@ -118,6 +122,7 @@ pub fn run_words<
             Run::Keep {
                 clients,
                 tags,
+                depth,
                 rounds,
                 log,
                 every,
@@ -128,6 +133,7 @@ pub fn run_words<
             Load {
                 clients,
                 tags,
+                depth,
                 rounds,
             },
             kept_files,

@@ -7,15 +7,15 @@ use Rattle.uas_log.specs.declared.Log.{Log}
 use Rattle.log_audit.specs.Audit.{IsAudited}
 use Rattle.log_audit.specs.Plan.{planned_steps}
 
--- What is told of a client that took so many rounds is whether its audit is true: of its submissions, and of the replies that it holds.
-abbrev pub IsToldOf : Log → ℕ → ℕ → List Reply → Bool → Type 0
-IsToldOf log rounds client replies told = IsTrue told ↔ IsAudited log client (planned_steps log.tags client rounds) replies
+-- What is told of a client that took so many rounds, with so many commands out at a time, is whether its audit is true: of its submissions, and of the replies that it holds.
+abbrev pub IsToldOf : Log → ℕ → ℕ → ℕ → List Reply → Bool → Type 0
+IsToldOf log depth rounds client replies told = IsTrue told ↔ IsAudited log client (planned_steps log.tags depth client rounds) replies
 
 -- so it is of each client, by number
-pub record AreAudits (log : Log) (rounds : ℕ) (replies : List (List Reply)) (audits : List Bool) : Type 0 where
+pub record AreAudits (log : Log) (depth rounds : ℕ) (replies : List (List Reply)) (audits : List Bool) : Type 0 where
   pub many : length audits ≡ length replies
   pub each : (client : ℕ) → client < length replies
-      → IsToldOf log rounds client (slice_index_or replies client []) (slice_index_or audits client false)
+      → IsToldOf log depth rounds client (slice_index_or replies client []) (slice_index_or audits client false)
 
 -- `audit C true`, or `audit C false`
 abbrev pub audit_line : ℕ → Bool → List ℕ

@@ -33,10 +33,10 @@ pub record HasWhole (log : Log) (why : Why) (held : Option (List ℕ)) : Type 0 
 
 -- The lines of clients and audits were printed, of a bus with a log whose threads met no fault; and the file holds the whole text of a log,
 -- where the host tells what its files hold.
-pub record KeptTold (clients tags rounds : ℕ) (tells : Bool) (held : Option (List ℕ)) (old new : Option (List ℕ)) (status : ℕ) : Type 0 where
+pub record KeptTold (clients tags depth rounds : ℕ) (tells : Bool) (held : Option (List ℕ)) (old new : Option (List ℕ)) (status : ℕ) : Type 0 where
   pub log : Log
   pub ended : Ended
-  pub audited : Audited clients tags rounds log true old new status
+  pub audited : Audited clients tags depth rounds log true old new status
   pub faultless : fault_of ended ≡ None
   pub text : IsTrue tells → ∥ HasWhole log (why_of ended) held ∥₁
 

@@ -36,26 +36,26 @@ told_text shows_audits replies audits = work_text (tallies_of replies) ++ (if sh
 
 -- The clients took these replies of a bus with this log, which is its own replay with so many tags of each and began with their logical
 -- units: their lines were printed, and the status follows from their replies and audits.
-pub record Audited (clients tags rounds : ℕ) (log : Log) (shows_audits : Bool) (old new : Option (List ℕ)) (status : ℕ) : Type 0 where
+pub record Audited (clients tags depth rounds : ℕ) (log : Log) (shows_audits : Bool) (old new : Option (List ℕ)) (status : ℕ) : Type 0 where
   pub replay : IsReplay log
   pub tags_are : log.tags ≡ tags
   pub units : log.units ≡ map first_unit (work_units clients)
   pub replies : List (List Reply)
   pub of_each : length replies ≡ clients
   pub audits : List Bool
-  pub audited : AreAudits log rounds replies audits
+  pub audited : AreAudits log depth rounds replies audits
   pub lines : Appends old new (told_text shows_audits replies audits)
   pub follows : status ≡ audited_status rounds replies audits
 
 -- so they did of some bus
-pub record Told (clients tags rounds : ℕ) (shows_audits : Bool) (old new : Option (List ℕ)) (status : ℕ) : Type 0 where
+pub record Told (clients tags depth rounds : ℕ) (shows_audits : Bool) (old new : Option (List ℕ)) (status : ℕ) : Type 0 where
   pub log : Log
-  pub audited : Audited clients tags rounds log shows_audits old new status
+  pub audited : Audited clients tags depth rounds log shows_audits old new status
 
 -- A run that gives up printed nothing, or couldn't print: then standard output can fail.
-pub record WorkEnds (clients tags rounds : ℕ) (can_fail : Bool) (old new : Option (List ℕ)) (status : ℕ) : Type 0 where
+pub record WorkEnds (clients tags depth rounds : ℕ) (can_fail : Bool) (old new : Option (List ℕ)) (status : ℕ) : Type 0 where
   pub statuses : (status ≤ 1) ⊎ ((status ≡ 3) ⊎ (status ≡ 4))
-  pub told : status ≤ 1 → Told clients tags rounds false old new status
+  pub told : status ≤ 1 → Told clients tags depth rounds false old new status
   pub fault : status ≡ 3 → IsTrue can_fail
   pub memory : status ≡ 4 → Keeps old new
 

@@ -4,6 +4,7 @@ ghost use Rattle.std.specs.Prelude.{◌≡◌, ℕ, ◌≤◌, ◌⊎◌, Bool, 
 ghost use Rattle.std.specs.Io.KnownBytes.{Keeps};
 ghost use Rattle.byte_io.specs.Disks.{AreClients};
 ghost use Rattle.uas_work.specs.Booked.{first_unit};
+ghost use Rattle.uas_work.specs.Rounds.{IsDepth};
 ghost use Rattle.work_run.specs.WorkEnds.{fault_of, step_limit, why_of, work_units};
 ghost use Rattle.work_run.specs.KeptEnds.{HasWhole, KeptGivesUp, KeptTold, stop_fault};
 
@@ -47,9 +48,10 @@ pub fn run_kept_work<R: Threads + Wait + Clock + Sync, K: KeptFiles, O: Sink, W:
     faults: &mut W,
     may_show_progress: bool,
 ) -> u8
-    requires { AreClients load.tags load.clients }
+    requires clients { AreClients load.tags load.clients }
+    requires depth { IsDepth load.tags load.depth }
     ensures statuses { (result ≤ 1) ⊎ ((result ≡ 3) ⊎ (result ≡ 4)) }
-    ensures told { result ≤ 1 → KeptTold load.clients load.tags load.rounds (K.tells files.old) (K.holds files.new kept.entry.file.now)
+    ensures told { result ≤ 1 → KeptTold load.clients load.tags load.depth load.rounds (K.tells files.old) (K.holds files.new kept.entry.file.now)
         (O.written output.old) (O.written output.new) result }
     ensures fault { result ≡ 3 → IsTrue (O.can_fail output.old)
         ⊎ (IsTrue (K.can_fail files.old kept.entry.file.now) × Keeps (O.written output.old) (O.written output.new)) }
@@ -75,9 +77,10 @@ fn work<R: Threads + Wait + Clock + Sync, K: KeptFiles, O: Sink>(
     kept: Kept<'_>,
     output: &mut O,
 ) -> Result<Worked, WorkFault>
-    requires { AreClients load.tags load.clients }
+    requires clients { AreClients load.tags load.clients }
+    requires depth { IsDepth load.tags load.depth }
     ensures status { IfOk result (λ worked. worked.status ≤ 1) }
-    ensures told { IfOk result (λ worked. KeptTold load.clients load.tags load.rounds (K.tells files.old) (K.holds files.new kept.entry.file.now)
+    ensures told { IfOk result (λ worked. KeptTold load.clients load.tags load.depth load.rounds (K.tells files.old) (K.holds files.new kept.entry.file.now)
         (O.written output.old) (O.written output.new) worked.status) }
     ensures fault { IfErr result (KeptGivesUp (K.can_fail files.old kept.entry.file.now) (O.can_fail output.old)
         (O.written output.old) (O.written output.new)) }
@@ -104,7 +107,8 @@ fn ran_kept<R: Threads + Wait + Clock + Sync, K: KeptFiles>(
     files: &mut K,
     kept: Kept<'_>,
 ) -> Result<Finished, WorkFault>
-    requires { AreClients load.tags load.clients }
+    requires clients { AreClients load.tags load.clients }
+    requires depth { IsDepth load.tags load.depth }
     ensures ended { IfOk result (λ finished. fault_of finished.ended ≡ None) }
     ensures tags { IfOk result (λ finished. finished.booked.log.tags ≡ load.tags) }
     ensures units { IfOk result (λ finished. finished.booked.log.units ≡ map first_unit (work_units load.clients)) }
@@ -131,6 +135,7 @@ fn ran_with<J: KeptLog + Send + Sync, R: Threads + Wait + Clock + Sync, K: KeptF
     requires tags { booked.log.tags ≡ J.tags }
     requires units { booked.log.units ≡ J.units }
     requires room { booked.limit ≡ step_limit load.clients load.rounds }
+    requires depth { IsDepth booked.log.tags load.depth }
     requires name { kept.file.now ≡ J.name }
     requires tells { K.tells files.old ≡ J.tells }
     requires fails { K.can_fail files.old kept.file.now ≡ J.can_fail }

@@ -14,7 +14,7 @@
 //! that the threads left, which is its own replay and began with the clients' logical units (specs/WorkEnds.antt). That all rounds come
 //! to an end is tested.
 //!
-//! Each client has the number of tags that is asked for, and the log keeps it.
+//! Each client has the number of tags that is asked for, and the log keeps it; and as many commands out at a time as are asked for.
 //!
 //! [`run_saved_work`] prints behind those lines for each client whether its audit is true, and then it saves the log in a file, which has
 //! the text of that very log or what it had (specs/SavedEnds.antt). The log is its own replay, so whoever reads the file can audit again.
@@ -45,6 +45,8 @@ pub struct Load {
     pub clients: usize,
     /// How many tags each of them has: 2 to 16, and 248 of all clients at most.
     pub tags: usize,
+    /// How many commands each of them has out at a time: 1 or more, and fewer than tags.
+    pub depth: usize,
     /// How many rounds each of them takes.
     pub rounds: u32,
 }

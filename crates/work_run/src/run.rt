@@ -3,6 +3,7 @@
 ghost use Rattle.std.specs.Prelude.{◌≡◌, ℕ, ◌^◌, ◌<◌, ◌≤◌, Bool, List, Option, None, false, map, IfOk, IfErr, IfSome};
 ghost use Rattle.byte_io.specs.Disks.{AreClients};
 ghost use Rattle.uas_work.specs.Booked.{first_unit};
+ghost use Rattle.uas_work.specs.Rounds.{IsDepth};
 ghost use Rattle.work_run.specs.WorkEnds.{Audited, GivesUp, Told, WorkEnds, fault_of, step_limit, work_units};
 ghost use Rattle.work_run.specs.KeptEnds.{KeptGivesUp};
 
@@ -51,8 +52,9 @@ pub fn run_work<R: Threads + Wait + Clock + Sync, O: Sink, W: Write>(
     faults: &mut W,
     may_show_progress: bool,
 ) -> u8
-    requires { AreClients load.tags load.clients }
-    ensures ends { WorkEnds load.clients load.tags load.rounds (O.can_fail output.old) (O.written output.old) (O.written output.new) result }
+    requires clients { AreClients load.tags load.clients }
+    requires depth { IsDepth load.tags load.depth }
+    ensures ends { WorkEnds load.clients load.tags load.depth load.rounds (O.can_fail output.old) (O.written output.old) (O.written output.new) result }
     ensures quiet { may_show_progress ≡ false → result ≤ 1 → faults.new ≡ faults.old }
 {
     match work(rt, alloc, load, output) {
@@ -72,9 +74,10 @@ fn work<R: Threads + Wait + Clock + Sync, O: Sink>(
     load: Load,
     output: &mut O,
 ) -> Result<Worked, WorkFault>
-    requires { AreClients load.tags load.clients }
+    requires clients { AreClients load.tags load.clients }
+    requires depth { IsDepth load.tags load.depth }
     ensures status { IfOk result (λ worked. worked.status ≤ 1) }
-    ensures told { IfOk result (λ worked. Told load.clients load.tags load.rounds false (O.written output.old) (O.written output.new) worked.status) }
+    ensures told { IfOk result (λ worked. Told load.clients load.tags load.depth load.rounds false (O.written output.old) (O.written output.new) worked.status) }
     ensures fault { IfErr result (GivesUp (O.can_fail output.old) (O.written output.old) (O.written output.new)) }
 {
     let start = Instant::now(rt).ok();
@@ -98,10 +101,11 @@ pub(crate) fn tell_work<O: Sink>(
     output: &mut O,
 ) -> Result<Worked, WorkFault>
     requires clients { AreClients load.tags load.clients }
+    requires depth { IsDepth load.tags load.depth }
     requires tags { finished.now.booked.log.tags ≡ load.tags }
     requires units { finished.now.booked.log.units ≡ map first_unit (work_units load.clients) }
     ensures status { IfOk result (λ worked. worked.status ≤ 1) }
-    ensures told { IfOk result (λ worked. Audited load.clients load.tags load.rounds finished.now.booked.log shows_audits
+    ensures told { IfOk result (λ worked. Audited load.clients load.tags load.depth load.rounds finished.now.booked.log shows_audits
         (O.written output.old) (O.written output.new) worked.status) }
     ensures fault { IfErr result (GivesUp (O.can_fail output.old) (O.written output.old) (O.written output.new)) }
 {
@@ -126,7 +130,8 @@ pub(crate) fn ran<R: Threads + Wait + Sync>(
     alloc: Global,
     load: Load,
 ) -> Result<Finished, WorkFault>
-    requires { AreClients load.tags load.clients }
+    requires clients { AreClients load.tags load.clients }
+    requires depth { IsDepth load.tags load.depth }
     ensures ended { IfOk result (λ finished. fault_of finished.ended ≡ None) }
     ensures tags { IfOk result (λ finished. finished.booked.log.tags ≡ load.tags) }
     ensures units { IfOk result (λ finished. finished.booked.log.units ≡ map first_unit (work_units load.clients)) }
@@ -169,7 +174,8 @@ pub(crate) fn ran_by<R: Threads + Wait + Sync, G: Gate + Sync>(
     booked: Booked,
     gate: &G,
 ) -> Result<Finished, AllocError>
-    requires { booked.limit ≡ step_limit load.clients load.rounds }
+    requires room { booked.limit ≡ step_limit load.clients load.rounds }
+    requires depth { IsDepth booked.log.tags load.depth }
     ensures tags { IfOk result (λ finished. finished.booked.log.tags ≡ booked.log.tags) }
     ensures units { IfOk result (λ finished. finished.booked.log.units ≡ booked.log.units) }
 {
@@ -184,10 +190,11 @@ fn unstarted(failed: (AllocError, Booked)) -> AllocError {
 
 /// Two pumps and a controller beside the clients.
 fn plan_of(load: Load) -> Plan
-    ensures { result ≡ record { rounds = load.rounds; pumps = PumpCount.Two; controllers = 1 } }
+    ensures { result ≡ record { rounds = load.rounds; depth = load.depth; pumps = PumpCount.Two; controllers = 1 } }
 {
     Plan {
         rounds: load.rounds,
+        depth: load.depth,
         pumps: PumpCount::Two,
         controllers: CONTROLLERS,
     }

@@ -8,6 +8,7 @@ ghost use Rattle.log_text.specs.Kept.{IsSavable};
 ghost use Rattle.log_file.specs.FileText.{file_text};
 ghost use Rattle.work_run.specs.SavedEnds.{NotSaved, Saved, SavedGivesUp, SavingGivesUp, Unsaved, file_fault, saving_fault};
 ghost use Rattle.uas_work.specs.Booked.{first_unit};
+ghost use Rattle.uas_work.specs.Rounds.{IsDepth};
 ghost use Rattle.work_run.specs.WorkEnds.{work_units};
 
 use crate::Load;
@@ -41,15 +42,16 @@ pub fn run_saved_work<R: Threads + Wait + Clock + Sync, F: Files, O: Sink, W: Wr
     faults: &mut W,
     may_show_progress: bool,
 ) -> u8
-    requires { AreClients load.tags load.clients }
+    requires clients { AreClients load.tags load.clients }
+    requires depth { IsDepth load.tags load.depth }
     ensures statuses { (result ≤ 1) ⊎ ((result ≡ 3) ⊎ (result ≡ 4)) }
-    ensures saved { result ≤ 1 → Saved load.clients load.tags load.rounds (F.tells files.old) (F.holds files.new file.now)
+    ensures saved { result ≤ 1 → Saved load.clients load.tags load.depth load.rounds (F.tells files.old) (F.holds files.new file.now)
         (O.written output.old) (O.written output.new) result }
     ensures created { result ≤ 1 → IsTrue (F.can_create files.old file.now) }
     ensures fault { result ≡ 3 → IsTrue (O.can_fail output.old)
-        ⊎ NotSaved load.clients load.tags load.rounds (F.can_fail files.old file.now) (O.written output.old) (O.written output.new) }
+        ⊎ NotSaved load.clients load.tags load.depth load.rounds (F.can_fail files.old file.now) (O.written output.old) (O.written output.new) }
     ensures memory { result ≡ 4 → Keeps (O.written output.old) (O.written output.new)
-        ⊎ Unsaved load.clients load.tags load.rounds (λ log. ⊤) (O.written output.old) (O.written output.new) }
+        ⊎ Unsaved load.clients load.tags load.depth load.rounds (λ log. ⊤) (O.written output.old) (O.written output.new) }
     ensures held { 3 ≤ result → IsTrue (F.tells files.old) → F.holds files.new ≡ F.holds files.old }
     ensures quiet { may_show_progress ≡ false → result ≤ 1 → faults.new ≡ faults.old }
 {
@@ -72,12 +74,13 @@ fn work<R: Threads + Wait + Clock + Sync, F: Files, O: Sink>(
     file: &str,
     output: &mut O,
 ) -> Result<Worked, WorkFault>
-    requires { AreClients load.tags load.clients }
+    requires clients { AreClients load.tags load.clients }
+    requires depth { IsDepth load.tags load.depth }
     ensures status { IfOk result (λ worked. worked.status ≤ 1) }
-    ensures saved { IfOk result (λ worked. Saved load.clients load.tags load.rounds (F.tells files.old) (F.holds files.new file.now)
+    ensures saved { IfOk result (λ worked. Saved load.clients load.tags load.depth load.rounds (F.tells files.old) (F.holds files.new file.now)
         (O.written output.old) (O.written output.new) worked.status) }
     ensures created { OnOk result (IsTrue (F.can_create files.old file.now)) }
-    ensures fault { IfErr result (SavedGivesUp load.clients load.tags load.rounds (F.can_fail files.old file.now) (O.can_fail output.old)
+    ensures fault { IfErr result (SavedGivesUp load.clients load.tags load.depth load.rounds (F.can_fail files.old file.now) (O.can_fail output.old)
         (O.written output.old) (O.written output.new)) }
     ensures held { OnErr result (IsTrue (F.tells files.old) → F.holds files.new ≡ F.holds files.old) }
 {
@@ -111,6 +114,7 @@ fn told_and_saved<F: Files, O: Sink>(
     output: &mut O,
 ) -> Result<Worked, WorkFault>
     requires clients { AreClients load.tags load.clients }
+    requires depth { IsDepth load.tags load.depth }
     requires tags { finished.now.booked.log.tags ≡ load.tags }
     requires units { finished.now.booked.log.units ≡ map first_unit (work_units load.clients) }
     requires bytes { IsTrue (F.tells files.old) → F.Writer.written begun ≡ Some [] }
@@ -118,9 +122,9 @@ fn told_and_saved<F: Files, O: Sink>(
     requires file { IsTrue (F.Writer.is_of begun file.now) }
     requires fails { IsTrue (F.Writer.can_fail begun) → IsTrue (F.can_fail files.old file.now) }
     ensures status { IfOk result (λ worked. worked.status ≤ 1) }
-    ensures saved { IfOk result (λ worked. Saved load.clients load.tags load.rounds (F.tells files.old) (F.holds files.new file.now)
+    ensures saved { IfOk result (λ worked. Saved load.clients load.tags load.depth load.rounds (F.tells files.old) (F.holds files.new file.now)
         (O.written output.old) (O.written output.new) worked.status) }
-    ensures fault { IfErr result (SavedGivesUp load.clients load.tags load.rounds (F.can_fail files.old file.now) (O.can_fail output.old)
+    ensures fault { IfErr result (SavedGivesUp load.clients load.tags load.depth load.rounds (F.can_fail files.old file.now) (O.can_fail output.old)
         (O.written output.old) (O.written output.new)) }
     ensures held { OnErr result (IsTrue (F.tells files.old) → F.holds files.new ≡ F.holds files.old) }
 {

@@ -3,6 +3,7 @@
 ghost use Rattle.std.specs.Prelude.{◌≡◌, ◌≤◌, map, IfErr, IfOk};
 ghost use Rattle.byte_io.specs.Disks.{AreClients};
 ghost use Rattle.uas_work.specs.Booked.{first_unit};
+ghost use Rattle.uas_work.specs.Rounds.{IsDepth};
 ghost use Rattle.work_run.specs.WorkEnds.{Audited, GivesUp, work_units};
 
 use crate::Load;
@@ -23,10 +24,11 @@ pub(crate) fn tell<O: Sink>(
     output: &mut O,
 ) -> Result<u8, WorkFault>
     requires clients { AreClients load.tags load.clients }
+    requires depth { IsDepth load.tags load.depth }
     requires tags { finished.now.booked.log.tags ≡ load.tags }
     requires units { finished.now.booked.log.units ≡ map first_unit (work_units load.clients) }
     ensures status { IfOk result (λ status. status ≤ 1) }
-    ensures told { IfOk result (λ status. Audited load.clients load.tags load.rounds finished.now.booked.log shows_audits
+    ensures told { IfOk result (λ status. Audited load.clients load.tags load.depth load.rounds finished.now.booked.log shows_audits
         (O.written output.old) (O.written output.new) status) }
     ensures fault { IfErr result (GivesUp (O.can_fail output.old) (O.written output.old) (O.written output.new)) }
 {
@@ -34,7 +36,13 @@ pub(crate) fn tell<O: Sink>(
         return Err(WorkFault::Run(RunFault::NoMemory));
     };
     let tallies = tallies_of(alloc, replies).map_err(no_memory)?;
-    let Ok(audits) = audits_of(alloc, finished.booked.log(), load.rounds, replies) else {
+    let Ok(audits) = audits_of(
+        alloc,
+        finished.booked.log(),
+        load.depth,
+        load.rounds,
+        replies,
+    ) else {
         return Err(WorkFault::Run(RunFault::NoMemory));
     };
     let mut text = work_text(alloc, &tallies).map_err(no_memory)?;

@@ -17,10 +17,10 @@ returns-in-Err-clause-run g c = λ none.
     let four = c.refuse.ensures.ends.ended.memory memory in
     asked_ends _ _ _ _ c.refuse.result four (c.refuse.ensures.ends.memory four) refl refl
 
-pub returns-in-Ok-Work-default-default-default-Some-clause-run : goal.returns-in-Ok-Work-default-default-default-Some-clause-run
-returns-in-Ok-Work-default-default-default-Some-clause-run g c = λ none.
-    let found = c.in-Ok-Work-default-default-default-Some in
-    let same : asked_by found.field-0 ≡ work found.clients found.tags found.rounds (Some found.log.now) = search rules in
-    saved_work_ends _ found.clients found.tags found.rounds found.log.now _ _ _ c.run_saved_work.result (found.ensures.asked ∙ ap (λ (asked : Asked). Some asked) same)
+pub returns-in-Ok-Work-default-default-default-default-Some-clause-run : goal.returns-in-Ok-Work-default-default-default-default-Some-clause-run
+returns-in-Ok-Work-default-default-default-default-Some-clause-run g c = λ none.
+    let found = c.in-Ok-Work-default-default-default-default-Some in
+    let same : asked_by found.field-0 ≡ work found.clients found.tags found.depth found.rounds (Some found.log.now) = search rules in
+    saved_work_ends _ found.clients found.tags found.depth found.rounds found.log.now _ _ _ c.run_saved_work.result (found.ensures.asked ∙ ap (λ (asked : Asked). Some asked) same)
     c.run_saved_work.ensures.statuses c.run_saved_work.ensures.saved c.run_saved_work.ensures.created c.run_saved_work.ensures.fault
     c.run_saved_work.ensures.memory c.run_saved_work.ensures.held refl

@@ -12,11 +12,11 @@ loop-client-preserved c =
     let replies = c.args.replies.now in
     let told = c.in_ok-told.told in
     let more : c.push.new.self.items ≡ l.audits.items ++ told ∷ [] = search rules in
-    let here = at_read replies (λ (held : List Reply). IsToldOf log c.args.rounds l.client held told) l.client c.index-replies-client.result
+    let here = at_read replies (λ (held : List Reply). IsToldOf log c.args.depth c.args.rounds l.client held told) l.client c.index-replies-client.result
     c.loop-client-test.true c.index-replies-client.is
-    (subst (λ (held : List Reply). IsToldOf log c.args.rounds l.client held told) c.as_slice.ensures c.in_ok-told.ensures) in
+    (subst (λ (held : List Reply). IsToldOf log c.args.depth c.args.rounds l.client held told) c.as_slice.ensures c.in_ok-told.ensures) in
     record {
       many = omega (arith, ap length more, length-append l.audits.items (told ∷ []), l.invariant.many);
-      each = told_more (λ k told'. IsToldOf log c.args.rounds k (get_or replies k []) told') l.client l.audits.items c.push.new.self.items told
+      each = told_more (λ k told'. IsToldOf log c.args.depth c.args.rounds k (get_or replies k []) told') l.client l.audits.items c.push.new.self.items told
           l.invariant.many more l.invariant.each (here []);
     }

@@ -9,3 +9,5 @@ invariant-loop l =
     × (l.self.client ≡ l.fn.self.client)
     × (l.self.replies ≡ l.fn.self.replies)
     × IsTagOf l.self.seat.tags l.self.seat.client l.tag
+    × (l.self.tags ≡ l.fn.self.tags)
+    × (l.self.seat ≡ l.fn.self.seat)

@@ -1,5 +1,4 @@
-use Rattle.std.proofs.Common.{refl, subst, sym, ◌∙◌}
-use Rattle.tag_desk.specs.Seats.{Customer, IsTagOf}
+use Rattle.std.proofs.Common.{refl, sym, ◌∙◌}
 use Rattle.uas_work.proofs.Taking.{issued_own}
 use Rattle.uas_work.proofs.parts.ClientPart.posted.Goals as goal
 
@@ -19,9 +18,3 @@ post-requires-clause-ask c = (
   (issued_own c.args.self.now.tags.tags c.args.self.now.tags.held.client c.args.self.now.seat.tags c.args.self.now.seat.client c.in-Ok.tag
       (sym c.requires.part.as_many) (c.requires.part.number ∙ sym c.requires.part.tags) c.in-Ok.ensures.least_tag.above c.in-Ok.ensures.least_tag.below).1,
 )
-
-pub returns-clause-tag : goal.returns-clause-tag
-returns-clause-tag c =
-    subst (λ (seat : Customer). IsTagOf seat.tags seat.client c.in-Ok.tag) (sym c.post.ensures.seat)
-    (issued_own c.args.self.now.tags.tags c.args.self.now.tags.held.client c.args.self.now.seat.tags c.args.self.now.seat.client c.in-Ok.tag
-    (sym c.requires.part.as_many) (c.requires.part.number ∙ sym c.requires.part.tags) c.in-Ok.ensures.least_tag.above c.in-Ok.ensures.least_tag.below).0

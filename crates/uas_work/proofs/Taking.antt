@@ -35,6 +35,13 @@ pub issued_own : (per client tags owner tag : ℕ) → tags ≡ per → owner �
 issued_own per client tags owner tag number same above below =
     subst (λ (p : ℕ × ℕ). IsTagOf p.0 p.1 tag × (slot_of p.0 tag ≢ task_slot p.0)) (λ i. (sym number i, sym same i)) (command_own per client tag above below)
 
+-- the tag of a client's slot is the client's, also where another name is known of the client and of how many tags it has
+pub placed_own : (tags client each owner slot tag : ℕ) → tag ≡ tag_of tags (record { client = client; slot = slot }) → tags ≡ each → client ≡ owner → slot < tags
+    → IsTagOf each owner tag
+placed_own tags client each owner slot tag is number same within =
+    subst (λ (p : ℕ × ℕ). IsTagOf p.0 p.1 tag) (λ i. (number i, same i))
+    (subst (λ t. IsTagOf tags client t) (sym is) (omega arith, (tag-of_its_place tags (record { client = client; slot = slot }) within).0))
+
 pub client_at : (tags client slot tag : ℕ) → slot < tags → tag ≡ tag_of tags (record { client = client; slot = slot }) → client_of tags tag ≡ client
 client_at tags client slot tag within is = ap (client_of tags) is ∙ (tag-of_its_place tags (record { client = client; slot = slot }) within).0
 

@@ -69,7 +69,11 @@ fn shapes(alloc: Global, records: &[u8]) -> Result<Vec<LogicalUnitShape>, AllocE
         shapes.push(shape)?;
         rest = behind;
     }
-    if rest.is_empty() { Ok(shapes) } else { Err(AllocError) }
+    if rest.is_empty() {
+        Ok(shapes)
+    } else {
+        Err(AllocError)
+    }
 }
 
 fn is_disk_set(number: u8, most: u16) -> bool

@@ -31,12 +31,11 @@ loop-number-preserved c =
       some = sym c.is_empty.ensures ∙ c.if-is_empty.false;
       first = rw (sym c.first_size.ensures.size) c.split_at.ensures.front;
       others = rw (sym c.first_size.ensures.size) c.split_at.ensures.back;
-    } in
-    (
+    } in (
       ap (λ (all : List Shape). joined all (disk_shapes (15 - (n + 1)) (n + 1) behind)) pushed
-      ∙ sym (joined_behind items (15 - n) (15 - (n + 1)) n (n + 1) rest front behind c.in-Ok.shape cut (sym c.disk_asked.ensures ∙ c.in-Ok.is))
-      ∙ c.loop-number.invariant.0,
-      omega (arith, ap length pushed, length-append items (c.in-Ok.shape ∷ []), c.loop-number.invariant.1)
+          ∙ sym (joined_behind items (15 - n) (15 - (n + 1)) n (n + 1) rest front behind c.in-Ok.shape cut (sym c.disk_asked.ensures ∙ c.in-Ok.is))
+          ∙ c.loop-number.invariant.0,
+      omega (arith, ap length pushed, length-append items (c.in-Ok.shape ∷ []), c.loop-number.invariant.1),
     )
 
 pub returns-then-is_empty-2-clause-shapes : goal.returns-then-is_empty-2-clause-shapes

@@ -344,11 +344,11 @@ trace_app = with_rule (with_disks (new_app (codes "trace"))) color_rule
 
 -- clients that work: CLIENTS ROUNDS [LOG] [--tags N] [--depth D]
 abbrev pub with_work : App → App
-with_work app = with_rule (with_rule (with_rule (with_rule (with_rule app clients_rule) rounds_rule) log_rule) tags_rule) depth_rule
+with_work app = with_rule (with_rule (with_rule (with_rule app clients_rule) rounds_rule) log_rule) tags_rule
 
 -- work CLIENTS ROUNDS [LOG] [--tags N] [--depth D] [--sync N]
 abbrev pub work_app : App
-work_app = with_rule (with_work (new_app (codes "work"))) sync_rule
+work_app = with_rule (with_rule (with_work (new_app (codes "work"))) depth_rule) sync_rule
 
 -- decode [--color WHEN]
 abbrev pub decode_app : App

@@ -122,7 +122,9 @@ fn work_command<'a>(alloc: Global) -> Result<Command<'a>, AllocError>
     let command = Command::new(alloc, "work")
         .about("Lets clients write and read in threads, and counts what they read")
         .after_help(WORK_HELP);
-    add_work(alloc, command)?.arg(number_option(alloc, "sync", "N", 0, u32::MAX, SYNC_HELP))
+    add_work(alloc, command)?
+        .arg(depth(alloc))?
+        .arg(number_option(alloc, "sync", "N", 0, u32::MAX, SYNC_HELP))
 }
 
 /// Adds what tells the clients' work and its log.
@@ -133,8 +135,7 @@ fn add_work<'a>(alloc: Global, command: Command<'a>) -> Result<Command<'a>, Allo
         .arg(number(alloc, "CLIENTS", 1, MAX_CLIENTS as u32, CLIENTS_HELP))?
         .arg(number(alloc, "ROUNDS", 1, MAX_ROUNDS, ROUNDS_HELP))?
         .arg(log(alloc, LOG_HELP))?
-        .arg(tags(alloc))?
-        .arg(depth(alloc))
+        .arg(tags(alloc))
 }
 
 /// How many commands each client has out at a time.

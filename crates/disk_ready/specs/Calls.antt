@@ -122,12 +122,12 @@ interrupted d = record d { device = disk_interrupted d.device; ready = ready_int
 abbrev pub step_ready : ReadyStep → Bool
 step_ready Begin = false
 step_ready (Sending question at) = false
-step_ready (Serve question ends told service) = false
-step_ready (Status question ends count service) = false
-step_ready (Free question how freeing at) = false
-step_ready (ServeFree question how freeing came service) = false
-step_ready (Context question how) = false
-step_ready (Take question how count) = false
+step_ready (Serve awaited) = false
+step_ready (Status awaited count) = false
+step_ready (Free verdict freeing at) = false
+step_ready (ServeFree removal) = false
+step_ready (Context verdict) = false
+step_ready (Take verdict count) = false
 step_ready (Pause until) = false
 step_ready Ready = true
 

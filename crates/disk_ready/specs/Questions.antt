@@ -18,7 +18,7 @@ use Rattle.disk_requests.specs.Pages.{limits_in, lists_page}
 use Rattle.disk_ready.specs.declared.questions.Heard.{Heard}
 use Rattle.disk_ready.specs.declared.questions.Learned.{Learned}
 use Rattle.disk_ready.specs.declared.questions.Next.{Next}
-use Rattle.disk_ready.specs.declared.questions.Next.TheVariants.{Ask, Pause, Refused, Ready}
+use Rattle.disk_ready.specs.declared.questions.Next.TheVariants.{Ask, Size, Pause, Refused, Ready}
 use Rattle.disk_ready.specs.declared.questions.Question.{Question}
 use Rattle.disk_ready.specs.declared.questions.Question.TheVariants.{Inquiry, UnitReady, StartUnit, ShortCapacity, LongCapacity, PageList, Limits}
 
@@ -61,7 +61,7 @@ inquiry_heard learned _ bytes = on learned (Refused why.NotADisk)
 -- TEST UNIT READY until GOOD: a disk that asks for it is started, once; one that becomes ready by itself is asked again a little later
 
 abbrev pub unit_heard : Learned → Readiness → Heard
-unit_heard learned readiness.Ready = on learned (Ask ShortCapacity)
+unit_heard learned readiness.Ready = on learned Size
 unit_heard learned readiness.Start = if learned.is_started then on learned Pause else on (record learned { is_started = true }) (Ask StartUnit)
 unit_heard learned readiness.Wait = on learned Pause
 unit_heard learned readiness.NoMedium = on learned (Refused why.NoMedium)

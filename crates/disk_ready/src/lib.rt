@@ -43,7 +43,7 @@ pub use puts::{PipeRing, Put, Sent, Spots, Target, Way};
 pub use questions::{Heard, Learned, Next, Question};
 pub use shapes::ReadyDisk;
 use shapes::disk_of;
-pub use steps::{Freeing, ReadyStep, Readying, Told};
+pub use steps::{Awaited, Freeing, ReadyStep, Readying, Removal, Told, Verdict};
 pub use stores::place_in;
 
 /// A controller that is brought up, and the disk behind it.

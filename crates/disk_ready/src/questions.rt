@@ -37,6 +37,8 @@ pub struct Learned {
 #[derive(Clone, Copy)]
 pub enum Next {
     Ask(Question),
+    /// The next row: how large it is.
+    Size,
     /// TEST UNIT READY, a little later.
     Pause,
     Refused(Why),
@@ -174,7 +176,7 @@ impl Learned {
         ensures { result ≡ unit_heard self how }
     {
         match how {
-            Readiness::Ready => on(self, Next::Ask(Question::ShortCapacity)),
+            Readiness::Ready => on(self, Next::Size),
             Readiness::Start if !self.is_started => {
                 let learned = Learned {
                     is_started: true,

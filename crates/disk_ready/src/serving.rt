@@ -1,12 +1,12 @@
 //! Rows 15 and 16: what a question's events came to.
 ghost use Rattle.std.specs.Prelude.{◌≡◌};
 ghost use Rattle.disk_ready.specs.Steps.{World};
-ghost use Rattle.disk_ready.specs.Table.{closed, closed_by, closed_told, closed_untold, concluded, count_of, event_came, grace, heard_by, is_freed, is_row_15, late, next_step, rest_or_late, serve_on, served_by, status_taken, take_begun, went};
+ghost use Rattle.disk_ready.specs.Table.{closed, closed_by, closed_told, closed_untold, concluded, count_of, event_came, grace, heard_by, is_freed, is_row_15, late, next_step, rest_or_late, seen_by, served, status_taken, take_begun, went};
 
 use crate::ends::{Ends, told_in};
 use crate::questions::{Heard, Next, Question};
-use crate::steps::{ReadyStep, Readying, TAG, Told, sent_of, target_of};
-use bring_up::{Served, Service, Serving, Taken, Why, later, taken_event};
+use crate::steps::{Awaited, ReadyStep, Readying, TAG, Told, Verdict, sent_of, target_of};
+use bring_up::{Served, Serving, Taken, Why, later, taken_event};
 use disk_requests::Readiness;
 use host_trbs::Event;
 use usb_descriptors::Pipes;
@@ -26,30 +26,18 @@ impl Readying {
         &mut self,
         taken: &mut Taken,
         pipes: &Pipes,
-        question: Question,
-        ends: Ends,
-        told: Option<Told>,
-        service: Service,
+        awaited: Awaited,
         now: u64,
         value: u32,
         bytes: &[u8],
     )
-        ensures { record { ready = self.new; taken = taken.new } ≡ served_by service.at (record { ready = self.old; taken = taken.old }) pipes.now question ends told service now value bytes.now }
+        ensures { record { ready = self.new; taken = taken.new } ≡ served (record { ready = self.old; taken = taken.old }) pipes.now awaited now value bytes.now }
     {
-        match service.at {
-            Serving::Event => self.event_came(
-                taken,
-                pipes,
-                question,
-                ends,
-                told,
-                service,
-                now,
-                taken_event(bytes),
-            ),
+        match awaited.service.at {
+            Serving::Event => self.event_came(taken, pipes, awaited, now, taken_event(bytes)),
             _ => {
-                let how = service.after(taken.events.cycle, value);
-                self.went(taken, question, ends, told, now, service, how);
+                let how = awaited.service.after(taken.events.cycle, value);
+                self.went(taken, awaited, now, how);
             }
         }
     }
@@ -58,175 +46,129 @@ impl Readying {
         &mut self,
         taken: &mut Taken,
         pipes: &Pipes,
-        question: Question,
-        ends: Ends,
-        told: Option<Told>,
-        service: Service,
+        awaited: Awaited,
         now: u64,
         event: Event,
     )
-        ensures { record { ready = self.new; taken = taken.new } ≡ event_came (record { ready = self.old; taken = taken.old }) pipes.now question ends told service now event }
+        ensures { record { ready = self.new; taken = taken.new } ≡ event_came (record { ready = self.old; taken = taken.old }) pipes.now awaited now event }
     {
         taken.events = taken.events.next();
         match event {
             Event::Controller { .. } => taken.restart(now),
             _ => {
-                let target = target_of(taken, pipes);
-                let ends = ends.seen(
-                    event,
-                    &taken.layout,
-                    &target,
-                    &sent_of(question),
-                    self.spots,
-                    question.data_bytes(),
-                );
-                self.look_on(question, ends, told, service.passed());
+                let awaited = self.seen_by(taken, pipes, awaited, event);
+                self.step = ReadyStep::Serve(awaited);
             }
         }
     }
 
-    fn look_on(&mut self, question: Question, ends: Ends, told: Option<Told>, service: Service)
-        ensures { self.new ≡ serve_on self.old question ends told service }
+    /// With what an event says.
+    fn seen_by(&self, taken: &Taken, pipes: &Pipes, awaited: Awaited, event: Event) -> Awaited
+        ensures { result ≡ seen_by (record { ready = self.now; taken = taken.now }) pipes.now awaited event }
     {
-        self.step = ReadyStep::Serve {
-            question,
-            ends,
-            told,
-            service,
-        };
+        Awaited {
+            ends: awaited.ends.seen(
+                event,
+                &taken.layout,
+                &target_of(taken, pipes),
+                &sent_of(awaited.question),
+                self.spots,
+                awaited.question.data_bytes(),
+            ),
+            service: awaited.service.passed(),
+            ..awaited
+        }
     }
 
-    fn went(
-        &mut self,
-        taken: &mut Taken,
-        question: Question,
-        ends: Ends,
-        told: Option<Told>,
-        now: u64,
-        service: Service,
-        how: Served,
-    )
-        ensures { record { ready = self.new; taken = taken.new } ≡ went (record { ready = self.old; taken = taken.old }) question ends told now service how }
+    fn went(&mut self, taken: &mut Taken, awaited: Awaited, now: u64, how: Served)
+        ensures { record { ready = self.new; taken = taken.new } ≡ went (record { ready = self.old; taken = taken.old }) awaited now how }
     {
         match how {
-            Served::On(next) => self.look_on(question, ends, told, next),
-            Served::Closed => self.closed(taken, question, ends, told, service, now),
+            Served::On(service) => self.step = ReadyStep::Serve(Awaited { service, ..awaited }),
+            Served::Closed => self.closed(taken, awaited, now),
             Served::Broken => taken.restart(now),
         }
     }
 
     /// All events were read.
-    fn closed(
-        &mut self,
-        taken: &mut Taken,
-        question: Question,
-        ends: Ends,
-        told: Option<Told>,
-        service: Service,
-        now: u64,
-    )
-        ensures { record { ready = self.new; taken = taken.new } ≡ closed (record { ready = self.old; taken = taken.old }) question ends told service now }
+    fn closed(&mut self, taken: &mut Taken, awaited: Awaited, now: u64)
+        ensures { record { ready = self.new; taken = taken.new } ≡ closed (record { ready = self.old; taken = taken.old }) awaited now }
     {
-        if ends.is_failed {
+        if awaited.ends.is_failed {
             taken.try_again();
-            return;
-        }
-        self.closed_by(taken, question, ends, told, service, now);
-    }
-
-    fn closed_by(
-        &mut self,
-        taken: &mut Taken,
-        question: Question,
-        ends: Ends,
-        told: Option<Told>,
-        service: Service,
-        now: u64,
-    )
-        ensures { record { ready = self.new; taken = taken.new } ≡ closed_by told (record { ready = self.old; taken = taken.old }) question ends service now }
-    {
-        match told {
-            Some(told) => self.closed_told(taken, question, ends, told, service, now),
-            None => self.closed_untold(taken, question, ends, service, now),
+        } else {
+            self.closed_by(taken, awaited, now);
         }
     }
 
-    /// The status unit is loaded once it came.
-    fn closed_untold(
-        &mut self,
-        taken: &mut Taken,
-        question: Question,
-        ends: Ends,
-        service: Service,
-        now: u64,
-    )
-        ensures { record { ready = self.new; taken = taken.new } ≡ closed_untold ends.status_moved (record { ready = self.old; taken = taken.old }) question ends service now }
+    fn closed_by(&mut self, taken: &mut Taken, awaited: Awaited, now: u64)
+        ensures { record { ready = self.new; taken = taken.new } ≡ closed_by awaited.told (record { ready = self.old; taken = taken.old }) awaited now }
     {
-        match ends.status_moved {
-            None => self.rest_or_late(taken, question, ends, None, service, now),
+        match awaited.told {
+            None => self.closed_untold(taken, awaited, now),
+            Some(told) => self.closed_told(taken, awaited, told, now),
+        }
+    }
+
+    /// The status unit is loaded, once it came.
+    fn closed_untold(&mut self, taken: &mut Taken, awaited: Awaited, now: u64)
+        ensures { record { ready = self.new; taken = taken.new } ≡ closed_untold awaited.ends.status_moved (record { ready = self.old; taken = taken.old }) awaited now }
+    {
+        match awaited.ends.status_moved {
+            None => self.rest_or_late(taken, awaited, now),
             Some(count) => {
                 self.step = ReadyStep::Status {
-                    question,
-                    ends,
+                    awaited,
                     count: count.min(STATUS_BYTES),
-                    service,
                 };
             }
         }
     }
 
-    fn closed_told(
-        &mut self,
-        taken: &mut Taken,
-        question: Question,
-        ends: Ends,
-        told: Told,
-        service: Service,
-        now: u64,
-    )
-        ensures { record { ready = self.new; taken = taken.new } ≡ closed_told (record { ready = self.old; taken = taken.old }) question ends told service now }
+    fn closed_told(&mut self, taken: &mut Taken, awaited: Awaited, told: Told, now: u64)
+        ensures { record { ready = self.new; taken = taken.new } ≡ closed_told (record { ready = self.old; taken = taken.old }) awaited told now }
     {
-        if ends.all_ended() {
-            self.take(taken, question, told.how, count_of(ends.data_moved), now);
-        } else if is_freed(ends, told, now) && ends.has_unit {
-            self.free(taken, question, told.how, now);
+        let verdict = Verdict {
+            question: awaited.question,
+            how: told.how,
+        };
+        if awaited.ends.all_ended() {
+            self.take(taken, verdict, count_of(awaited.ends.data_moved), now);
+        } else if is_freed(awaited.ends, told, now) {
+            self.free(taken, verdict, now);
         } else {
-            self.rest_or_late(taken, question, ends, Some(told), service, now);
+            let awaited = Awaited {
+                told: Some(told),
+                ..awaited
+            };
+            self.rest_or_late(taken, awaited, now);
         }
     }
 
-    /// Events are looked for again, up to the row's limit: the disk isn't used then, or the device is tried again.
-    fn rest_or_late(
-        &mut self,
-        taken: &mut Taken,
-        question: Question,
-        ends: Ends,
-        told: Option<Told>,
-        service: Service,
-        now: u64,
-    )
-        ensures { record { ready = self.new; taken = taken.new } ≡ rest_or_late (record { ready = self.old; taken = taken.old }) question ends told service now }
+    /// Events are looked for again, up to the row's limit.
+    fn rest_or_late(&mut self, taken: &mut Taken, awaited: Awaited, now: u64)
+        ensures { record { ready = self.new; taken = taken.new } ≡ rest_or_late (record { ready = self.old; taken = taken.old }) awaited now }
     {
-        if service.limit > now {
-            self.look_on(question, ends, told, service.rested(now));
-        } else if is_row_15(question) {
-            taken.give_up(Why::NeverReady);
+        if awaited.service.limit <= now {
+            late(taken, awaited.question);
         } else {
-            taken.try_again();
+            self.step = ReadyStep::Serve(Awaited {
+                service: awaited.service.rested(now),
+                ..awaited
+            });
         }
     }
 
     /// The data are loaded, where there are any.
-    fn take(&mut self, taken: &mut Taken, question: Question, how: Readiness, count: u32, now: u64)
-        ensures { record { ready = self.new; taken = taken.new } ≡ take_begun (record { ready = self.old; taken = taken.old }) question how count now }
+    fn take(&mut self, taken: &mut Taken, verdict: Verdict, count: u32, now: u64)
+        ensures { record { ready = self.new; taken = taken.new } ≡ take_begun (record { ready = self.old; taken = taken.old }) verdict count now }
     {
         if count == 0 {
-            self.conclude(taken, question, how, &[], now);
+            self.conclude(taken, verdict, &[], now);
         } else {
             self.step = ReadyStep::Take {
-                question,
-                how,
-                count: count.min(u32::from(question.data_bytes())),
+                verdict,
+                count: count.min(u32::from(verdict.question.data_bytes())),
             };
         }
     }
@@ -235,13 +177,11 @@ impl Readying {
     pub(crate) fn status_taken(
         &mut self,
         taken: &mut Taken,
-        question: Question,
-        ends: Ends,
-        service: Service,
+        awaited: Awaited,
         now: u64,
         bytes: &[u8],
     )
-        ensures { record { ready = self.new; taken = taken.new } ≡ status_taken (record { ready = self.old; taken = taken.old }) question ends service now (told_in bytes.now 1) }
+        ensures { record { ready = self.new; taken = taken.new } ≡ status_taken (record { ready = self.old; taken = taken.old }) awaited now (told_in bytes.now 1) }
     {
         match told_in(bytes, TAG) {
             None => taken.try_again(),
@@ -250,7 +190,7 @@ impl Readying {
                     how,
                     until: grace(how, now),
                 };
-                self.closed_told(taken, question, ends, told, service, now);
+                self.closed_told(taken, awaited, told, now);
             }
         }
     }
@@ -259,15 +199,14 @@ impl Readying {
     pub(crate) fn conclude(
         &mut self,
         taken: &mut Taken,
-        question: Question,
-        how: Readiness,
+        verdict: Verdict,
         bytes: &[u8],
         now: u64,
     )
-        ensures { record { ready = self.new; taken = taken.new } ≡ concluded (record { ready = self.old; taken = taken.old }) question how bytes.now now }
+        ensures { record { ready = self.new; taken = taken.new } ≡ concluded (record { ready = self.old; taken = taken.old }) verdict bytes.now now }
     {
-        let heard = self.learned.heard(question, how, bytes);
-        self.heard_by(taken, question, heard, now);
+        let heard = self.learned.heard(verdict.question, verdict.how, bytes);
+        self.heard_by(taken, verdict.question, heard, now);
     }
 
     fn heard_by(&mut self, taken: &mut Taken, question: Question, heard: Heard, now: u64)
@@ -282,11 +221,23 @@ impl Readying {
         ensures { record { ready = self.new; taken = taken.new } ≡ next_step (record { ready = self.old; taken = taken.old }) next now }
     {
         match next {
-            Next::Ask(question) => self.ask(question, now),
+            Next::Ask(question) => self.ask(question),
+            Next::Size => self.begin_row(Question::ShortCapacity, now),
             Next::Pause => self.step = ReadyStep::Pause(later(now, PAUSE)),
             Next::Refused(why) => taken.give_up(why),
             Next::Ready => self.step = ReadyStep::Ready,
         }
+    }
+}
+
+/// A row's time is over: the disk isn't used, or the device is tried again.
+fn late(taken: &mut Taken, question: Question)
+    ensures { taken.new ≡ late taken.old question }
+{
+    if is_row_15(question) {
+        taken.give_up(Why::NeverReady);
+    } else {
+        taken.try_again();
     }
 }
 
@@ -313,7 +264,7 @@ fn count_of(count: Option<u32>) -> u32
 fn is_freed(ends: Ends, told: Told, now: u64) -> bool
     ensures { result ≡ is_freed ends told now }
 {
-    ends.data_moved.is_none() && told.until <= now
+    ends.data_moved.is_none() && told.until <= now && ends.has_unit
 }
 
 fn is_row_15(question: Question) -> bool

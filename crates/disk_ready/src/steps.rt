@@ -1,7 +1,7 @@
 //! Rows 15 and 16: the steps, and what each tells.
 ghost use Rattle.std.specs.Prelude.{◌≡◌, not};
 ghost use Rattle.disk_ready.specs.Steps.{World, begun_readying, found_access, freeing_access, freeing_command, pieces_of, ready_access, sent_of, target_of};
-ghost use Rattle.disk_ready.specs.Table.{asked, found_advanced, pause_over, ready_advanced, ready_interrupted, sending_after};
+ghost use Rattle.disk_ready.specs.Table.{asked, found_advanced, pause_over, ready_advanced, ready_interrupted, row_begun, sending_after};
 
 use crate::ends::Ends;
 use crate::puts::{Put, Sent, Spots, Target, Way};
@@ -21,6 +21,22 @@ pub struct Told {
     pub until: u64,
 }
 
+/// A question whose events are awaited: which of its TDs ended, and what its status unit says, once that was read.
+#[derive(Clone, Copy)]
+pub struct Awaited {
+    pub question: Question,
+    pub ends: Ends,
+    pub told: Option<Told>,
+    pub service: Service,
+}
+
+/// A question, and what its status unit says.
+#[derive(Clone, Copy)]
+pub struct Verdict {
+    pub question: Question,
+    pub how: Readiness,
+}
+
 /// A command that takes the data's TD off.
 #[derive(Clone, Copy)]
 pub enum Freeing {
@@ -28,6 +44,15 @@ pub enum Freeing {
     Stop(u64),
     /// Set TR Dequeue Pointer to the next third.
     Move,
+}
+
+/// Such a command whose event is awaited.
+#[derive(Clone, Copy)]
+pub struct Removal {
+    pub verdict: Verdict,
+    pub freeing: Freeing,
+    pub came: Option<Completed>,
+    pub service: Service,
 }
 
 /// What of rows 15 and 16 comes next.
@@ -39,42 +64,24 @@ pub enum ReadyStep {
         question: Question,
         at: Put,
     },
-    /// Their events are awaited; the status unit was read or not.
-    Serve {
-        question: Question,
-        ends: Ends,
-        told: Option<Told>,
-        service: Service,
-    },
+    /// Their events are awaited.
+    Serve(Awaited),
     /// So many bytes of the status unit are loaded.
     Status {
-        question: Question,
-        ends: Ends,
+        awaited: Awaited,
         count: u32,
-        service: Service,
     },
     /// A command that takes the data's TD off is put, and its event awaited; the endpoint's context is loaded.
     Free {
-        question: Question,
-        how: Readiness,
+        verdict: Verdict,
         freeing: Freeing,
         at: Putting,
     },
-    ServeFree {
-        question: Question,
-        how: Readiness,
-        freeing: Freeing,
-        came: Option<Completed>,
-        service: Service,
-    },
-    Context {
-        question: Question,
-        how: Readiness,
-    },
+    ServeFree(Removal),
+    Context(Verdict),
     /// So many bytes of data are loaded.
     Take {
-        question: Question,
-        how: Readiness,
+        verdict: Verdict,
         count: u32,
     },
     /// TEST UNIT READY is asked again at this time.
@@ -180,14 +187,14 @@ impl Readying {
                 self.spots,
                 &pieces_of(layout, question),
             ),
-            ReadyStep::Serve { service, .. } | ReadyStep::ServeFree { service, .. } =>
-                service.access(c, layout, taken.events),
+            ReadyStep::Serve(awaited) => awaited.service.access(c, layout, taken.events),
             ReadyStep::Status { count, .. } => load_in(
                 layout.of_tag(TAG, TagArea::StatusUnit),
                 count,
             ),
             ReadyStep::Free { freeing, at, .. } => self.freeing_access(taken, pipes, freeing, at),
-            ReadyStep::Context { .. } => load_in(
+            ReadyStep::ServeFree(removal) => removal.service.access(c, layout, taken.events),
+            ReadyStep::Context(_) => load_in(
                 layout.device_context(pipes.data_in.context_index()),
                 CONTEXT_BYTES,
             ),
@@ -251,60 +258,38 @@ impl Readying {
         ensures { record { ready = self.new; taken = taken.new } ≡ ready_advanced (record { ready = self.old; taken = taken.old }) pipes.now now value bytes.now }
     {
         match self.step {
-            ReadyStep::Begin => {
-                self.limit = later(now, ROW_LIMIT);
-                self.ask(Question::Inquiry, now);
-            }
+            ReadyStep::Begin => self.begin_row(Question::Inquiry, now),
             ReadyStep::Sending { question, at } => {
                 let pieces = pieces_of(&taken.layout, question);
                 let next = at.after(&sent_of(question), self.spots, &pieces);
                 self.sent(question, next);
             }
-            ReadyStep::Serve {
-                question,
-                ends,
-                told,
-                service,
-            } => self.serve(
-                taken, pipes, question, ends, told, service, now, value, bytes,
-            ),
-            ReadyStep::Status {
-                question,
-                ends,
-                service,
-                ..
-            } => self.status_taken(taken, question, ends, service, now, bytes),
+            ReadyStep::Serve(awaited) => self.serve(taken, pipes, awaited, now, value, bytes),
+            ReadyStep::Status { awaited, .. } => self.status_taken(taken, awaited, now, bytes),
             ReadyStep::Free {
-                question,
-                how,
+                verdict,
                 freeing,
                 at,
-            } => self.free_put(question, how, freeing, at, now),
-            ReadyStep::ServeFree {
-                question,
-                how,
-                freeing,
-                came,
-                service,
-            } => self.serve_free(
-                taken, question, how, freeing, came, service, now, value, bytes,
-            ),
-            ReadyStep::Context { question, how } => self.context_taken(taken, question, how, bytes),
-            ReadyStep::Take { question, how, .. } => self.conclude(
-                taken, question, how, bytes, now,
-            ),
+            } => self.free_put(verdict, freeing, at, now),
+            ReadyStep::ServeFree(removal) => self.serve_free(taken, removal, now, value, bytes),
+            ReadyStep::Context(verdict) => self.context_taken(taken, verdict, bytes),
+            ReadyStep::Take { verdict, .. } => self.conclude(taken, verdict, bytes, now),
             ReadyStep::Pause(_) => self.pause_over(taken, now),
             ReadyStep::Ready => {}
         }
     }
 
-    /// A question begins; row 16 begins with READ CAPACITY(10).
-    pub(crate) fn ask(&mut self, question: Question, now: u64)
-        ensures { self.new ≡ asked self.old question now }
+    /// A row begins with its first question.
+    pub(crate) fn begin_row(&mut self, question: Question, now: u64)
+        ensures { self.new ≡ row_begun self.old question now }
     {
-        if matches!(question, Question::ShortCapacity) {
-            self.limit = later(now, ROW_LIMIT);
-        }
+        self.limit = later(now, ROW_LIMIT);
+        self.ask(question);
+    }
+
+    pub(crate) fn ask(&mut self, question: Question)
+        ensures { self.new ≡ asked self.old question }
+    {
         self.step = ReadyStep::Sending {
             question,
             at: Put::CommandUnit,
@@ -317,7 +302,7 @@ impl Readying {
     {
         self.step = match next {
             Some(at) => ReadyStep::Sending { question, at },
-            None => ReadyStep::Serve {
+            None => ReadyStep::Serve(Awaited {
                 question,
                 ends: Ends::begun(sent_of(question).way),
                 told: None,
@@ -326,7 +311,7 @@ impl Readying {
                     seen: 0,
                     at: Serving::Status,
                 },
-            },
+            }),
         };
     }
 
@@ -337,7 +322,7 @@ impl Readying {
         if self.limit <= now {
             taken.give_up(Why::NeverReady);
         } else {
-            self.ask(Question::UnitReady, now);
+            self.ask(Question::UnitReady);
         }
     }
 
@@ -345,36 +330,16 @@ impl Readying {
     pub(crate) fn interrupt(&mut self)
         ensures { self.new ≡ ready_interrupted self.old }
     {
-        match self.step {
-            ReadyStep::Serve {
-                question,
-                ends,
-                told,
-                service,
-            } => {
-                self.step = ReadyStep::Serve {
-                    question,
-                    ends,
-                    told,
-                    service: service.woken(),
-                };
-            }
-            ReadyStep::ServeFree {
-                question,
-                how,
-                freeing,
-                came,
-                service,
-            } => {
-                self.step = ReadyStep::ServeFree {
-                    question,
-                    how,
-                    freeing,
-                    came,
-                    service: service.woken(),
-                };
-            }
-            _ => {}
-        }
+        self.step = match self.step {
+            ReadyStep::Serve(awaited) => ReadyStep::Serve(Awaited {
+                service: awaited.service.woken(),
+                ..awaited
+            }),
+            ReadyStep::ServeFree(removal) => ReadyStep::ServeFree(Removal {
+                service: removal.service.woken(),
+                ..removal
+            }),
+            step => step,
+        };
     }
 }

@@ -20,15 +20,18 @@ moved_at (Some piece) residual = Some (moved_of piece residual)
 abbrev pub moved_in : List Piece → ℕ → ℕ → Option ℕ
 moved_in pieces number residual = moved_at (slice_get pieces number) residual
 
+-- a success ends the TD at its last TRB, with all bytes
+abbrev pub success_end : List Piece → ℕ → DataEnd
+success_end pieces number = if number + 1 == length pieces then Moved (total_of pieces) else GoesOn
+
 -- a short packet ends the TD at its TRB
 abbrev pub short_end : Option ℕ → DataEnd
 short_end None = GoesOn
 short_end (Some count) = Moved count
 
--- An event at the TRB of a piece: the last one's success ends the TD with all bytes, a short packet with those that came; a TD that was stopped
--- goes on behind the next doorbell.
+-- an event at the TRB of a piece; a TD that was stopped goes on behind the next doorbell
 abbrev pub data_end : List Piece → ℕ → ℕ → Completion → DataEnd
-data_end pieces number residual completion.Success = if number + 1 == length pieces then Moved (total_of pieces) else GoesOn
+data_end pieces number residual completion.Success = success_end pieces number
 data_end pieces number residual completion.ShortPacket = short_end (moved_in pieces number residual)
 data_end pieces number residual completion.Stall = Failed
 data_end pieces number residual completion.Transaction = Failed

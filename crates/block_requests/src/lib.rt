@@ -43,7 +43,8 @@ pub enum SubmitFault {
     Pieces,
 }
 
-/// What is put for a request: the way of its data, its CDB, UNMAP's parameter list, and the pieces of its segments.
+/// What is put for a request: the way of its data, its CDB, and the pieces of its segments. UNMAP lends none: its data are its list, which
+/// stands at its tag's place.
 #[derive(Clone, Drop)]
 pub struct Submission {
     pub way: Way,

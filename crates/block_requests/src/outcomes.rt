@@ -1,6 +1,6 @@
 //! What a command came to.
 ghost use Rattle.std.specs.Prelude.{◌≡◌};
-ghost use Rattle.block_requests.specs.Outcomes.{data_end, moved_in, outcome_of, short_end, status_outcome};
+ghost use Rattle.block_requests.specs.Outcomes.{data_end, moved_in, outcome_of, short_end, status_outcome, success_end};
 
 use arrayvec::ArrayVec;
 use disk_requests::StatusKind;
@@ -36,13 +36,25 @@ pub fn data_end(pieces: &[Piece], number: usize, residual: u32, completion: Comp
     ensures { result ≡ data_end pieces.now number residual completion }
 {
     match completion {
-        Completion::Success => match pieces.last() {
-            Some(last) if number == pieces.len() - 1 => DataEnd::Moved(last.end),
-            _ => DataEnd::GoesOn,
-        },
+        Completion::Success => success_end(pieces, number),
         Completion::ShortPacket => short_end(moved_in(pieces, number, residual)),
         Completion::Stall | Completion::Transaction | Completion::Failed => DataEnd::Failed,
         _ => DataEnd::GoesOn,
+    }
+}
+
+/// At the last piece a success ends the TD, with all bytes.
+fn success_end(pieces: &[Piece], number: usize) -> DataEnd
+    ensures { result ≡ success_end pieces.now number }
+{
+    if pieces.is_empty() {
+        return DataEnd::GoesOn;
+    }
+    let last = pieces.len() - 1;
+    if number == last {
+        DataEnd::Moved(pieces[last].end)
+    } else {
+        DataEnd::GoesOn
     }
 }
 

@@ -1,5 +1,5 @@
 //! Which requests are taken, and what is put for one.
-ghost use Rattle.std.specs.Prelude.{◌≡◌, ◌×◌, ◌+◌, ◌++◌, ◌<◌, ◌^◌, MatchResult, None, Some, nat_lt, replicate};
+ghost use Rattle.std.specs.Prelude.{◌≡◌, ◌++◌, MatchResult, None, Some, replicate};
 ghost use Rattle.std.specs.List.{list_any};
 ghost use Rattle.host_layout.specs.Cutting.{is_empty, pieces_from};
 ghost use Rattle.disk_requests.specs.Commands.{unmap_list};

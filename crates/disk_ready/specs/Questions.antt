@@ -8,7 +8,7 @@ use Rattle.disk_requests.specs.declared.DiskFault.{DiskFault}
 use Rattle.disk_requests.specs.declared.DiskFault.TheVariants as fault
 use Rattle.disk_requests.specs.declared.answers.Capacity.{Capacity}
 use Rattle.disk_requests.specs.declared.answers.InquiryData.{InquiryData}
-use Rattle.disk_requests.specs.declared.answers.ShortCapacity.{ShortCapacity}
+use Rattle.disk_requests.specs.declared.answers.ShortCapacity.{ShortCapacity as Short}
 use Rattle.disk_requests.specs.declared.answers.ShortCapacity.TheVariants.{Known, AskLong}
 use Rattle.disk_requests.specs.declared.senses.Readiness.{Readiness}
 use Rattle.disk_requests.specs.declared.senses.Readiness.TheVariants as readiness
@@ -79,7 +79,7 @@ abbrev pub has_version_5 : Option InquiryData → Bool
 has_version_5 None = false
 has_version_5 (Some inquiry) = nat_le 5 inquiry.version
 
-abbrev pub behind_short : Learned → Result ShortCapacity DiskFault → Heard
+abbrev pub behind_short : Learned → Result Short DiskFault → Heard
 behind_short learned (Err fault) = on learned (Refused (why_of fault))
 behind_short learned (Ok AskLong) = on learned (Ask LongCapacity)
 behind_short learned (Ok (Known capacity)) =

@@ -1,5 +1,5 @@
 -- What a disk that is ready can be asked.
-use Rattle.std.specs.Prelude.{ℕ, ◌*◌, ◌/◌, ◌==◌, ◌&&◌, ◌||◌, min, not, if◌then◌else◌, Bool, Option, Some, None}
+use Rattle.std.specs.Prelude.{ℕ, ◌*◌, ◌/◌, ◌==◌, ◌&&◌, ◌||◌, min, nat_lt, not, if◌then◌else◌, Bool, Option, Some, None}
 use Rattle.disk_requests.specs.declared.answers.BlockLimits.{BlockLimits}
 use Rattle.disk_requests.specs.declared.answers.Capacity.{Capacity}
 use Rattle.disk_requests.specs.declared.refusals.DiskShape.{DiskShape}
@@ -23,7 +23,7 @@ lower_limit a b = if a == 0 then b else if b == 0 then a else min a b
 
 -- ASMedia's ASM1053, 174c:55aa with fewer than 2^5 streams: 240 sectors of 512 bytes
 abbrev pub has_240_sectors : Known → UasFunction → Bool
-has_240_sectors known function = (known.vendor == 0x174c) && (known.product == 0x55aa) && not (function.pipes.status.max_streams == 5)
+has_240_sectors known function = (known.vendor == 0x174c) && (known.product == 0x55aa) && nat_lt function.pipes.status.max_streams 5
 
 abbrev pub bridge_limit : Known → UasFunction → ℕ → ℕ
 bridge_limit known function block_bytes =

@@ -176,13 +176,7 @@ impl Readying {
         }
     }
 
-    fn move_ended(
-        &mut self,
-        taken: &mut Taken,
-        verdict: Verdict,
-        completion: Completion,
-        now: u64,
-    )
+    fn move_ended(&mut self, taken: &mut Taken, verdict: Verdict, completion: Completion, now: u64)
         ensures { record { ready = self.new; taken = taken.new } ≡ move_ended completion (record { ready = self.old; taken = taken.old }) verdict now }
     {
         match completion {

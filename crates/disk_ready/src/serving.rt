@@ -196,13 +196,7 @@ impl Readying {
     }
 
     /// A question was answered.
-    pub(crate) fn conclude(
-        &mut self,
-        taken: &mut Taken,
-        verdict: Verdict,
-        bytes: &[u8],
-        now: u64,
-    )
+    pub(crate) fn conclude(&mut self, taken: &mut Taken, verdict: Verdict, bytes: &[u8], now: u64)
         ensures { record { ready = self.new; taken = taken.new } ≡ concluded (record { ready = self.old; taken = taken.old }) verdict bytes.now now }
     {
         let heard = self.learned.heard(verdict.question, verdict.how, bytes);

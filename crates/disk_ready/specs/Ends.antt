@@ -34,8 +34,8 @@ all_ended ends = is_some ends.data_moved && is_some ends.status_moved && ends.ha
 -- WHOSE THE EVENT IS: of an endpoint, at a TRB; data have one TRB
 
 abbrev pub td_if : Bool → Td → Td → Td
-td_if true yes no = yes
-td_if false yes no = no
+td_if true this that = this
+td_if false this that = that
 
 abbrev pub td_at : Layout → Target → Sent → Spots → ℕ → ℕ → Td
 td_at layout target sent spots endpoint trb =

@@ -9,6 +9,7 @@ use Rattle.bring_up.specs.declared.service.Served.TheVariants.{On, Closed, Broke
 use Rattle.bring_up.specs.declared.service.Service.{Service}
 use Rattle.bring_up.specs.declared.service.Serving.{Serving}
 use Rattle.bring_up.specs.declared.service.Serving.TheVariants as serving
+use Rattle.bring_up.specs.declared.taken.Taken.{Taken}
 use Rattle.bring_up.specs.declared.why.Why.TheVariants.{NeverReady}
 use Rattle.bring_up.specs.Accesses.{later}
 use Rattle.bring_up.specs.CommandRings.{begun_command, command_address, next_command}

@@ -7,8 +7,9 @@
 //! | READ CAPACITY(10) | `BadCapacity`, `BlockLength` |
 //! | (16), pages 00h and B0h | each may be refused; asked of SPC-3 and later, and (16) of 2^32 blocks and more |
 //!
-//! [`DiskReady`] owns a [`DiskUp`], tells its accesses until it is configured, and then its own. The first row and the second have 30,000 ms each,
-//! then the disk isn't used (`NeverReady`), or the device is tried again, as it is where a TD fails or the status unit is another one's.
+//! [`DiskReady`] owns a [`DiskUp`], tells its accesses until it is configured, and then its own. INQUIRY and TEST UNIT READY have 30,000 ms, then the
+//! disk isn't used (`NeverReady`). Its size has as many, then the device is tried again, as it is where a TD fails or the status unit is another
+//! one's.
 //!
 //! A question is a command on tag 1. Its data's TD and its status's stand each alone in a third of their stream's rings, its unit's on the command
 //! pipe's ring ([`Put`]); each ends by its event ([`Ends`]). Data that didn't come, behind a status that isn't GOOD or 1,000 ms behind one that is,

@@ -1,5 +1,6 @@
 //! Rows 15 and 16: what a question's events came to.
 ghost use Rattle.std.specs.Prelude.{◌≡◌};
+ghost use Rattle.disk_ready.specs.Ends.{told_in};
 ghost use Rattle.disk_ready.specs.Steps.{World};
 ghost use Rattle.disk_ready.specs.Table.{closed, closed_by, closed_told, closed_untold, concluded, count_of, event_came, grace, heard_by, is_freed, is_row_15, late, next_step, rest_or_late, seen_by, served, status_taken, take_begun, went};
 

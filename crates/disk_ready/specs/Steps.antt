@@ -28,7 +28,6 @@ use Rattle.disk_ready.specs.declared.puts.Sent.{Sent}
 use Rattle.disk_ready.specs.declared.puts.Target.{Target}
 use Rattle.disk_ready.specs.declared.puts.Way.TheVariants.{Nothing, In}
 use Rattle.disk_ready.specs.declared.questions.Question.{Question}
-use Rattle.disk_ready.specs.declared.questions.Question.TheVariants as question
 use Rattle.disk_ready.specs.declared.steps.Freeing.{Freeing}
 use Rattle.disk_ready.specs.declared.steps.Freeing.TheVariants.{Stop, Move}
 use Rattle.disk_ready.specs.declared.steps.Readying.{Readying}

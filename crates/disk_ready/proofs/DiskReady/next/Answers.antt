@@ -1,5 +1,5 @@
 -- What is told is inside what the options and the lent memory were when the device had passed the time, which leaves the options as they were.
-use Rattle.std.proofs.Common.{◌≡◌, ◌∙◌, sym, subst, Bool, true, if◌then◌else◌}
+use Rattle.std.proofs.Common.{◌∙◌, sym, subst, Bool, if◌then◌else◌}
 use Rattle.bring_up.specs.Accesses.{IsInside}
 use Rattle.bring_up.specs.Calls.{layout_of}
 use Rattle.bring_up.specs.declared.options.Options.{Options}

@@ -1,5 +1,5 @@
 -- Each copy is of sixteen bytes that are known, so that both sides compute to the same thirty-two.
-use Rattle.std.proofs.Common.{◌≡◌, ◌∙◌, ◌++◌, ap, ℕ, List}
+use Rattle.std.proofs.Common.{◌∙◌, ◌++◌, ap, ℕ, List}
 use Rattle.std.specs.Prelude.{replicate}
 use borrow.Rule.Slice.PartMut.{put_mid}
 use Rattle.host_trbs.specs.Words.{bytes_of}

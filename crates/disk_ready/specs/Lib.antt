@@ -1,0 +1,7 @@
+pub mod Questions
+pub mod Shapes
+pub mod Puts
+pub mod Ends
+pub mod Steps
+pub mod Table
+pub mod Calls

@@ -1,10 +1,10 @@
 //! The requests of a disk's users: which are taken, what is put for one, and what it came to.
 //!
 //! ```text
-//!     Request, segments --submission--> Submission: way, CDB, UNMAP list, pieces     status unit, bytes that moved --outcome_of--> Outcome
+//!     Request, segments --submitted--> Submission: way, CDB, UNMAP list, pieces     status unit, bytes that moved --outcome_of--> Outcome
 //! ```
 //!
-//! [`submission`] refuses, in this order: `Range` where a block isn't there; `TooLong`; `NoUnmap`; `NoFua`; `Length` where other bytes are lent than
+//! [`submitted`] refuses, in this order: `Range` where a block isn't there; `TooLong`; `NoUnmap`; `NoFua`; `Length` where other bytes are lent than
 //! are moved, or a segment has none; `Alignment` for a segment that isn't of whole 512 bytes at a multiple of 512; `Reach` for one that ends behind the
 //! last address that the controller reaches; `Pieces` for more TRBs than a TD has. Nothing is changed by any of them.
 //!
@@ -19,7 +19,7 @@ use arrayvec::ArrayVec;
 use disk_ready::Way;
 use host_layout::{MOST_PIECES, Piece};
 pub use outcomes::{DataEnd, Outcome, data_end, moved_in, outcome_of};
-pub use submissions::submission;
+pub use submissions::submitted;
 use thiserror::Error;
 
 /// Why a request isn't taken.

@@ -15,14 +15,14 @@ use host_layout::{CutFault, MOST_PIECES, Piece, Pieces, Segment, cut};
 const MOST_SHORT: u64 = 1 << 32;
 
 /// What is put for a request of a disk, with the segments of its data; `reach` is the last address at which one may end, and a TD has `most` TRBs.
-pub fn submission(
+pub fn submitted(
     request: &Request,
     disk: &DiskShape,
     segments: &[Segment],
     reach: u64,
     most: Pieces,
 ) -> Result<Submission, SubmitFault>
-    ensures { MatchResult result (λ submitted. (submit_fault request.now disk.now segments.now reach most ≡ None) × (submitted ≡ submission_of request.now disk.now segments.now)) (λ fault. submit_fault request.now disk.now segments.now reach most ≡ Some fault) }
+    ensures { MatchResult result (λ made. (submit_fault request.now disk.now segments.now reach most ≡ None) × (made ≡ submission_of request.now disk.now segments.now)) (λ fault. submit_fault request.now disk.now segments.now reach most ≡ Some fault) }
 {
     if let Some(refusal) = refusal_of(request, disk, lent_bytes(segments)) {
         return Err(fault_of(refusal));

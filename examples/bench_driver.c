@@ -584,13 +584,16 @@ static void random_commands(uint32_t rounds)
 
 /* ---- Ends ---- */
 
-/* A reset of the port in the middle of a READ: its task is gone, what was asked for it is dropped, and the device is set up anew. */
+/* A reset of the port in the middle of a READ: its task is gone, what was asked for it is dropped, its status's TD is one of a disk that isn't
+ * configured, and the device is set up anew. */
 static void port_reset(void)
 {
+    uint64_t status = next_place(&pipes[STATUS_PIPE][6]);
     held = true;
     begin_command(6, read_write(false, 6 * ZONE, 8).bytes, 0, 0);
     run();
     expected[STATUS_PIPE][6].count = 0;
+    expect(STATUS_PIPE, 6, status, TRANSACTION, (uint32_t)load(status + 8, 4) & 0x1ffff, false);
     set(PORTSC2, 0x210);
     expect(PORTS, 0, 2 << 24, SUCCESS, 0, false);
     finish();

@@ -50,6 +50,7 @@ use std::marker::Model;
 use thiserror::Error;
 use xhci_trb::Trb;
 
+mod items;
 pub mod laws;
 mod places;
 mod segment;

@@ -1,15 +1,15 @@
 //! The bytes of a ring with its producer's end, and without its consumer's: each call that takes an item is handed the
 //! consumer's end and gives back where it stands then.
 
-ghost use Rattle.std.specs.Prelude.{◌≡◌, ◌≢◌, ℕ, ◌+◌, ◌-◌, ◌*◌, ◌%◌, ◌^◌, ◌<◌, ◌≤◌, ◌++◌, [], ◌∷◌, ◌↔◌, Bool, Some, None, All, length, map};
-ghost use Rattle.std.specs.Prelude.{slice_get, option_map, option_and_then, ◌⊎◌, IsOk, IsSome, IfNone, IfSome, IfOk, OnOk, OnErr, IsTrue, true};
+ghost use Rattle.std.specs.Prelude.{◌≡◌, ◌≢◌, ℕ, ◌+◌, ◌-◌, ◌*◌, ◌%◌, ◌^◌, ◌<◌, ◌≤◌, ◌++◌, [], ◌∷◌, ◌↔◌, Some, None, All, length, map};
+ghost use Rattle.std.specs.Prelude.{slice_get, ◌⊎◌, IsOk, IsSome, IfSome, IfOk, OnOk, OnErr, true};
 ghost use Rattle.xhci_trb.specs.declared.Trb.{Trb};
 ghost use Rattle.xhci_trb.specs.Text.{HasText};
 ghost use Rattle.ring_ends.specs.declared.End.{End};
 
 use crate::places::{behind_link, put_back, put_raw_back};
 use crate::{NoMemory, NotAPlace, RingFull, Td};
-use ring_ends::{End, ahead, chain_bit, cycle_bit, distance, zeros};
+use ring_ends::{End, ahead, chain_bit, zeros};
 use std::alloc::Global;
 use std::marker::Model;
 use xhci_trb::{Trb, decode};
@@ -19,10 +19,10 @@ use xhci_trb::{Trb, decode};
 /// consumed.
 #[derive(Debug, Drop)]
 pub struct Segment<const N: usize> {
-    base: u64,
+    pub(crate) base: u64,
     pub(crate) places: Vec<[u8; 16]>,
-    first: usize,
-    enqueue: End,
+    pub(crate) first: usize,
+    pub(crate) enqueue: End,
 }
 
 impl<const N: usize> Model for Segment<N> {
@@ -38,11 +38,10 @@ impl<const N: usize> Model for Segment<N> {
 
 impl<const N: usize> Segment<N> {
     ghost use Rattle.cycle_ring.specs.Ring.{opening, place_of, cycle_of, pointer_of, reclaimed, IsConsumed};
-    ghost use Rattle.cycle_ring.specs.Ring.{IsPending, IsShifted, IsInUse, IsTd, IsEnqueuePlace, item_at, item_in, consumed_at};
-    ghost use Rattle.cycle_ring.specs.Items.{IsItemRing, item_read, known, known_of, known_front_of, raw_front_of, known_consumed_at};
+    ghost use Rattle.cycle_ring.specs.Ring.{IsPending, IsShifted, IsInUse, IsTd, IsEnqueuePlace};
+    ghost use Rattle.cycle_ring.specs.Items.{IsItemRing, item_read, known, known_front_of, raw_front_of, known_consumed_at};
     ghost use Rattle.cycle_ring.specs.Items.{chain_consumed_at, known_oldest_of, raw_image, raw_link_image};
     ghost use Rattle.cycle_ring.specs.Segment.{IsConsumer, IsItem, items_before, with_consumer};
-    ghost use Rattle.ring_ends.specs.Counted.{IsEnd, turn_bit};
 
     /// An empty segment at this address, a multiple of 16 below `2^63` (4.9.2); its consumer's end is [`End::first`].
     /// Refused for want of memory alone.
@@ -329,167 +328,5 @@ impl<const N: usize> Segment<N> {
             return Some(self.places[place]);
         }
         None
-    }
-
-    // How many items are put and not reclaimed.
-    #[inline(always)]
-    fn count(&self) -> usize
-        ensures count { result ≡ length self.now.put }
-        ensures standing { IsItemRing N self.now }
-    {
-        let first = self.first;
-        distance(N - 1, first, self.enqueue.place)
-    }
-
-    // How many of them a consumer's end has passed.
-    #[inline(always)]
-    fn passed(&self, end: End) -> usize
-        requires { IsConsumer N self.now end }
-        ensures { result ≡ items_before N self.now end }
-    {
-        let first = self.first;
-        distance(N - 1, first, end.place)
-    }
-
-    // The place of an item, and the cycle state with which both ends come to it.
-    #[inline(always)]
-    fn end_at(&self, item: usize) -> End
-        requires { item < N - 1 }
-        ensures end { IsEnd (N - 1) (self.now.at + item) result }
-        ensures within { result.place < N - 1 }
-    {
-        let place = ahead(N - 1, self.first, item);
-        let start = End {
-            place: self.first,
-            cycle: self.first_cycle(),
-        };
-        End {
-            place,
-            cycle: start.bit_at(place),
-        }
-    }
-
-    // The cycle state with which both ends come to the first place that isn't reclaimed.
-    #[inline(always)]
-    fn first_cycle(&self) -> bool
-        ensures { result ≡ turn_bit (N - 1) self.now.at }
-    {
-        let brought = End {
-            place: self.first,
-            cycle: self.enqueue.cycle,
-        };
-        brought.bit_at(self.enqueue.place)
-    }
-
-    // Whether a place has the Cycle bit that an end brings there.
-    #[inline(always)]
-    fn is_in_use(&self, end: End) -> bool
-        requires { end.place < N - 1 }
-        ensures { (k : ℕ) → k < N - 1 → IsEnd (N - 1) (self.now.at + k) end → IsTrue result ↔ (k < length self.now.put) }
-    {
-        cycle_bit(&self.places[end.place]) == end.cycle
-    }
-
-    // The TRB of an item by its place, while it is there and is one.
-    #[inline(always)]
-    fn trb_at(&self, end: End) -> Option<Trb>
-        requires { end.place < N - 1 }
-        ensures { (k : ℕ) → k < N - 1 → IsEnd (N - 1) (self.now.at + k) end → result ≡ option_and_then known_of (slice_get self.now.put k) }
-    {
-        if !self.is_in_use(end) {
-            return None;
-        }
-        match decode(&self.places[end.place]) {
-            Ok((trb, _)) => Some(trb),
-            Err(_) => None,
-        }
-    }
-
-    // The item that stands, or would stand, at this place.
-    #[inline(always)]
-    fn item_at(&self, place: usize) -> usize
-        requires { place < N - 1 }
-        ensures item { result ≡ item_in (N - 1) (self.now.at % (N - 1)) place }
-        ensures bound { result < N - 1 }
-        ensures place { place_of N self.now result ≡ place }
-        ensures only { (k : ℕ) → k < N - 1 → place_of N self.now k ≡ place → k ≡ result }
-    {
-        distance(N - 1, self.first, place)
-    }
-
-    // The place of the consumed item at this address. It is in use, so that its Cycle bit needs no look.
-    #[inline(always)]
-    fn consumed_place(&self, end: End, pointer: u64) -> Option<usize>
-        requires { IsConsumer N self.now end }
-        ensures found { IfSome result (λ place. (k : ℕ) × (k < items_before N self.now end) × (item_at N self.now pointer ≡ Some k) × (place_of N self.now k ≡ place)) }
-        ensures within { IfSome result (λ place. place < N - 1) }
-        ensures none { IfNone result (consumed_at N (with_consumer N self.now end) pointer ≡ None) }
-    {
-        let place = self.place_at(pointer)?;
-        if self.passed(end) <= self.item_at(place) {
-            return None;
-        }
-        Some(place)
-    }
-
-    // The place, where its item is consumed.
-    #[inline(always)]
-    fn passed_place(&self, end: End, place: usize) -> Option<usize>
-        requires { IsConsumer N self.now end }
-        ensures found { IfSome result (λ passed. (k : ℕ) × (k < items_before N self.now end)
-            × (item_at N self.now (self.now.base + 16 * place) ≡ Some k) × (place_of N self.now k ≡ passed)) }
-        ensures within { IfSome result (λ passed. passed < N - 1) }
-        ensures none { IfNone result (consumed_at N (with_consumer N self.now end) (self.now.base + 16 * place) ≡ None) }
-    {
-        if N - 1 <= place {
-            return None;
-        }
-        if self.passed(end) <= self.item_at(place) {
-            return None;
-        }
-        Some(place)
-    }
-
-    // The item that stands, or would stand, at this address.
-    #[inline(always)]
-    fn item_of(&self, pointer: u64) -> Option<usize>
-        ensures item { result ≡ item_at N self.now pointer }
-        ensures found { IfSome result (λ k. (k < N - 1) × (pointer ≡ pointer_of N self.now k)) }
-        ensures every { (k : ℕ) → k < N - 1 → pointer ≡ pointer_of N self.now k → result ≡ Some k }
-    {
-        match self.place_at(pointer) {
-            Some(place) => Some(self.item_at(place)),
-            None => None,
-        }
-    }
-
-    // The place at this address, unless it is the Link's.
-    #[inline(always)]
-    fn place_at(&self, pointer: u64) -> Option<usize>
-        ensures place { option_map (item_in (N - 1) (self.now.at % (N - 1))) result ≡ item_at N self.now pointer }
-        ensures within { IfSome result (λ place. place < N - 1) }
-        ensures address { IfSome result (λ place. pointer ≡ self.now.base + 16 * place) }
-        ensures standing { IsItemRing N self.now }
-    {
-        if pointer < self.base {
-            return None;
-        }
-        let offset = pointer - self.base;
-        if offset % 16 != 0 {
-            return None;
-        }
-        let place = offset / 16;
-        if place >= (N - 1) as u64 {
-            return None;
-        }
-        Some(place as usize)
-    }
-
-    #[inline(always)]
-    fn pointer(&self, place: usize) -> u64
-        requires { place < N }
-        ensures { result ≡ self.now.base + 16 * place }
-    {
-        self.base + 16 * place as u64
     }
 }

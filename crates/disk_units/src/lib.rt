@@ -56,6 +56,8 @@ pub enum DiskFault {
     Removable,
     #[error("what is written is cached")]
     WriteThrough,
+    #[error("a change of it is told")]
+    Quiet,
     #[error("a block of the medium that has neither as many bytes as a logical block nor 4096")]
     PhysicalBytes,
     #[error("a maximum transfer length that is no multiple of 8 from 8 to 65528")]

@@ -194,6 +194,8 @@ impl DiskUnit {
             Some(DiskFault::Removable)
         } else if self.write_through {
             Some(DiskFault::WriteThrough)
+        } else if self.quiet {
+            Some(DiskFault::Quiet)
         } else if !has_physical_bytes(self.physical_bytes, block_bytes) {
             Some(DiskFault::PhysicalBytes)
         } else if !has_discard_blocks(self.discard_blocks, block_bytes) {

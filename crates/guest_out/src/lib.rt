@@ -19,6 +19,7 @@
 
 mod command;
 mod data_out;
+mod handing;
 mod immediate;
 mod wanting;
 

@@ -1,32 +1,18 @@
 //! Steps of the data-in pipe for a tag.
-ghost use Rattle.std.specs.Prelude.{◌≡◌, ℕ, ◌+◌, ◌-◌, ◌<◌, ◌≤◌, ◌^◌, length as list_length, take, drop, true, false, Option, Some, None, IfOk, is_some};
+ghost use Rattle.std.specs.Prelude.{◌≡◌, ℕ, ◌+◌, ◌-◌, ◌<◌, ◌≤◌, ◌^◌, length as list_length, take, true, false, Some, None};
 ghost use Rattle.std.specs.Result.{result_ok};
 ghost use Rattle.guest_memory.specs.Bytes.{is_there};
 ghost use Rattle.guest_pipes.specs.Step.{World, has_place, has_home};
 ghost use Rattle.guest_pipes.specs.Gate.{after};
-ghost use Rattle.guest_tags.specs.Devices.{Kind};
-ghost use Rattle.guest_tags.specs.Tags.{TagWorld};
-ghost use Rattle.guest_tags.specs.DataIn.{acted, closed, closed_if, ends_td, filled_ring, gave_by, given_to, has_chunk, is_status, lost, moved_if, moved_in, normal, ran, refilled, stepped_in, took};
+ghost use Rattle.guest_tags.specs.DataIn.{acted, closed, closed_if, ends_td, filled_ring, gave_by, given_to, has_chunk, lost, moved_if, moved_in, normal, ran, refilled, stepped_in, took};
 ghost use Rattle.guest_pipes.specs.Pipe.{home_of};
 
 use crate::buffer::Buffer;
-use crate::device::{End, Phase, UasDevice};
+use crate::device::{Phase, UasDevice};
 use crate::tag::Tag;
 use guest_memory::rings::{EventRing, Found, Front, PipeTrb};
 use guest_memory::{GuestMemory, Outside};
 use guest_pipes::{Acted, Consumer, Ending, Pipe, there};
-
-impl End {
-    /// Whether a status ended the task.
-    pub fn is_status(self) -> bool
-        ensures { result ≡ is_status self }
-    {
-        match self {
-            End::Good | End::Check => true,
-            End::Response => false,
-        }
-    }
-}
 
 impl Tag {
     /// Whether something of a chunk is left.

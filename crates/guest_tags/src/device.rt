@@ -1,6 +1,7 @@
 //! The device behind the pipes.
 ghost use Rattle.std.specs.Prelude.{◌≡◌, length, is_some, unwrap_or};
 ghost use Rattle.arrayvec.specs.ArrayVec.{array_vec_len};
+ghost use Rattle.guest_tags.specs.DataIn.{is_status};
 ghost use Rattle.guest_tags.specs.Devices.{IsChunk, IsEnded, Kind};
 
 use arrayvec::ArrayVec;
@@ -15,6 +16,18 @@ pub enum End {
     Check,
     /// With a response code.
     Response,
+}
+
+impl End {
+    /// Whether a status ended the task.
+    pub fn is_status(self) -> bool
+        ensures { result ≡ is_status self }
+    {
+        match self {
+            End::Good | End::Check => true,
+            End::Response => false,
+        }
+    }
 }
 
 /// What the device does next on a tag.

@@ -1,14 +1,14 @@
 //! The event ring as `trace` reads it: where the newest event stands, and its line.
 
-ghost use Rattle.std.specs.Prelude.{◌≡◌, ◌==◌, ◌<◌, ◌++◌, IfSome, OnOk, length};
+ghost use Rattle.std.specs.Prelude.{◌≡◌, ◌==◌, ◌<◌, ◌≤◌, ◌++◌, IfSome, OnOk, length};
 ghost use Rattle.event_ring.specs.Events.{IsRing};
 ghost use Rattle.uas_profile.specs.declared.TheConstants.{EVENT_RING_PLACES};
-ghost use Rattle.uas_trace.specs.Written.{event_at, event_line, newest_place};
+ghost use Rattle.uas_trace.specs.Written.{event_at, event_line, newest_place, residual_in, status_len};
 
 use crate::put_ring::push_image;
 use std::alloc::AllocError;
 use stream_array::Lines;
-use uas_profile::{EVENT_RING, EVENT_RING_PLACES};
+use uas_profile::{EVENT_RING, EVENT_RING_PLACES, STATUS_BYTES};
 
 /// The place of the newest event. It is looked for from a place on, and that of the event before it leads there at once.
 pub fn newest_event(lines: &Lines, from: usize) -> usize
@@ -59,4 +59,22 @@ pub fn push_event(
         Some(place) => push_image(text, "event", EVENT_RING + 16 * place as u64, event),
         None => Ok(()),
     }
+}
+
+/// How many bytes of the status buffer were written, as the event tells; none without it.
+pub fn status_len(event: &Option<[u8; 16]>) -> usize
+    ensures len { result ≡ status_len event.now }
+    ensures most { result ≤ STATUS_BYTES }
+{
+    match event {
+        Some(bytes) => STATUS_BYTES.saturating_sub(residual(bytes)),
+        None => 0,
+    }
+}
+
+/// How many bytes an event's TRB had left: bits 23:0 of its status word (xHCI 6.4.2.1).
+fn residual(event: &[u8; 16]) -> usize
+    ensures { result ≡ residual_in event.now }
+{
+    u32::from_le_bytes([event[8], event[9], event[10], 0]) as usize
 }

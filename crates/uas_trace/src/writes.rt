@@ -8,13 +8,13 @@ ghost use Rattle.frame_store.specs.Buffers.{IsWhole};
 ghost use Rattle.frame_store.specs.Places.{room_of};
 ghost use Rattle.stream_array.specs.Contexts.{has_stream};
 ghost use Rattle.uas_profile.specs.Pipes.{HasStreams};
-ghost use Rattle.uas_trace.specs.Written.{chunk_lines, ends_of, is_at, moved_line, moved_on, own_lines, posted_at, residual_in, seen_before};
-ghost use Rattle.uas_trace.specs.Written.{seen_writes, status_len, taken_line, task_tag, tds_lines, unit_line, with_writes};
+ghost use Rattle.uas_trace.specs.Written.{chunk_lines, ends_of, is_at, moved_line, moved_on, own_lines, posted_at, seen_before};
+ghost use Rattle.uas_trace.specs.Written.{seen_writes, taken_line, task_tag, tds_lines, unit_line, with_writes};
 ghost use Rattle.stream_array.specs.Rings.{IsLines};
 ghost use Rattle.uas_profile.specs.Tags.{AreTags, most_clients};
 ghost use Rattle.xhci_ctl.specs.Doorbells.{pipe_at};
 
-use crate::events::{event_at, newest_event, push_event};
+use crate::events::{event_at, newest_event, push_event, status_len};
 use crate::lines::{push_bells, push_bytes, push_chunk, push_context};
 use crate::put_ring::PutRing;
 use bus_core::{Outcome, Step};
@@ -23,8 +23,8 @@ use std::alloc::AllocError;
 use stream_array::{Lines, Pipe};
 use uas_iu::TASK_BYTES;
 use uas_profile::{
-    COMMAND_BYTES, DATA_IN_ENDPOINT, DATA_OUT_ENDPOINT, STATUS_BYTES, STATUS_ENDPOINT, STREAMS,
-    most_clients, tag_of, task_slot,
+    COMMAND_BYTES, DATA_IN_ENDPOINT, DATA_OUT_ENDPOINT, STATUS_ENDPOINT, STREAMS, most_clients,
+    tag_of, task_slot,
 };
 use xhci_trb::Trb;
 
@@ -383,22 +383,4 @@ fn is_at(address: u64, front: Option<(u64, Trb)>) -> bool
         Some((pointer, _)) => pointer == address,
         None => false,
     }
-}
-
-/// How many bytes of the status buffer were written, as the event tells; none without it.
-fn status_len(event: &Option<[u8; 16]>) -> usize
-    ensures len { result ≡ status_len event.now }
-    ensures most { result ≤ STATUS_BYTES }
-{
-    match event {
-        Some(bytes) => STATUS_BYTES.saturating_sub(residual(bytes)),
-        None => 0,
-    }
-}
-
-/// How many bytes an event's TRB had left: bits 23:0 of its status word (xHCI 6.4.2.1).
-fn residual(event: &[u8; 16]) -> usize
-    ensures { result ≡ residual_in event.now }
-{
-    u32::from_le_bytes([event[8], event[9], event[10], 0]) as usize
 }

@@ -1,0 +1,3 @@
+mod ByteByByte
+mod Marks
+mod Words

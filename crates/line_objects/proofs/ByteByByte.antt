@@ -1,5 +1,5 @@
 -- A text that is told as objects byte by byte.
-use Rattle.std.proofs.Common.{◌≡◌, ◌≢◌, ◌∙◌, ℕ, ◌==◌, Bool, true, false, if◌then◌else◌, List, [], ◌∷◌, ◌++◌, length, refl, ap, sym, append_assoc, append-nil}
+use Rattle.std.proofs.Common.{◌≡◌, ◌≢◌, ◌∙◌, ℕ, ◌==◌, Bool, true, false, List, [], ◌∷◌, ◌++◌, refl, ap, sym, append_assoc, append-nil}
 use Rattle.std.specs.Bool.{Decides}
 use Rattle.std.proofs.lemmas.Bool.Decides.{Decides-eqb}
 use Rattle.line_objects.specs.declared.Form.{Form}
@@ -33,18 +33,9 @@ text-more form text line next byte rest other is_next =
     ∙ ap (λ l. text ++ objects_from form l rest) (sym is_next)
 
 -- all bytes, where nothing was taken in before them
-pub text-done : (form : Form) (bytes text line first begun : List ℕ) → first ≡ [] → begun ≡ []
-    → ((rest : List ℕ) → first ++ objects_from form begun (bytes ++ rest) ≡ text ++ objects_from form line rest)
-    → text ++ objects_from form line [] ≡ objects form bytes
-text-done form bytes text line first begun no_text no_line goes =
-    sym (goes []) ∙ (ap (λ l. l ++ objects_from form begun (bytes ++ [])) no_text
-    ∙ (ap (λ l. objects_from form l (bytes ++ [])) no_line ∙ ap (objects_from form []) (append-nil bytes)))
-
--- a last line, which is told where it isn't empty
-pub last-told : (form : Form) (line : List ℕ) → (length line == 0) ≡ false → objects_from form line [] ≡ object_line form line
-unfolding objects_from
-last-told form line some = rw some refl
-
-pub last-empty : (form : Form) (line : List ℕ) → (length line == 0) ≡ true → objects_from form line [] ≡ []
-unfolding objects_from
-last-empty form line none = rw none refl
+pub text-done : (form start mid : Form) (bytes text line first begun after : List ℕ) → start ≡ form → mid ≡ start → first ≡ [] → begun ≡ []
+    → ((rest : List ℕ) → first ++ objects_from start begun (bytes ++ rest) ≡ text ++ objects_from start line rest)
+    → after ≡ text ++ objects_from mid line [] → after ≡ objects form bytes
+text-done form start mid bytes text line first begun after is_start is_mid no_text no_line goes is =
+    is ∙ (ap (λ f. text ++ objects_from f line []) is_mid ∙ (sym (goes []) ∙ (ap (λ l. l ++ objects_from start begun (bytes ++ [])) no_text
+    ∙ (ap (λ l. objects_from start l (bytes ++ [])) no_line ∙ (ap (objects_from start []) (append-nil bytes) ∙ ap (λ f. objects_from f [] bytes) is_start)))))

@@ -1,3 +1,4 @@
 mod ByteByByte
 mod Marks
+mod SaidMarks
 mod Words

@@ -1,6 +1,6 @@
 -- A text as JSON objects (RFC 8259), one for each of its lines.
-use Rattle.std.specs.Prelude.{◌≡◌, ◌+◌, ℕ, ◌==◌, ◌||◌, ◌&&◌, nat_lt, Bool, true, false, if◌then◌else◌, List, [], ◌∷◌, ◌++◌, length, drop, take, flat_map, codes, Option, Some, None}
-use Rattle.std.specs.List.{join_by}
+use Rattle.std.specs.Prelude.{◌≡◌, ◌+◌, ℕ, IsTrue, not, ◌==◌, ◌||◌, ◌&&◌, nat_lt, Bool, true, false, if◌then◌else◌, List, [], ◌∷◌, ◌++◌, length, drop, take, flat_map, codes, Option, Some, None}
+use Rattle.std.specs.List.{join_by, list_all}
 use Rattle.std.specs.Str.{bytes_eq}
 use Rattle.hex.specs.Hex.{encode_lower}
 use Rattle.line_objects.specs.declared.Form.{Form}
@@ -94,8 +94,8 @@ object fields = 123 ∷ join_by field_text (44 ∷ []) fields ++ (125 ∷ [])
 -- TEXTS
 
 -- By hand: of `audit` the line `torn at byte 9` is `{"torn":9}`, and an empty one `{"line":""}`; of `info` `blocks 100 last 99` is
--- `{"blocks":100,"last":99}`; of `replay` `1 7 good 0` is `{"client":1,"ticket":7,"ended":"good","length":0}`; of `decode` `bell 00  ; refused: NotHex`
--- is `{"line":"bell 00","refused":"NotHex"}`.
+-- `{"blocks":100,"last":99}`; of `replay` `1 7 good 0` is `{"client":1,"ticket":7,"ended":"good","length":0}`; of `decode` `bell 0g  ; refused: NotHex`
+-- is `{"line":"bell 0g","refused":"NotHex"}`.
 unfoldable pub object_line : Form → List ℕ → List ℕ
 object_line form line = object (fields_of form line) ++ (10 ∷ [])
 
@@ -108,3 +108,12 @@ objects_from form line (byte ∷ rest) =
 -- a text as objects: each line's, and a line feed behind it
 abbrev pub objects : Form → List ℕ → List ℕ
 objects form bytes = objects_from form [] bytes
+
+-- LAW
+
+abbrev pub has_no_semicolon : List ℕ → Bool
+has_no_semicolon bytes = list_all (λ byte. not (byte == 59)) bytes
+
+-- The last mark is the one that was set behind an input line, whatever that line has, where what is said has no semicolon.
+abbrev pub MarksAreFound : Type 0
+MarksAreFound = (line said : List ℕ) → IsTrue (has_no_semicolon said) → last_mark (line ++ (mark ++ said)) ≡ Some (length line)

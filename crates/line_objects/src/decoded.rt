@@ -17,19 +17,17 @@ const REFUSED: &[u8] = b"refused: ";
 
 /// The fields of a line of `decode`.
 #[tactic(auto, unfolding(crate::specs::Objects::decode_fields))]
-pub(crate) fn decode_fields<'a>(
-    alloc: Global,
-    line: &'a [u8],
-) -> Result<Vec<Field<'a>>, AllocError>
+pub(crate) fn decode_fields<'a>(alloc: Global, line: &'a [u8]) -> Result<Vec<Field<'a>>, AllocError>
     ensures { IfOk result (λ fields. map field_held fields.items ≡ decode_fields line.entry.now) }
 {
     if !names_bytes(line) {
         return whole(alloc, line);
     }
     match last_mark(line) {
-        Some(place) => Ok(
-            vec![in alloc; with_text("line", &line[..place]), said(&line[place + 4..])]?,
-        ),
+        Some(place) => Ok(vec![in alloc;
+            with_text("line", &line[..place]),
+            said(&line[place + 4..]),
+        ]?),
         None => whole(alloc, line),
     }
 }

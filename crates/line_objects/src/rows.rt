@@ -13,17 +13,10 @@ use std::alloc::{AllocError, Global};
 pub(crate) enum Part {
     /// A word that gives no field.
     Word(&'static str),
-    /// A word that is a key's value.
-    Named {
-        key: &'static str,
-        word: &'static str,
-    },
-    /// A word that tells whether something is so.
-    Told {
-        key: &'static str,
-        word: &'static str,
-        is: bool,
-    },
+    /// A key, and the word that is its value.
+    Named(&'static str, &'static str),
+    /// A key, and the word that tells whether something is so.
+    Told(&'static str, &'static str, bool),
     /// A number.
     Numeral(&'static str),
     /// Any word.
@@ -36,54 +29,117 @@ pub(crate) enum Part {
 pub(crate) type Row = &'static [Part];
 
 const CLIENT: Part = Part::Numeral("client");
+
 const TICKET: Part = Part::Numeral("ticket");
+
 const TAG: Part = Part::Numeral("tag");
+
 const PIPE: Part = Part::Numeral("pipe");
+
 const LENGTH: Part = Part::Numeral("length");
+
 const ADDRESS: Part = Part::Any("address");
+
 const BYTES: Part = Part::Any("bytes");
 
 /// The rows of `replay` and `trace`: replies and refusals of a client, steps, and what a step wrote.
 const RUN_ROWS: &[Row] = &[
-    &[CLIENT, TICKET, Part::Named { key: "ended", word: "good" }, LENGTH],
-    &[CLIENT, TICKET, Part::Named { key: "ended", word: "good" }, LENGTH, BYTES],
-    &[CLIENT, TICKET, Part::Named { key: "ended", word: "check" }, Part::Any("sense")],
-    &[CLIENT, TICKET, Part::Named { key: "ended", word: "aborted" }],
-    &[CLIENT, TICKET, Part::Named { key: "ended", word: "task" }, Part::Any("response")],
+    &[CLIENT, TICKET, Part::Named("ended", "good"), LENGTH],
+    &[CLIENT, TICKET, Part::Named("ended", "good"), LENGTH, BYTES],
+    &[
+        CLIENT,
+        TICKET,
+        Part::Named("ended", "check"),
+        Part::Any("sense"),
+    ],
+    &[CLIENT, TICKET, Part::Named("ended", "aborted")],
+    &[
+        CLIENT,
+        TICKET,
+        Part::Named("ended", "task"),
+        Part::Any("response"),
+    ],
     &[CLIENT, Part::Word("refused"), Part::Any("refused")],
-    &[Part::Told { key: "idle", word: "idle", is: true }],
-    &[Part::Named { key: "step", word: "submit" }, CLIENT, TAG, TICKET, Part::Onward("command")],
-    &[Part::Named { key: "step", word: "task" }, CLIENT, TICKET, Part::Onward("function")],
-    &[Part::Named { key: "step", word: "command" }],
-    &[Part::Named { key: "step", word: "engine" }],
-    &[Part::Named { key: "step", word: "event" }],
-    &[Part::Named { key: "step", word: "data" }, TAG],
-    &[Part::Named { key: "step", word: "status" }, TAG],
-    &[Part::Named { key: "step", word: "retire" }, PIPE, TAG],
-    &[Part::Named { key: "step", word: "take" }, CLIENT],
-    &[Part::Named { key: "wrote", word: "unit" }, ADDRESS, BYTES],
-    &[Part::Named { key: "wrote", word: "put" }, ADDRESS, BYTES],
-    &[Part::Named { key: "wrote", word: "link" }, ADDRESS, BYTES],
-    &[Part::Named { key: "wrote", word: "event" }, ADDRESS, BYTES],
-    &[Part::Named { key: "wrote", word: "in" }, ADDRESS, LENGTH],
-    &[Part::Named { key: "wrote", word: "out" }, ADDRESS, LENGTH],
-    &[Part::Named { key: "wrote", word: "context" }, PIPE, Part::Numeral("stream"), BYTES],
-    &[Part::Named { key: "wrote", word: "bell" }, Part::Any("value")],
+    &[Part::Told("idle", "idle", true)],
+    &[
+        Part::Named("step", "submit"),
+        CLIENT,
+        TAG,
+        TICKET,
+        Part::Onward("command"),
+    ],
+    &[
+        Part::Named("step", "task"),
+        CLIENT,
+        TICKET,
+        Part::Onward("function"),
+    ],
+    &[Part::Named("step", "command")],
+    &[Part::Named("step", "engine")],
+    &[Part::Named("step", "event")],
+    &[Part::Named("step", "data"), TAG],
+    &[Part::Named("step", "status"), TAG],
+    &[Part::Named("step", "retire"), PIPE, TAG],
+    &[Part::Named("step", "take"), CLIENT],
+    &[Part::Named("wrote", "unit"), ADDRESS, BYTES],
+    &[Part::Named("wrote", "put"), ADDRESS, BYTES],
+    &[Part::Named("wrote", "link"), ADDRESS, BYTES],
+    &[Part::Named("wrote", "event"), ADDRESS, BYTES],
+    &[Part::Named("wrote", "in"), ADDRESS, LENGTH],
+    &[Part::Named("wrote", "out"), ADDRESS, LENGTH],
+    &[
+        Part::Named("wrote", "context"),
+        PIPE,
+        Part::Numeral("stream"),
+        BYTES,
+    ],
+    &[Part::Named("wrote", "bell"), Part::Any("value")],
 ];
 
 /// The rows of `audit`.
 const AUDIT_ROWS: &[Row] = &[
-    &[Part::Word("client"), CLIENT, Part::Word("replies"), Part::Numeral("replies"), Part::Told { key: "audited", word: "true", is: true }],
-    &[Part::Word("client"), CLIENT, Part::Word("replies"), Part::Numeral("replies"), Part::Told { key: "audited", word: "false", is: false }],
-    &[Part::Word("beginning"), Part::Word("of"), Part::Numeral("beginning"), Part::Word("steps")],
-    &[Part::Word("torn"), Part::Word("at"), Part::Word("byte"), Part::Numeral("torn")],
-    &[Part::Word("head"), Part::Any("head"), Part::Word("at"), Part::Word("step"), Part::Numeral("step")],
+    &[
+        Part::Word("client"),
+        CLIENT,
+        Part::Word("replies"),
+        Part::Numeral("replies"),
+        Part::Told("audited", "true", true),
+    ],
+    &[
+        Part::Word("client"),
+        CLIENT,
+        Part::Word("replies"),
+        Part::Numeral("replies"),
+        Part::Told("audited", "false", false),
+    ],
+    &[
+        Part::Word("beginning"),
+        Part::Word("of"),
+        Part::Numeral("beginning"),
+        Part::Word("steps"),
+    ],
+    &[
+        Part::Word("torn"),
+        Part::Word("at"),
+        Part::Word("byte"),
+        Part::Numeral("torn"),
+    ],
+    &[
+        Part::Word("head"),
+        Part::Any("head"),
+        Part::Word("at"),
+        Part::Word("step"),
+        Part::Numeral("step"),
+    ],
 ];
 
 /// The row of `info`.
-const INFO_ROWS: &[Row] = &[
-    &[Part::Word("blocks"), Part::Numeral("blocks"), Part::Word("last"), Part::Numeral("last")],
-];
+const INFO_ROWS: &[Row] = &[&[
+    Part::Word("blocks"),
+    Part::Numeral("blocks"),
+    Part::Word("last"),
+    Part::Numeral("last"),
+]];
 
 /// The rows of a form; lines of `decode` have none.
 #[tactic(auto, unfolding(crate::specs::Lines::rows_of, crate::specs::Lines::run_rows, crate::specs::Lines::audit_rows, crate::specs::Lines::info_rows))]
@@ -156,10 +212,7 @@ fn push_fields<'a>(
 }
 
 /// Adds a field that is given.
-fn push_given<'a>(
-    fields: &mut Vec<Field<'a>>,
-    given: Option<Field<'a>>,
-) -> Result<(), AllocError>
+fn push_given<'a>(fields: &mut Vec<Field<'a>>, given: Option<Field<'a>>) -> Result<(), AllocError>
     ensures { OnOk result (map field_held fields.new.items ≡ map field_held fields.old.items ++ listed (option_map field_held given.entry)) }
 {
     if let Some(field) = given {
@@ -174,7 +227,7 @@ impl Part {
         ensures { result ≡ is_taken (part_held self) found.now }
     {
         match self {
-            Part::Word(word) | Part::Named { word, .. } | Part::Told { word, .. } => {
+            Part::Word(word) | Part::Named(_, word) | Part::Told(_, word, _) => {
                 found == word.as_bytes()
             }
             Part::Numeral(_) => is_numeral(found),
@@ -188,8 +241,8 @@ impl Part {
     {
         let (key, value) = match self {
             Part::Word(_) => return None,
-            Part::Named { key, word } => (key, Value::Text(word.as_bytes())),
-            Part::Told { key, is, .. } => (key, Value::Truth(is)),
+            Part::Named(key, word) => (key, Value::Text(word.as_bytes())),
+            Part::Told(key, _, is) => (key, Value::Truth(is)),
             Part::Numeral(key) => (key, Value::Number(first_word(line))),
             Part::Any(key) => (key, Value::Text(first_word(line))),
             Part::Onward(key) => (key, Value::Text(from_word(line))),

@@ -13,9 +13,7 @@ pub fn objects(alloc: Global, form: Form, bytes: &[u8]) -> Result<Vec<u8>, Alloc
 {
     let mut teller = Teller::new(alloc, form);
     teller.take(bytes)?;
-    if !teller.line.is_empty() {
-        teller.end()?;
-    }
+    teller.finish()?;
     Ok(teller.text)
 }
 
@@ -69,6 +67,17 @@ impl Teller {
         Ok(())
     }
 
+    /// Tells a last line that has no end, where it isn't empty.
+    #[tactic(auto, unfolding(crate::specs::Objects::objects_from))]
+    fn finish(&mut self) -> Result<(), AllocError>
+        ensures { OnOk result (self.new.text.items ≡ self.old.text.items ++ objects_from self.old.form self.old.line.items []) }
+    {
+        if self.line.is_empty() {
+            return Ok(());
+        }
+        self.end()
+    }
+
     /// Tells the line, and begins the next one.
     fn end(&mut self) -> Result<(), AllocError>
         ensures text { OnOk result (self.new.text.items ≡ self.old.text.items ++ object_line self.old.form self.old.line.items) }
@@ -83,12 +92,7 @@ impl Teller {
 
 /// Adds the object of a line, and a line feed.
 #[tactic(auto, unfolding(crate::specs::Objects::object_line))]
-fn push_line(
-    alloc: Global,
-    form: Form,
-    text: &mut Vec<u8>,
-    line: &[u8],
-) -> Result<(), AllocError>
+fn push_line(alloc: Global, form: Form, text: &mut Vec<u8>, line: &[u8]) -> Result<(), AllocError>
     ensures { OnOk result (text.new.items ≡ text.old.items ++ object_line form line.now) }
 {
     let fields = fields_of(alloc, form, line)?;

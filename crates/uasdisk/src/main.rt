@@ -45,8 +45,10 @@ mod kept;
 mod program;
 mod script_hints;
 
-ghost use Rattle.std.specs.Prelude.{◌≡◌, ◌≢◌, ◌⊎◌, [], IfSome, map};
+ghost use Rattle.std.specs.Prelude.{◌≡◌, ◌≢◌, ◌⊎◌, ◌&&◌, [], IfSome, is_some, map, not};
 ghost use Rattle.std.specs.String.{string_bytes};
+ghost use Rattle.line_colours.specs.When.{are_coloured};
+ghost use Rattle.line_objects.specs.Asked.{form_of};
 ghost use Rattle.uas_words.specs.CommandLine.{asked_for, refusals, MayEndRun, EndsRefused};
 ghost use Rattle.uasdisk.specs.Ends.{HoldsOfOne};
 
@@ -100,12 +102,10 @@ fn start<R: Threads + Wait + Clock + Sync>(rt: &HostRuntime, threads: &R, words:
     let mut faults = Faults::new(rt.stderr(), &noted.is_unread);
     // A file that is opened takes the place of a standard output that is closed, and would get its text.
     let is_output_open = is_output_open(rt, &noted);
-    let form = form_of(words);
-    let is_coloured = form.is_none()
-        && are_coloured(words, rt.stdout().is_terminal() && takes_colours(rt));
+    let is_coloured = has_colours(words, rt.stdout().is_terminal() && takes_colours(rt));
     let mut output = is_output_open.then(|| Painted::new(
         rt.alloc(),
-        Objects::new(rt.alloc(), Output::new(rt.stdout(), &noted), form),
+        Objects::new(rt.alloc(), Output::new(rt.stdout(), &noted), form_of(words)),
         is_coloured,
     ));
     let mut input = Kept::new(rt.alloc(), Reader(rt.reader()), is_watched);
@@ -132,6 +132,13 @@ fn start<R: Threads + Wait + Clock + Sync>(rt: &HostRuntime, threads: &R, words:
         say_hint(&ended, &mut rt.stderr());
     }
     status
+}
+
+/// Whether lines are in colours; those that are objects never are.
+fn has_colours(words: &[String], is_terminal: bool) -> bool
+    ensures { result ≡ (not (is_some (form_of (map string_bytes words.now))) && are_coloured (map string_bytes words.now) is_terminal) }
+{
+    form_of(words).is_none() && are_coloured(words, is_terminal)
 }
 
 /// Whether standard output can be written; else it is noted why it can't.

@@ -19,15 +19,15 @@ _uasdisk() {
         return
     fi
     case ${COMP_WORDS[1]} in
-        replay) words='--bad --tags -h --help' ;;
-        trace) words='--bad --tags --color -h --help' ;;
+        replay) words='--bad --tags --json -h --help' ;;
+        trace) words='--bad --tags --color --json -h --help' ;;
         work) words='--tags --depth --sync -h --help' files=1 ;;
-        decode) words='--color -h --help' ;;
+        decode) words='--color --json -h --help' ;;
         make) words='--force -h --help' files=1 ;;
-        info) words='-h --help' files=1 ;;
+        info) words='--json -h --help' files=1 ;;
         dump) words='-h --help' files=1 ;;
         fill) words='-h --help' files=1 ;;
-        audit) words='--head -h --help' files=1 ;;
+        audit) words='--head --json -h --help' files=1 ;;
         draw) words='--bad --tags --page -h --help' ;;
         capture) words='--bad --tags -h --help' files=1 ;;
         help) words='replay trace work decode make info dump fill audit draw capture serve usb prove many completions' ;;

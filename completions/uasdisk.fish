@@ -3,11 +3,13 @@ complete -c uasdisk -f
 complete -c uasdisk -n __fish_use_subcommand -a replay -d 'Reads a script from standard input and runs it on zeroed units'
 complete -c uasdisk -n '__fish_seen_subcommand_from replay' -l bad -x -d 'A block that is bad in every unit: 0 to 65535'
 complete -c uasdisk -n '__fish_seen_subcommand_from replay' -l tags -x -d 'How many tags each client has, one of them for task management: 2 to 16, usually 16; 248 in all'
+complete -c uasdisk -n '__fish_seen_subcommand_from replay' -l json -d 'Prints each line as a JSON object'
 complete -c uasdisk -n '__fish_seen_subcommand_from replay' -s h -l help -d 'Print help'
 complete -c uasdisk -n __fish_use_subcommand -a trace -d 'Runs a script as replay does, and prints each step with the bytes that it wrote'
 complete -c uasdisk -n '__fish_seen_subcommand_from trace' -l bad -x -d 'A block that is bad in every unit: 0 to 65535'
 complete -c uasdisk -n '__fish_seen_subcommand_from trace' -l tags -x -d 'How many tags each client has, one of them for task management: 2 to 16, usually 16; 248 in all'
 complete -c uasdisk -n '__fish_seen_subcommand_from trace' -l color -x -a 'always auto never' -d 'Colours: always, auto (on a terminal alone, as without this option) or never'
+complete -c uasdisk -n '__fish_seen_subcommand_from trace' -l json -d 'Prints each line as a JSON object'
 complete -c uasdisk -n '__fish_seen_subcommand_from trace' -s h -l help -d 'Print help'
 complete -c uasdisk -n __fish_use_subcommand -a work -d 'Lets clients write and read in threads, and counts what they read'
 complete -c uasdisk -n '__fish_seen_subcommand_from work' -l tags -x -d 'How many tags each client has, one of them for task management: 2 to 16, usually 16; 248 in all'
@@ -17,12 +19,14 @@ complete -c uasdisk -n '__fish_seen_subcommand_from work' -s h -l help -d 'Print
 complete -c uasdisk -n '__fish_seen_subcommand_from work' -F
 complete -c uasdisk -n __fish_use_subcommand -a decode -d 'Reads lines of bytes from standard input and tells what each says'
 complete -c uasdisk -n '__fish_seen_subcommand_from decode' -l color -x -a 'always auto never' -d 'Colours: always, auto (on a terminal alone, as without this option) or never'
+complete -c uasdisk -n '__fish_seen_subcommand_from decode' -l json -d 'Prints each line as a JSON object'
 complete -c uasdisk -n '__fish_seen_subcommand_from decode' -s h -l help -d 'Print help'
 complete -c uasdisk -n __fish_use_subcommand -a make -d 'Makes an image file of zeroed blocks'
 complete -c uasdisk -n '__fish_seen_subcommand_from make' -l force -d 'Write over a file that is there'
 complete -c uasdisk -n '__fish_seen_subcommand_from make' -s h -l help -d 'Print help'
 complete -c uasdisk -n '__fish_seen_subcommand_from make' -F
 complete -c uasdisk -n __fish_use_subcommand -a info -d 'Tells how many blocks an image file has, and the number of the last'
+complete -c uasdisk -n '__fish_seen_subcommand_from info' -l json -d 'Prints each line as a JSON object'
 complete -c uasdisk -n '__fish_seen_subcommand_from info' -s h -l help -d 'Print help'
 complete -c uasdisk -n '__fish_seen_subcommand_from info' -F
 complete -c uasdisk -n __fish_use_subcommand -a dump -d 'Reads blocks of an image file by one READ, and prints their bytes'
@@ -33,6 +37,7 @@ complete -c uasdisk -n '__fish_seen_subcommand_from fill' -s h -l help -d 'Print
 complete -c uasdisk -n '__fish_seen_subcommand_from fill' -F
 complete -c uasdisk -n __fish_use_subcommand -a audit -d 'Replays a saved log and audits each client’s account in it'
 complete -c uasdisk -n '__fish_seen_subcommand_from audit' -l head -x -d 'Tell at which step of a log that was kept this checksum stands: 1 to 8 hexadecimal digits'
+complete -c uasdisk -n '__fish_seen_subcommand_from audit' -l json -d 'Prints each line as a JSON object'
 complete -c uasdisk -n '__fish_seen_subcommand_from audit' -s h -l help -d 'Print help'
 complete -c uasdisk -n '__fish_seen_subcommand_from audit' -F
 complete -c uasdisk -n __fish_use_subcommand -a draw -d 'Runs a script as replay does, and draws the run as a picture (SVG)'

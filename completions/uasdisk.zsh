@@ -29,15 +29,15 @@ _uasdisk() {
   shift words
   (( CURRENT-- ))
   case $command in
-    replay) _arguments '--bad[A block that is bad in every unit: 0 to 65535]:LBA:' '--tags[How many tags each client has, one of them for task management: 2 to 16, usually 16; 248 in all]:N:' '(-h --help)'{-h,--help}'[Print help]' ':CLIENTS:' ':BLOCKS:' ;;
-    trace) _arguments '--bad[A block that is bad in every unit: 0 to 65535]:LBA:' '--tags[How many tags each client has, one of them for task management: 2 to 16, usually 16; 248 in all]:N:' '--color[Colours: always, auto (on a terminal alone, as without this option) or never]:WHEN:(always auto never)' '(-h --help)'{-h,--help}'[Print help]' ':CLIENTS:' ':BLOCKS:' ;;
+    replay) _arguments '--bad[A block that is bad in every unit: 0 to 65535]:LBA:' '--tags[How many tags each client has, one of them for task management: 2 to 16, usually 16; 248 in all]:N:' '--json[Prints each line as a JSON object]' '(-h --help)'{-h,--help}'[Print help]' ':CLIENTS:' ':BLOCKS:' ;;
+    trace) _arguments '--bad[A block that is bad in every unit: 0 to 65535]:LBA:' '--tags[How many tags each client has, one of them for task management: 2 to 16, usually 16; 248 in all]:N:' '--color[Colours: always, auto (on a terminal alone, as without this option) or never]:WHEN:(always auto never)' '--json[Prints each line as a JSON object]' '(-h --help)'{-h,--help}'[Print help]' ':CLIENTS:' ':BLOCKS:' ;;
     work) _arguments '--tags[How many tags each client has, one of them for task management: 2 to 16, usually 16; 248 in all]:N:' '--depth[How many commands each client has out at a time: 1 to 15, fewer than tags; usually 1]:D:' '--sync[Keep LOG while it grows, synced after each N steps, or at the end alone where N is 0: 0 to 4294967295]:N:' '(-h --help)'{-h,--help}'[Print help]' ':CLIENTS:' ':ROUNDS:' ':LOG:_files' ;;
-    decode) _arguments '--color[Colours: always, auto (on a terminal alone, as without this option) or never]:WHEN:(always auto never)' '(-h --help)'{-h,--help}'[Print help]' ;;
+    decode) _arguments '--color[Colours: always, auto (on a terminal alone, as without this option) or never]:WHEN:(always auto never)' '--json[Prints each line as a JSON object]' '(-h --help)'{-h,--help}'[Print help]' ;;
     make) _arguments '--force[Write over a file that is there]' '(-h --help)'{-h,--help}'[Print help]' ':FILE:_files' ':BLOCKS:' ;;
-    info) _arguments '(-h --help)'{-h,--help}'[Print help]' ':FILE:_files' ;;
+    info) _arguments '--json[Prints each line as a JSON object]' '(-h --help)'{-h,--help}'[Print help]' ':FILE:_files' ;;
     dump) _arguments '(-h --help)'{-h,--help}'[Print help]' ':FILE:_files' ':LBA:' ':COUNT:' ;;
     fill) _arguments '(-h --help)'{-h,--help}'[Print help]' ':FILE:_files' ':LBA:' ':COUNT:' ':BYTE:' ;;
-    audit) _arguments '--head[Tell at which step of a log that was kept this checksum stands: 1 to 8 hexadecimal digits]:HEX:' '(-h --help)'{-h,--help}'[Print help]' ':LOG:_files' ;;
+    audit) _arguments '--head[Tell at which step of a log that was kept this checksum stands: 1 to 8 hexadecimal digits]:HEX:' '--json[Prints each line as a JSON object]' '(-h --help)'{-h,--help}'[Print help]' ':LOG:_files' ;;
     draw) _arguments '--bad[A block that is bad in every unit: 0 to 65535]:LBA:' '--tags[How many tags each client has, one of them for task management: 2 to 16, usually 16; 248 in all]:N:' '--page[Write a page (HTML) that shows the run step by step, in place of the picture]' '(-h --help)'{-h,--help}'[Print help]' ':CLIENTS:' ':BLOCKS:' ;;
     capture) _arguments '--bad[A block that is bad in every unit: 0 to 65535]:LBA:' '--tags[How many tags each client has, one of them for task management: 2 to 16, usually 16; 248 in all]:N:' '(-h --help)'{-h,--help}'[Print help]' ':CLIENTS:' ':BLOCKS:' ':FILE:_files' ;;
     help) _arguments ':COMMAND:(replay trace work decode make info dump fill audit draw capture serve usb prove many completions)' ;;

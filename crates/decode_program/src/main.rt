@@ -120,7 +120,7 @@ fn help(rt: &HostRuntime) -> u8
     let mut output = rt.stdout();
     let written = writeln!(
         output,
-        "Reads lines of bytes from standard input and tells what each says\n\nUsage: uasdisk decode [OPTIONS]\n\nOptions:\n      --color <WHEN>  Colours: always, auto (on a terminal alone, as without this option) or never\n  -h, --help          Print help\n\n{DECODE_HELP}"
+        "Reads lines of bytes from standard input and tells what each says\n\nUsage: uasdisk decode [OPTIONS]\n\nOptions:\n      --color <WHEN>  Colours: always, auto (on a terminal alone, as without this option) or never\n      --json          Prints each line as a JSON object\n  -h, --help          Print help\n\n{DECODE_HELP}"
     );
     if written.is_ok() && output.flush().is_ok() {
         DONE

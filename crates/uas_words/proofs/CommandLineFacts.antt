@@ -11,7 +11,8 @@ use Rattle.clap.specs.declared.error.kind.ErrorKind.{ErrorKind}
 use Rattle.clap.specs.declared.error.kind.ErrorKind.TheVariants.{ValueValidation}
 use Rattle.clap.specs.declared.parser.matches.ArgMatches.{ArgMatches}
 use Rattle.clap.proofs.OnLiterals.{clap_on_literals}
-use Rattle.uas_words.specs.CommandLine.{Asked, asked_for, asked_in, asked_of, file_of, info, program_app, refusals}
+use Rattle.uas_words.specs.CommandLine.{Asked, asked_for, asked_in, asked_of, file_of, info, refusals}
+use Rattle.uas_words.specs.Subcommands.{program_app}
 
 -- the third of the tests that a plain command passes
 third_fails : (a b c d : Bool) → (a && (b && (not c && d))) ≡ true → c ≡ false

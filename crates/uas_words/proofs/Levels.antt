@@ -5,7 +5,8 @@ use Rattle.clap.specs.Faults.{check_fault, defaults_fault, entered_fault, level_
 use Rattle.clap.specs.Kinds.{or_else}
 use Rattle.clap.specs.Simple.{Shape, built, entered}
 use Rattle.clap.specs.Walk.{finished, nothing_held, settled, walk, walk_from}
-use Rattle.uas_words.specs.CommandLine.{asked_for, asked_in, program_app}
+use Rattle.uas_words.specs.CommandLine.{asked_for, asked_in}
+use Rattle.uas_words.specs.Subcommands.{program_app}
 
 -- the words after the name of a subcommand are its own
 abbrev pub Enters : Text → List Text → Type 0

@@ -8,9 +8,9 @@ use Rattle.clap.specs.Kinds.{or_else}
 use Rattle.clap.specs.Simple.{Shape}
 use Rattle.clap.specs.Walk.{Held, Walk, finished, nothing_held, settled, walk, walk_from}
 use Rattle.clap.specs.declared.builder.value_parser.Reading.{Reading}
-use Rattle.clap.specs.declared.builder.value_parser.Reading.TheVariants.{WithoutMinus}
+use Rattle.clap.specs.declared.builder.value_parser.Reading.TheVariants.{AsWritten, WithoutMinus}
 use Rattle.clap.specs.declared.parser.matches.ValueSource.{ValueSource}
-use Rattle.clap.specs.declared.parser.matches.ValueSource.TheVariants.{CommandLine}
+use Rattle.clap.specs.declared.parser.matches.ValueSource.TheVariants.{CommandLine, DefaultValue}
 use Rattle.uas_profile.specs.declared.TheConstants.{TAGS, USUAL_CLIENTS}
 use Rattle.byte_io.specs.Words.{number_in}
 use Rattle.uas_words.specs.CommandLine.{bad_of, blocks_of, clients_of}
@@ -29,6 +29,10 @@ blocks_row word = found (codes "BLOCKS") WithoutMinus CommandLine word
 
 abbrev pub bad_row : Text → Row
 bad_row word = found (codes "bad") WithoutMinus CommandLine word
+
+-- of `--json`, which doesn't stand there
+abbrev pub no_json_row : Row
+no_json_row = found (codes "json") AsWritten DefaultValue (codes "false")
 
 abbrev pub pending : List Row → Text → List Text → Held
 pending rows id values = record { rows = rows; pending = Some (id, values); skip = 0 }

@@ -15,7 +15,8 @@ use Rattle.std.specs.Prelude.{find}
 use Rattle.uas_profile.specs.declared.TheConstants.{MAX_CLIENTS, TAGS, USUAL_CLIENTS}
 use Rattle.byte_io.specs.Words.{number_in}
 use Rattle.uas_words.specs.CommandLine.{AsksCapture, AsksPlainly, asked_for, asked_in, audit, hex_number, bad_of, blocks_of, capture}
-use Rattle.uas_words.specs.CommandLine.{capture_of, clients_of, file_of, program_app, tags_of}
+use Rattle.uas_words.specs.CommandLine.{capture_of, clients_of, file_of, tags_of}
+use Rattle.uas_words.specs.Subcommands.{program_app}
 use Rattle.uas_words.proofs.Levels.{Enters}
 use Rattle.uas_words.proofs.HexWords.{hex_begins}
 use Rattle.uas_words.proofs.Places.{bad_in, bad_row, before_bad, behind_bad, blocks_in, blocks_row, clients_in, clients_row, ends, found, on, pending}

@@ -14,7 +14,8 @@ use Rattle.std.specs.Option.{option_map_or}
 use Rattle.std.specs.Prelude.{find}
 use Rattle.uas_words.specs.declared.Run.{Run}
 use Rattle.byte_io.specs.Words.{number_in}
-use Rattle.uas_words.specs.CommandLine.{Asked, AsksPlainly, asked_by, asked_for, asked_in, extent_from, program_app, refusals}
+use Rattle.uas_words.specs.CommandLine.{Asked, AsksPlainly, asked_by, asked_for, asked_in, extent_from, refusals}
+use Rattle.uas_words.specs.Subcommands.{program_app}
 use Rattle.uas_words.specs.CommandLine.{audit, capture, decode, draw, dump, fill, info, keep, make, page, replay, trace, work}
 use Rattle.uas_words.proofs.Levels.{Enters, level_nothing}
 use Rattle.uas_words.proofs.PlainFiles.{audit_asked, capture_asked}

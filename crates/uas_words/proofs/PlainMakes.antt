@@ -13,7 +13,8 @@ use Rattle.clap.specs.declared.parser.matches.ValueSource.TheVariants.{CommandLi
 use Rattle.std.specs.Option.{option_map_or}
 use Rattle.std.specs.Prelude.{find}
 use Rattle.byte_io.specs.Words.{number_in}
-use Rattle.uas_words.specs.CommandLine.{AsksPlainly, asked_for, asked_in, blocks_of, file_of, has_force, make, make_of, program_app}
+use Rattle.uas_words.specs.CommandLine.{AsksPlainly, asked_for, asked_in, blocks_of, file_of, has_force, make, make_of}
+use Rattle.uas_words.specs.Subcommands.{program_app}
 use Rattle.uas_words.proofs.Levels.{Enters}
 use Rattle.uas_words.proofs.Places.{blocks_row, ends, found, on, pending}
 use Rattle.uas_words.proofs.PlainNumbers.{IsIn, not-true, number_is_in}

@@ -15,7 +15,8 @@ use Rattle.std.specs.Option.{option_map_or}
 use Rattle.std.specs.Prelude.{find}
 use Rattle.uas_profile.specs.declared.TheConstants.{MAX_CLIENTS, TAGS, USUAL_CLIENTS}
 use Rattle.byte_io.specs.Words.{number_in}
-use Rattle.uas_words.specs.CommandLine.{AsksPage, AsksScript, asked_for, asked_in, bad_of, blocks_of, clients_of, draw, draw_of, has_page, page, program_app, tags_of}
+use Rattle.uas_words.specs.CommandLine.{AsksPage, AsksScript, asked_for, asked_in, bad_of, blocks_of, clients_of, draw, draw_of, has_page, page, tags_of}
+use Rattle.uas_words.specs.Subcommands.{program_app}
 use Rattle.uas_words.proofs.Levels.{Enters}
 use Rattle.uas_words.proofs.Places.{bad_in, bad_row, before_bad, behind_bad, blocks_in, blocks_row, clients_in, clients_row, ends, found, on, pending}
 use Rattle.uas_words.proofs.PlainNumbers.{IsIn, clients_are_in, number_is_in}

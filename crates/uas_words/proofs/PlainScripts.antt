@@ -13,9 +13,10 @@ use Rattle.std.specs.Option.{option_map_or}
 use Rattle.std.specs.Prelude.{find}
 use Rattle.uas_profile.specs.declared.TheConstants.{MAX_CLIENTS, TAGS, USUAL_CLIENTS}
 use Rattle.byte_io.specs.Words.{number_in}
-use Rattle.uas_words.specs.CommandLine.{AsksScript, asked_for, asked_in, bad_of, blocks_of, clients_of, program_app, replay, script_of, tags_of}
+use Rattle.uas_words.specs.CommandLine.{AsksScript, asked_for, asked_in, bad_of, blocks_of, clients_of, replay, script_of, tags_of}
+use Rattle.uas_words.specs.Subcommands.{program_app}
 use Rattle.uas_words.proofs.Levels.{Enters}
-use Rattle.uas_words.proofs.Places.{bad_in, bad_row, before_bad, behind_bad, blocks_in, blocks_row, clients_in, clients_row, ends, on, pending}
+use Rattle.uas_words.proofs.Places.{bad_in, bad_row, before_bad, behind_bad, blocks_in, blocks_row, clients_in, clients_row, ends, no_json_row, on, pending}
 use Rattle.uas_words.proofs.PlainNumbers.{IsIn, clients_are_in, number_is_in}
 use Rattle.uas_words.proofs.WalkSteps.{fault-bad, fault-end, fault-plain, fault-value, standing, walked-bad, walked-plain, walked-value}
 
@@ -42,6 +43,12 @@ replayed_by clients tags blocks bad rows p q r u t = rw (u, p, q, r, t) refl
 
 abbrev numbers : Text → Text → List Row
 numbers c b = clients_row c ∷ blocks_row b ∷ []
+
+abbrev plain_rows : Text → Text → List Row
+plain_rows c b = clients_row c ∷ blocks_row b ∷ no_json_row ∷ []
+
+abbrev bad_rows : Text → Text → Text → List Row
+bad_rows c b l = clients_row c ∷ blocks_row b ∷ bad_row l ∷ no_json_row ∷ []
 
 abbrev behind_clients : Text → Walk
 behind_clients c = standing (pending [] (codes "CLIENTS") (c ∷ [])) 2
@@ -79,10 +86,10 @@ bad_end d ds e es f fs hyphen hyphen' hyphen″ =
     ap (λ (w : Walk). walked replay_shape.rules [] (walked replay_shape.rules [] w (codes "--bad")) (f ∷ fs)) (plain_end d ds e es hyphen hyphen')
     ∙ (ap (λ (w : Walk). walked replay_shape.rules [] w (f ∷ fs)) (to_bad (d ∷ ds) (e ∷ es)) ∙ to_lba (numbers (d ∷ ds) (e ∷ es)) f fs hyphen″)
 
-plain_found : (c b : Text) → finished replay_shape.rules (behind_blocks c b).held ≡ numbers c b
+plain_found : (c b : Text) → finished replay_shape.rules (behind_blocks c b).held ≡ plain_rows c b
 plain_found c b = refl
 
-bad_found : (c b l : Text) → finished replay_shape.rules (behind_bad (numbers c b) l 3).held ≡ clients_row c ∷ blocks_row b ∷ bad_row l ∷ []
+bad_found : (c b l : Text) → finished replay_shape.rules (behind_bad (numbers c b) l 3).held ≡ bad_rows c b l
 bad_found c b l = refl
 
 -- what is asked for there
@@ -153,10 +160,10 @@ replay_asked clients tags blocks None words plain =
     let n = number_is_in 1 65536 blocks plain.2 (omega arith) plain.5 in
     let is : words ≡ plain.0 ∷ codes "replay" ∷ plain_words (m.0 ∷ m.1) (n.0 ∷ n.1) =
     plain.3 ∙ ap₂ (λ (a b : Text). plain.0 ∷ codes "replay" ∷ a ∷ b ∷ []) m.2 n.2 in (
-      ap asked_for is ∙ ((replay_enters.0 (m.0 ∷ m.1) (n.0 ∷ n.1) plain.0).0 ∙ (asks (plain_words (m.0 ∷ m.1) (n.0 ∷ n.1)) (behind_blocks (m.0 ∷ m.1) (n.0 ∷ n.1)) (numbers (m.0 ∷ m.1) (n.0 ∷ n.1)) (plain_end m.0 m.1 n.0 n.1 m.3.hyphen n.3.hyphen) (plain_found (m.0 ∷ m.1) (n.0 ∷ n.1))
-          ∙ replayed_by clients tags blocks None (numbers (m.0 ∷ m.1) (n.0 ∷ n.1))
-          (clients_in m.0 m.1 (blocks_row (n.0 ∷ n.1) ∷ []) m.3.hyphen m.3.plus ∙ (ap (number_in 1 USUAL_CLIENTS) (sym m.2) ∙ plain.4))
-          (blocks_in (m.0 ∷ m.1) n.0 n.1 ([]) n.3.hyphen n.3.plus ∙ (ap (number_in 1 65536) (sym n.2) ∙ plain.5))
+      ap asked_for is ∙ ((replay_enters.0 (m.0 ∷ m.1) (n.0 ∷ n.1) plain.0).0 ∙ (asks (plain_words (m.0 ∷ m.1) (n.0 ∷ n.1)) (behind_blocks (m.0 ∷ m.1) (n.0 ∷ n.1)) (plain_rows (m.0 ∷ m.1) (n.0 ∷ n.1)) (plain_end m.0 m.1 n.0 n.1 m.3.hyphen n.3.hyphen) (plain_found (m.0 ∷ m.1) (n.0 ∷ n.1))
+          ∙ replayed_by clients tags blocks None (plain_rows (m.0 ∷ m.1) (n.0 ∷ n.1))
+          (clients_in m.0 m.1 (blocks_row (n.0 ∷ n.1) ∷ no_json_row ∷ []) m.3.hyphen m.3.plus ∙ (ap (number_in 1 USUAL_CLIENTS) (sym m.2) ∙ plain.4))
+          (blocks_in (m.0 ∷ m.1) n.0 n.1 (no_json_row ∷ []) n.3.hyphen n.3.plus ∙ (ap (number_in 1 65536) (sym n.2) ∙ plain.5))
           refl refl plain.6)),
       ap (fault_of program_app) is ∙ ((replay_enters.0 (m.0 ∷ m.1) (n.0 ∷ n.1) plain.0).1
           ∙ ap (λ (k : Kinds). or_else k []) (replay_level (plain_words (m.0 ∷ m.1) (n.0 ∷ n.1)) ∙ plain_faults m.0 m.1 n.0 n.1 m.3 n.3)),
@@ -170,11 +177,11 @@ replay_asked clients tags blocks (Some bad) words plain =
     ∙ ap (λ (c : Text). plain.0 ∷ codes "replay" ∷ (m.0 ∷ m.1) ∷ (n.0 ∷ n.1) ∷ codes "--bad" ∷ c ∷ []) o.2) in
     let third : option_map (λ k. Some k) (number_in 0 65535 (o.0 ∷ o.1)) ≡ Some (Some bad) =
     ap (option_map (λ k. Some k)) (ap (number_in 0 65535) (sym o.2) ∙ plain.7) in (
-      ap asked_for is ∙ ((replay_enters.1 (m.0 ∷ m.1) (n.0 ∷ n.1) (codes "--bad") (o.0 ∷ o.1) plain.0).0 ∙ (asks (bad_words (m.0 ∷ m.1) (n.0 ∷ n.1) (o.0 ∷ o.1)) (behind_bad (numbers (m.0 ∷ m.1) (n.0 ∷ n.1)) (o.0 ∷ o.1) 3) (clients_row (m.0 ∷ m.1) ∷ blocks_row (n.0 ∷ n.1) ∷ bad_row (o.0 ∷ o.1) ∷ []) (bad_end m.0 m.1 n.0 n.1 o.0 o.1 m.3.hyphen n.3.hyphen o.3.hyphen) (bad_found (m.0 ∷ m.1) (n.0 ∷ n.1) (o.0 ∷ o.1))
-          ∙ replayed_by clients tags blocks (Some bad) (clients_row (m.0 ∷ m.1) ∷ blocks_row (n.0 ∷ n.1) ∷ bad_row (o.0 ∷ o.1) ∷ [])
-          (clients_in m.0 m.1 (blocks_row (n.0 ∷ n.1) ∷ bad_row (o.0 ∷ o.1) ∷ []) m.3.hyphen m.3.plus ∙ (ap (number_in 1 USUAL_CLIENTS) (sym m.2) ∙ plain.5))
-          (blocks_in (m.0 ∷ m.1) n.0 n.1 (bad_row (o.0 ∷ o.1) ∷ []) n.3.hyphen n.3.plus ∙ (ap (number_in 1 65536) (sym n.2) ∙ plain.6))
-          (bad_in o.0 o.1 [] o.3.hyphen o.3.plus ∙ third) refl plain.8)),
+      ap asked_for is ∙ ((replay_enters.1 (m.0 ∷ m.1) (n.0 ∷ n.1) (codes "--bad") (o.0 ∷ o.1) plain.0).0 ∙ (asks (bad_words (m.0 ∷ m.1) (n.0 ∷ n.1) (o.0 ∷ o.1)) (behind_bad (numbers (m.0 ∷ m.1) (n.0 ∷ n.1)) (o.0 ∷ o.1) 3) (bad_rows (m.0 ∷ m.1) (n.0 ∷ n.1) (o.0 ∷ o.1)) (bad_end m.0 m.1 n.0 n.1 o.0 o.1 m.3.hyphen n.3.hyphen o.3.hyphen) (bad_found (m.0 ∷ m.1) (n.0 ∷ n.1) (o.0 ∷ o.1))
+          ∙ replayed_by clients tags blocks (Some bad) (bad_rows (m.0 ∷ m.1) (n.0 ∷ n.1) (o.0 ∷ o.1))
+          (clients_in m.0 m.1 (blocks_row (n.0 ∷ n.1) ∷ bad_row (o.0 ∷ o.1) ∷ no_json_row ∷ []) m.3.hyphen m.3.plus ∙ (ap (number_in 1 USUAL_CLIENTS) (sym m.2) ∙ plain.5))
+          (blocks_in (m.0 ∷ m.1) n.0 n.1 (bad_row (o.0 ∷ o.1) ∷ no_json_row ∷ []) n.3.hyphen n.3.plus ∙ (ap (number_in 1 65536) (sym n.2) ∙ plain.6))
+          (bad_in o.0 o.1 (no_json_row ∷ []) o.3.hyphen o.3.plus ∙ third) refl plain.8)),
       ap (fault_of program_app) is ∙ ((replay_enters.1 (m.0 ∷ m.1) (n.0 ∷ n.1) (codes "--bad") (o.0 ∷ o.1) plain.0).1
           ∙ ap (λ (k : Kinds). or_else k []) (replay_level (bad_words (m.0 ∷ m.1) (n.0 ∷ n.1) (o.0 ∷ o.1)) ∙ bad_faults m.0 m.1 n.0 n.1 o.0 o.1 m.3 n.3 o.3)),
     )

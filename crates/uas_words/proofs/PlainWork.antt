@@ -15,7 +15,8 @@ use Rattle.std.specs.Option.{option_map_or}
 use Rattle.std.specs.Prelude.{find}
 use Rattle.uas_profile.specs.declared.TheConstants.{MAX_CLIENTS, TAGS, USUAL_CLIENTS}
 use Rattle.byte_io.specs.Words.{number_in}
-use Rattle.uas_words.specs.CommandLine.{AsksWork, asked_for, asked_in, clients_of, depth_of, log_of, program_app, rounds_of, sync_of, tags_of, work, work_of}
+use Rattle.uas_words.specs.CommandLine.{AsksWork, asked_for, asked_in, clients_of, depth_of, log_of, rounds_of, sync_of, tags_of, work, work_of}
+use Rattle.uas_words.specs.Subcommands.{program_app}
 use Rattle.uas_words.proofs.Levels.{Enters}
 use Rattle.uas_words.proofs.Places.{clients_in, clients_row, ends, found, on, pending}
 use Rattle.uas_words.proofs.PlainNumbers.{IsIn, clients_are_in, not-true, number_is_in}

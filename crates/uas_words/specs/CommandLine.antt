@@ -1,20 +1,18 @@
 -- What a command line asks for: the subcommands with their arguments, and what is read of each.
-use Rattle.std.specs.Prelude.{◌≡◌, ◌≢◌, ◌≤◌, ◌⊎◌, ◌==◌, ◌||◌, ◌-◌, ℕ, Bool, not, pos, true, false, List, [], ◌∷◌, Option, Some, None, is_some, option_map}
+use Rattle.std.specs.Prelude.{◌≡◌, ◌≢◌, ◌≤◌, ◌⊎◌, ◌==◌, ◌||◌, ◌-◌, ℕ, Bool, not, true, false, List, [], ◌∷◌, Option, Some, None, is_some, option_map}
 use Rattle.std.specs.Prelude.{option_and_then, if◌then◌else◌, codes, length, nat_le, ◌&&◌}
 use Rattle.std.specs.Str.{bytes_eq}
 use Rattle.std.specs.Char.{is_ascii_hexdigit}
 use Rattle.std.specs.List.{list_all}
 use Rattle.std.specs.Str.Parse.{digits_value, without_leading_plus}
-use Rattle.clap.specs.Simple.{Shape, on_top}
-use Rattle.clap.specs.Words.{App, Kinds, Row, Rule, Text, fault_of, first_of, new_app, new_rule, one_of, subcommand_of, with_rule, with_subcommand}
+use Rattle.clap.specs.Words.{Kinds, Row, Text, fault_of, first_of, one_of, subcommand_of}
 use Rattle.clap.specs.Kinds.{or_else}
-use Rattle.clap.specs.declared.builder.ArgAction.TheVariants.{Set, SetTrue}
-use Rattle.clap.specs.declared.builder.value_parser.ValueParser.TheVariants as parser
 use Rattle.clap.specs.declared.error.kind.ErrorKind.{ErrorKind}
 use Rattle.clap.specs.declared.error.kind.ErrorKind.TheVariants.{DisplayHelp, DisplayVersion, OutOfMemory, ValueValidation}
 use Rattle.uas_profile.specs.Tags.{most_clients}
-use Rattle.uas_profile.specs.declared.TheConstants.{LEAST_TAGS, MAX_BLOCKS, MAX_CLIENTS, MOST_BLOCKS_MOVED, MOST_TAGS, TAGS, USUAL_CLIENTS}
+use Rattle.uas_profile.specs.declared.TheConstants.{LEAST_TAGS, MAX_BLOCKS, MOST_BLOCKS_MOVED, MOST_TAGS, TAGS, USUAL_CLIENTS}
 use Rattle.byte_io.specs.declared.disks.Extent.{Extent}
+use Rattle.uas_words.specs.Subcommands.{last_block, max_lba, max_rounds, program_app}
 use Rattle.uas_words.specs.declared.Run.{Run}
 use Rattle.uas_words.specs.declared.Run.TheVariants.{Replay, Trace, Work, Keep, Decode, Make, Info, Dump, Fill, Audit, Draw, Page, Capture}
 use Rattle.byte_io.specs.Words.{number_in}
@@ -85,17 +83,9 @@ clients_of tags rows = option_and_then (number_of 1 (most_clients tags)) (one_of
 abbrev pub blocks_of : List Row → Option ℕ
 blocks_of rows = option_and_then (number_of 1 MAX_BLOCKS) (one_of (codes "BLOCKS") rows)
 
--- the most rounds of a client that works
-abbrev pub max_rounds : ℕ
-max_rounds = 1000
-
 -- ROUNDS is a number from 1 to 1,000
 abbrev pub rounds_of : List Row → Option ℕ
 rounds_of rows = option_and_then (number_of 1 max_rounds) (one_of (codes "ROUNDS") rows)
-
--- the greatest number of a block that a unit can have
-abbrev pub last_block : ℕ
-last_block = 65535
 
 -- What an option's number comes to: none where the option isn't there. A word that is no number of this range comes to nothing.
 abbrev pub optional_number : ℕ → ℕ → Option Text → Option (Option ℕ)
@@ -105,10 +95,6 @@ optional_number least most (Some word) = option_map (λ number. Some number) (nu
 -- `--bad LBA` may stand or not, and LBA is a number from 0 to 65,535
 abbrev pub bad_of : List Row → Option (Option ℕ)
 bad_of rows = optional_number 0 last_block (one_of (codes "bad") rows)
-
--- the greatest number of a block that a CDB can name, which needs no block of the unit
-abbrev pub max_lba : ℕ
-max_lba = 4294967295
 
 -- LBA is a number from 0 to 4,294,967,295
 abbrev pub lba_of : List Row → Option ℕ
@@ -248,155 +234,6 @@ asked_of name rows =
 
 abbrev pub asked_in : Option (Text × List Row) → Option Asked
 asked_in subcommand = option_and_then (λ s. asked_of s.0 s.1) subcommand
-
--- ---- the subcommands and their arguments
-
-abbrev pub required_rule : Text → Rule
-required_rule name = record (new_rule name) { required = true; action = Some Set }
-
-abbrev pub file_rule : Rule
-file_rule = required_rule (codes "FILE")
-
--- the file of a log, which may be left out
-abbrev pub log_rule : Rule
-log_rule = record (new_rule (codes "LOG")) { action = Some Set }
-
--- the file of a log that is audited
-abbrev pub saved_log_rule : Rule
-saved_log_rule = required_rule (codes "LOG")
-
--- a number from `least` to `most`
-abbrev pub number_rule : Text → ℕ → ℕ → Rule
-number_rule name least most = record (required_rule name) { parser = Some (parser.Signed (pos least) (pos most)) }
-
-abbrev pub clients_rule : Rule
-clients_rule = number_rule (codes "CLIENTS") 1 MAX_CLIENTS
-
-abbrev pub rounds_rule : Rule
-rounds_rule = number_rule (codes "ROUNDS") 1 max_rounds
-
-abbrev pub blocks_rule : Rule
-blocks_rule = number_rule (codes "BLOCKS") 1 MAX_BLOCKS
-
-abbrev pub lba_rule : Rule
-lba_rule = number_rule (codes "LBA") 0 max_lba
-
-abbrev pub count_rule : Rule
-count_rule = number_rule (codes "COUNT") 1 MOST_BLOCKS_MOVED
-
-abbrev pub byte_rule : Rule
-byte_rule = number_rule (codes "BYTE") 0 255
-
--- an option with a word behind it
-abbrev pub option_rule : Text → Rule
-option_rule name = record (new_rule name) { long = Some name; action = Some Set; value_names = 1 }
-
--- an option with a number from `least` to `most` behind it
-abbrev pub number_option_rule : Text → ℕ → ℕ → Rule
-number_option_rule name least most = record (option_rule name) { parser = Some (parser.Signed (pos least) (pos most)) }
-
--- the option `--bad LBA`
-abbrev pub bad_rule : Rule
-bad_rule = number_option_rule (codes "bad") 0 last_block
-
--- the option `--tags N`
-abbrev pub tags_rule : Rule
-tags_rule = number_option_rule (codes "tags") LEAST_TAGS MOST_TAGS
-
--- the option `--depth D`
-abbrev pub depth_rule : Rule
-depth_rule = number_option_rule (codes "depth") 1 (MOST_TAGS - 1)
-
--- the option `--sync N`
-abbrev pub sync_rule : Rule
-sync_rule = number_option_rule (codes "sync") 0 max_lba
-
--- the option `--head HEX`
-abbrev pub head_rule : Rule
-head_rule = option_rule (codes "head")
-
--- an option behind which no word stands
-abbrev pub flag_rule : Text → Rule
-flag_rule name = record (new_rule name) { long = Some name; action = Some SetTrue }
-
--- the option `--page`
-abbrev pub page_rule : Rule
-page_rule = flag_rule (codes "page")
-
--- the option `--force`
-abbrev pub force_rule : Rule
-force_rule = flag_rule (codes "force")
-
--- the option `--color WHEN`
-abbrev pub color_rule : Rule
-color_rule = option_rule (codes "color")
-
--- a subcommand that runs a script: CLIENTS BLOCKS [--bad LBA] [--tags N]
-abbrev pub with_disks : App → App
-with_disks app = with_rule (with_rule (with_rule (with_rule app clients_rule) blocks_rule) bad_rule) tags_rule
-
-abbrev pub replay_app : App
-replay_app = with_disks (new_app (codes "replay"))
-
--- trace CLIENTS BLOCKS [--bad LBA] [--tags N] [--color WHEN]
-abbrev pub trace_app : App
-trace_app = with_rule (with_disks (new_app (codes "trace"))) color_rule
-
--- clients that work: CLIENTS ROUNDS [LOG] [--tags N] [--depth D]
-abbrev pub with_work : App → App
-with_work app = with_rule (with_rule (with_rule (with_rule app clients_rule) rounds_rule) log_rule) tags_rule
-
--- work CLIENTS ROUNDS [LOG] [--tags N] [--depth D] [--sync N]
-abbrev pub work_app : App
-work_app = with_rule (with_rule (with_work (new_app (codes "work"))) depth_rule) sync_rule
-
--- decode [--color WHEN]
-abbrev pub decode_app : App
-decode_app = with_rule (new_app (codes "decode")) color_rule
-
--- make FILE BLOCKS [--force]
-abbrev pub make_app : App
-make_app = with_rule (with_rule (with_rule (new_app (codes "make")) file_rule) blocks_rule) force_rule
-
--- info FILE
-abbrev pub info_app : App
-info_app = with_rule (new_app (codes "info")) file_rule
-
--- a subcommand on blocks of an image: FILE LBA COUNT
-abbrev pub with_extent : App → App
-with_extent app = with_rule (with_rule (with_rule app file_rule) lba_rule) count_rule
-
-abbrev pub dump_app : App
-dump_app = with_extent (new_app (codes "dump"))
-
--- fill FILE LBA COUNT BYTE
-abbrev pub fill_app : App
-fill_app = with_rule (with_extent (new_app (codes "fill"))) byte_rule
-
--- audit LOG [--head HEX]
-abbrev pub audit_app : App
-audit_app = with_rule (with_rule (new_app (codes "audit")) saved_log_rule) head_rule
-
--- draw CLIENTS BLOCKS [--page] [--bad LBA] [--tags N]
-abbrev pub draw_app : App
-draw_app = with_rule (with_disks (new_app (codes "draw"))) page_rule
-
--- capture CLIENTS BLOCKS FILE [--bad LBA] [--tags N]
-abbrev pub capture_app : App
-capture_app = with_rule (with_disks (new_app (codes "capture"))) file_rule
-
-abbrev pub wants_subcommand : Shape → Shape
-wants_subcommand s = record s { subcommand_required = true; arg_required_else_help = true; has_version = true }
-
-abbrev pub top_app : App
-top_app = on_top wants_subcommand (new_app (codes "uasdisk"))
-
--- The program wants a subcommand, tells its help with no words, and its version where that is asked for.
-abbrev pub program_app : App
-program_app =
-    with_subcommand (with_subcommand (with_subcommand (with_subcommand (with_subcommand (with_subcommand (with_subcommand (with_subcommand (with_subcommand
-    (with_subcommand (with_subcommand top_app replay_app.top) trace_app.top) work_app.top) decode_app.top) make_app.top) info_app.top) dump_app.top)
-    fill_app.top) audit_app.top) draw_app.top) capture_app.top
 
 -- ---- the words, the program's own name first
 

@@ -2,7 +2,7 @@
 
 ghost use Rattle.std.specs.Prelude.{◌≡◌, false};
 ghost use Rattle.clap.specs.Words.{rule_of};
-ghost use Rattle.uas_words.specs.CommandLine.{flag_rule, log_rule, number_option_rule, number_rule, option_rule, required_rule};
+ghost use Rattle.uas_words.specs.Subcommands.{flag_rule, log_rule, number_option_rule, number_rule, option_rule, required_rule};
 
 use clap::{Arg, ArgAction};
 use std::alloc::Global;

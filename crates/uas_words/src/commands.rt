@@ -1,16 +1,17 @@
 //! The program's command: its subcommands, their arguments and what each says of itself.
 ghost use Rattle.std.specs.Prelude.{◌≡◌, IfOk, false, true};
 ghost use Rattle.clap.specs.Words.{App, app_of, rule_of, with_subcommand};
-ghost use Rattle.uas_words.specs.CommandLine.{audit_app, capture_app, decode_app, depth_rule, draw_app, dump_app, fill_app, info_app, make_app, program_app};
-ghost use Rattle.uas_words.specs.CommandLine.{replay_app, tags_rule, top_app, trace_app, with_disks, with_extent, with_work, work_app};
+ghost use Rattle.uas_words.specs.Subcommands.{audit_app, capture_app, decode_app, depth_rule, draw_app, dump_app, fill_app, info_app, json_rule, make_app};
+ghost use Rattle.uas_words.specs.Subcommands.{program_app, replay_app, tags_rule, top_app, trace_app, with_disks, with_extent, with_work, work_app};
 
 use crate::arguments::{flag, log, number, number_option, option, required};
 use crate::helps::{
     AUDIT_HELP, BYTE_HELP, CAPTURE_HELP, CLIENTS_HELP, COLOR_HELP, DEPTH_HELP, DRAW_HELP,
-    DUMP_HELP, FILL_HELP, HEAD_HELP, INFO_HELP, LBA_HELP, LOG_HELP, MAKE_HELP, PAGE_HELP,
-    PROGRAM_HELP, ROUNDS_HELP, SCRIPT_HELP, SYNC_HELP, TAGS_HELP, TRACE_HELP, WORK_HELP,
+    DUMP_HELP, FILL_HELP, HEAD_HELP, INFO_HELP, JSON_HELP, LBA_HELP, LOG_HELP, MAKE_HELP,
+    PAGE_HELP, PROGRAM_HELP, ROUNDS_HELP, SCRIPT_HELP, SYNC_HELP, TAGS_HELP, TRACE_HELP, WORK_HELP,
 };
-use crate::{LAST_BLOCK, MAX_BYTE, MAX_ROUNDS, MOST_DEPTH, MOST_MOVED, VERSION};
+use crate::images::{MAX_BYTE, MOST_MOVED};
+use crate::{LAST_BLOCK, MAX_ROUNDS, MOST_DEPTH, VERSION};
 use clap::{Arg, Command};
 use decode_help::DECODE_HELP;
 use std::alloc::{AllocError, Global};
@@ -65,7 +66,7 @@ fn replay_command<'a>(alloc: Global) -> Result<Command<'a>, AllocError>
     let command = Command::new(alloc, "replay")
         .about("Reads a script from standard input and runs it on zeroed units")
         .after_help(SCRIPT_HELP);
-    add_disks(alloc, command)
+    add_disks(alloc, command)?.arg(json(alloc))
 }
 
 fn trace_command<'a>(alloc: Global) -> Result<Command<'a>, AllocError>
@@ -74,7 +75,17 @@ fn trace_command<'a>(alloc: Global) -> Result<Command<'a>, AllocError>
     let command = Command::new(alloc, "trace")
         .about("Runs a script as replay does, and prints each step with the bytes that it wrote")
         .after_help(TRACE_HELP);
-    add_disks(alloc, command)?.arg(option(alloc, "color", "WHEN", COLOR_HELP))
+    add_disks(alloc, command)?
+        .arg(option(alloc, "color", "WHEN", COLOR_HELP))?
+        .arg(json(alloc))
+}
+
+/// Whether lines are told as objects.
+fn json<'a>(alloc: Global) -> Arg<'a>
+    ensures rule { rule_of result ≡ json_rule }
+    ensures local { result.global ≡ false }
+{
+    flag(alloc, "json", JSON_HELP)
 }
 
 /// Adds what tells the disks that a script runs on.
@@ -152,7 +163,8 @@ fn decode_command<'a>(alloc: Global) -> Result<Command<'a>, AllocError>
     Command::new(alloc, "decode")
         .about("Reads lines of bytes from standard input and tells what each says")
         .after_help(DECODE_HELP)
-        .arg(option(alloc, "color", "WHEN", COLOR_HELP))
+        .arg(option(alloc, "color", "WHEN", COLOR_HELP))?
+        .arg(json(alloc))
 }
 
 fn make_command<'a>(alloc: Global) -> Result<Command<'a>, AllocError>
@@ -186,7 +198,8 @@ fn info_command<'a>(alloc: Global) -> Result<Command<'a>, AllocError>
             alloc,
             "FILE",
             "The image file: 1 to 65536 blocks of 512 bytes",
-        ))
+        ))?
+        .arg(json(alloc))
 }
 
 fn dump_command<'a>(alloc: Global) -> Result<Command<'a>, AllocError>
@@ -218,7 +231,8 @@ fn audit_command<'a>(alloc: Global) -> Result<Command<'a>, AllocError>
             "LOG",
             "The file of a log; of version 1 or 2 it has at most 1073741824 bytes",
         ))?
-        .arg(option(alloc, "head", "HEX", HEAD_HELP))
+        .arg(option(alloc, "head", "HEX", HEAD_HELP))?
+        .arg(json(alloc))
 }
 
 fn draw_command<'a>(alloc: Global) -> Result<Command<'a>, AllocError>

@@ -127,6 +127,8 @@ Examples:
 pub(crate) const COLOR_HELP: &str =
     "Colours: always, auto (on a terminal alone, as without this option) or never";
 
+pub(crate) const JSON_HELP: &str = "Prints each line as a JSON object";
+
 pub(crate) const PAGE_HELP: &str =
     "Write a page (HTML) that shows the run step by step, in place of the picture";
 

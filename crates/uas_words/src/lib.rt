@@ -1,8 +1,9 @@
 //! The words of the command line: the subcommands, their arguments and the ranges of their numbers.
 //!
 //! [`run_of`] reads the words and answers what the program is to do, or the error to print, help among them. What the words ask for, and
-//! by which kinds of error they are refused, is specs/CommandLine.antt; plain words, in the order of the usage, are read whatever the
-//! parser does with others. It stands on clap alone, but for the numbers of a text and those of the profile.
+//! by which kinds of error they are refused, is specs/CommandLine.antt, over the subcommands of specs/Subcommands.antt; plain words, in the
+//! order of the usage, are read whatever the parser does with others. It stands on clap alone, but for the numbers of a text and those of
+//! the profile.
 #![tactic(auto)]
 
 ghost use Rattle.std.specs.Prelude.{◌≡◌, ◌≤◌, ℕ, Option, Some, IfOk, IfSome, MatchResult, map, option_and_then, option_map};
@@ -11,16 +12,17 @@ ghost use Rattle.std.specs.Str.{bytes_eq};
 ghost use Rattle.std.specs.String.{string_bytes};
 ghost use Rattle.clap.specs.Words.{FailsBy, app_of, first_of, found_of, kind_of, one_of, rows_of, subcommand_rows_of};
 ghost use Rattle.byte_io.specs.Disks.{AreBlocks, AreClients, AreDisks};
-ghost use Rattle.uas_words.specs.Options.{IsBlock, IsInRange, IsMoved};
+ghost use Rattle.uas_words.specs.Options.{IsBlock, IsInRange};
 ghost use Rattle.uas_words.specs.CommandLine.{Asked, AsksPlainly, asked_by, asked_for, asked_in, blocks_of, capture_of, clients_of, decode_of};
-ghost use Rattle.uas_words.specs.CommandLine.{draw_of, dump_of, extent_of, fill_of, has_when, is_true, is_when, make_of, number_of, optional_number, program_app};
-ghost use Rattle.uas_words.specs.CommandLine.{refusals, script_of, tags_of, trace_of, work_of};
+ghost use Rattle.uas_words.specs.CommandLine.{draw_of, has_when, is_true, is_when, number_of, optional_number, refusals, script_of, tags_of, trace_of};
+ghost use Rattle.uas_words.specs.Subcommands.{program_app};
 ghost use Rattle.uas_profile.specs.Tags.{AreTags};
 
 mod arguments;
 mod audits;
 mod commands;
 mod helps;
+mod images;
 mod laws;
 mod works;
 
@@ -29,11 +31,10 @@ use byte_io::{Disks, Extent};
 use clap::error::ErrorKind;
 use clap::{ArgMatches, Command, Error};
 use commands::command;
+use images::{dump_in, fill_in, make_in};
 pub use laws::plain_lines_ask;
 use std::alloc::{AllocError, Global};
-use uas_profile::{
-    LEAST_TAGS, MAX_BLOCKS, MAX_CLIENTS, MOST_BLOCKS_MOVED, MOST_TAGS, TAGS, most_clients,
-};
+use uas_profile::{LEAST_TAGS, MAX_BLOCKS, MAX_CLIENTS, MOST_TAGS, TAGS, most_clients};
 use works::{depths_in, work_in};
 
 const _: () = prove!(MAX_BLOCKS == 65_536);
@@ -43,11 +44,6 @@ pub(crate) const LAST_BLOCK: u32 = MAX_BLOCKS - 1;
 
 const _: () = prove!(LAST_BLOCK == 65_535);
 
-/// The most blocks that one command moves, as a word of the command line.
-pub(crate) const MOST_MOVED: u32 = MOST_BLOCKS_MOVED as u32;
-
-const _: () = prove!(MOST_MOVED == 128);
-
 /// The most rounds of each client that works.
 pub(crate) const MAX_ROUNDS: u32 = 1_000;
 
@@ -55,11 +51,6 @@ pub(crate) const MAX_ROUNDS: u32 = 1_000;
 pub(crate) const MOST_DEPTH: u32 = MOST_TAGS as u32 - 1;
 
 const _: () = prove!(MOST_DEPTH == 15);
-
-/// The greatest byte.
-pub(crate) const MAX_BYTE: u32 = u8::MAX as u32;
-
-const _: () = prove!(MAX_BYTE == 255);
 
 /// The version of the program and of its libraries for C and Rust, and the logic of the prover that it was proved with.
 pub const VERSION: &str = "1.0.0, proved with Rattle's logic dac8208d650f15bf";
@@ -232,21 +223,6 @@ fn missing(name: &str, words: &ArgMatches<'_>) -> &'static str {
     }
 }
 
-/// An image that is made.
-fn make_in<'a>(words: &ArgMatches<'a>) -> Option<Run<'a>>
-    ensures range { IfSome result IsInRange }
-    ensures asked { option_map asked_by result ≡ make_of (rows_of (found_of words.now)) }
-{
-    let file = word_in(words, "FILE")?;
-    let blocks = blocks_in(words)?;
-    let replaces = has_flag(words, "force");
-    Some(Run::Make {
-        file,
-        blocks,
-        replaces,
-    })
-}
-
 /// The disks that a script runs on.
 fn disks_in(words: &ArgMatches<'_>) -> Option<Disks>
     ensures range { IfSome result (λ disks. AreDisks disks × IfSome disks.bad IsBlock) }
@@ -354,25 +330,6 @@ fn clients_in(words: &ArgMatches<'_>, tags: usize) -> Option<usize>
     Some(number_in(words, "CLIENTS", 1, most_clients(tags) as u32)? as usize)
 }
 
-fn dump_in<'a>(words: &ArgMatches<'a>) -> Option<Run<'a>>
-    ensures range { IfSome result IsInRange }
-    ensures asked { option_map asked_by result ≡ dump_of (rows_of (found_of words.now)) }
-{
-    let file = word_in(words, "FILE")?;
-    let extent = extent_in(words)?;
-    Some(Run::Dump { file, extent })
-}
-
-fn fill_in<'a>(words: &ArgMatches<'a>) -> Option<Run<'a>>
-    ensures range { IfSome result IsInRange }
-    ensures asked { option_map asked_by result ≡ fill_of (rows_of (found_of words.now)) }
-{
-    let file = word_in(words, "FILE")?;
-    let extent = extent_in(words)?;
-    let byte = number_in(words, "BYTE", 0, MAX_BYTE)? as u8;
-    Some(Run::Fill { file, extent, byte })
-}
-
 fn capture_in<'a>(words: &ArgMatches<'a>) -> Option<Run<'a>>
     ensures range { IfSome result IsInRange }
     ensures asked { option_map asked_by result ≡ capture_of (rows_of (found_of words.now)) }
@@ -387,16 +344,6 @@ fn word_in<'a>(words: &ArgMatches<'a>, name: &str) -> Option<&'a str>
     ensures { option_map (λ word. word.now) result ≡ first_of name.now (rows_of (found_of words.now)) }
 {
     words.get_str(name)
-}
-
-/// The blocks that a `dump` or a `fill` is of.
-fn extent_in(words: &ArgMatches<'_>) -> Option<Extent>
-    ensures range { IfSome result (λ extent. IsMoved extent.count) }
-    ensures extent { result ≡ extent_of (rows_of (found_of words.now)) }
-{
-    let lba = number_in(words, "LBA", 0, u32::MAX)?;
-    let count = number_in(words, "COUNT", 1, MOST_MOVED)? as u16;
-    Some(Extent { lba, count })
 }
 
 fn blocks_in(words: &ArgMatches<'_>) -> Option<u32>

@@ -1,18 +1,18 @@
 //! The program: disks of many clients over USB Attached SCSI, from the words of a command line to an exit status.
 //!
 //! ```text
-//! uasdisk replay CLIENTS BLOCKS [--bad LBA] [--tags N] < script
+//! uasdisk replay CLIENTS BLOCKS [--bad LBA] [--tags N] [--json] < script
 //!                                                        runs a script on zeroed units, one for each client
-//! uasdisk trace CLIENTS BLOCKS [--bad LBA] [--tags N] [--color WHEN] < script
+//! uasdisk trace CLIENTS BLOCKS [--bad LBA] [--tags N] [--color WHEN] [--json] < script
 //!                                                        the same, and prints each step with the bytes that it wrote
 //! uasdisk work CLIENTS ROUNDS [LOG [--sync N]] [--tags N] [--depth D]
 //!                                                        lets clients write and read in threads, and counts what they read
-//! uasdisk decode [--color WHEN] < lines                  tells what lines of bytes say
+//! uasdisk decode [--color WHEN] [--json] < lines         tells what lines of bytes say
 //! uasdisk make FILE BLOCKS [--force]                     makes an image of zeroed blocks; no file that is there, unless it is forced
-//! uasdisk info FILE                                      tells how many blocks an image has
+//! uasdisk info FILE [--json]                             tells how many blocks an image has
 //! uasdisk dump FILE LBA COUNT                            prints blocks of an image, by one READ
 //! uasdisk fill FILE LBA COUNT BYTE                       fills blocks of an image with a byte, by one WRITE
-//! uasdisk audit LOG [--head HEX]                         replays a saved log and audits each client's account in it
+//! uasdisk audit LOG [--head HEX] [--json]                replays a saved log and audits each client's account in it
 //! uasdisk draw CLIENTS BLOCKS [--page] [--bad LBA] [--tags N] < script
 //!                                                        runs a script and draws the run as a picture (SVG), or writes it as a page (HTML)
 //! uasdisk capture CLIENTS BLOCKS FILE [--bad LBA] [--tags N] < script
@@ -20,6 +20,7 @@
 //! ```
 //!
 //! With `--color always`, and on a terminal that takes colours without `--color never`, the lines of `trace` and `decode` are in colours (`line_colours`).
+//! With `--json` each line of standard output is a JSON object in its place, and none is in colours (`line_objects`).
 //! With `--bad LBA` the block of this number can neither be read nor written, in every unit that has it. With `--tags N` each client has N tags
 //! in place of 16. With `--depth D` each client of `work` has D commands out at a time in place of 1. With LOG each is audited, and the
 //! log of their bus is saved in that file, or with `--sync N` kept there while it grows. With `--head HEX` `audit` tells behind which
@@ -44,8 +45,10 @@ mod kept;
 mod program;
 mod script_hints;
 
-ghost use Rattle.std.specs.Prelude.{◌≡◌, ◌≢◌, ◌⊎◌, [], IfSome, map};
+ghost use Rattle.std.specs.Prelude.{◌≡◌, ◌≢◌, ◌⊎◌, ◌&&◌, [], IfSome, is_some, map, not};
 ghost use Rattle.std.specs.String.{string_bytes};
+ghost use Rattle.line_colours.specs.When.{are_coloured};
+ghost use Rattle.line_objects.specs.Asked.{form_of};
 ghost use Rattle.uas_words.specs.CommandLine.{asked_for, refusals, MayEndRun, EndsRefused};
 ghost use Rattle.uasdisk.specs.Ends.{HoldsOfOne};
 
@@ -55,6 +58,7 @@ use hints::{Ended, say_hint};
 use host::MachineFiles;
 use kept::HostKeptFiles;
 use line_colours::{Painted, are_coloured, takes_colours};
+use line_objects::{Objects, form_of};
 use program::run_words;
 use script_hints::Kept;
 use std::cell::Cell;
@@ -98,10 +102,10 @@ fn start<R: Threads + Wait + Clock + Sync>(rt: &HostRuntime, threads: &R, words:
     let mut faults = Faults::new(rt.stderr(), &noted.is_unread);
     // A file that is opened takes the place of a standard output that is closed, and would get its text.
     let is_output_open = is_output_open(rt, &noted);
-    let is_coloured = are_coloured(words, rt.stdout().is_terminal() && takes_colours(rt));
+    let is_coloured = has_colours(words, rt.stdout().is_terminal() && takes_colours(rt));
     let mut output = is_output_open.then(|| Painted::new(
         rt.alloc(),
-        Output::new(rt.stdout(), &noted),
+        Objects::new(rt.alloc(), Output::new(rt.stdout(), &noted), form_of(words)),
         is_coloured,
     ));
     let mut input = Kept::new(rt.alloc(), Reader(rt.reader()), is_watched);
@@ -128,6 +132,13 @@ fn start<R: Threads + Wait + Clock + Sync>(rt: &HostRuntime, threads: &R, words:
         say_hint(&ended, &mut rt.stderr());
     }
     status
+}
+
+/// Whether lines are in colours; those that are objects never are.
+fn has_colours(words: &[String], is_terminal: bool) -> bool
+    ensures { result ≡ (not (is_some (form_of (map string_bytes words.now))) && are_coloured (map string_bytes words.now) is_terminal) }
+{
+    form_of(words).is_none() && are_coloured(words, is_terminal)
 }
 
 /// Whether standard output can be written; else it is noted why it can't.

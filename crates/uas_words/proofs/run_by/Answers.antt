@@ -2,7 +2,8 @@ use Rattle.std.proofs.Common.{rules, [], ◌∷◌, Ok, Err, ap, sym, subst, inl
 use Rattle.std.specs.String.{string_bytes}
 use Rattle.clap.specs.Words.{FailsBy, HasKind, Kinds, Text, fault_of, subcommand_rows_of}
 use Rattle.clap.specs.declared.error.kind.ErrorKind.TheVariants.{ValueValidation}
-use Rattle.uas_words.specs.CommandLine.{asked_by, asked_for, asked_in, program_app, refusals}
+use Rattle.uas_words.specs.CommandLine.{asked_by, asked_for, asked_in, refusals}
+use Rattle.uas_words.specs.Subcommands.{program_app}
 use Rattle.uas_words.proofs.CommandLineFacts.{asked_in-matches, fails_by_fault, nothing_refused, refused_by_fault, value_refused}
 use Rattle.uas_words.proofs.run_by.Goals as goal
 

@@ -1,7 +1,7 @@
 use Rattle.std.proofs.Common.{◌∙◌, ap, refl}
 use Rattle.std.proofs.lemmas.Result.{IfOk-weaker}
 use Rattle.clap.specs.Words.{App, with_subcommand}
-use Rattle.uas_words.specs.CommandLine.{audit_app, capture_app, decode_app, draw_app, dump_app, fill_app, info_app, make_app, replay_app, trace_app, work_app}
+use Rattle.uas_words.specs.Subcommands.{audit_app, capture_app, decode_app, draw_app, dump_app, fill_app, info_app, make_app, replay_app, trace_app, work_app}
 use Rattle.uas_words.proofs.commands.command.Goals as goal
 
 pub returns : goal.returns

@@ -1,0 +1,4 @@
+mod ByteByByte
+mod Marks
+mod SaidMarks
+mod Words

@@ -2,3 +2,4 @@ mod ByteByByte
 mod Marks
 mod SaidMarks
 mod Words
+mod Printable

@@ -1,5 +1,4 @@
 -- The fields and rows that the code holds, as the definitions have them.
-use Rattle.std.specs.Prelude.{List, map}
 use Rattle.line_objects.specs.declared.values.Field.{Field as FieldHeld}
 use Rattle.line_objects.specs.declared.values.Value.{Value as ValueHeld}
 use Rattle.line_objects.specs.declared.values.Value.TheVariants as held

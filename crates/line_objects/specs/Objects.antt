@@ -1,5 +1,5 @@
 -- A text as JSON objects (RFC 8259), one for each of its lines.
-use Rattle.std.specs.Prelude.{◌≡◌, ◌+◌, ℕ, IsTrue, not, ◌==◌, ◌||◌, ◌&&◌, nat_lt, Bool, true, false, if◌then◌else◌, List, [], ◌∷◌, ◌++◌, length, drop, take, flat_map, codes, Option, Some, None}
+use Rattle.std.specs.Prelude.{◌≡◌, ◌+◌, ℕ, IsTrue, not, ◌==◌, ◌||◌, ◌&&◌, nat_le, nat_lt, Bool, true, false, if◌then◌else◌, List, [], ◌∷◌, ◌++◌, length, drop, take, flat_map, codes, Option, Some, None}
 use Rattle.std.specs.List.{join_by, list_all}
 use Rattle.std.specs.Str.{bytes_eq}
 use Rattle.hex.specs.Hex.{encode_lower}
@@ -109,7 +109,7 @@ objects_from form line (byte ∷ rest) =
 abbrev pub objects : Form → List ℕ → List ℕ
 objects form bytes = objects_from form [] bytes
 
--- LAW
+-- LAWS
 
 abbrev pub has_no_semicolon : List ℕ → Bool
 has_no_semicolon bytes = list_all (λ byte. not (byte == 59)) bytes
@@ -117,3 +117,14 @@ has_no_semicolon bytes = list_all (λ byte. not (byte == 59)) bytes
 -- The last mark is the one that was set behind an input line, whatever that line has, where what is said has no semicolon.
 abbrev pub MarksAreFound : Type 0
 MarksAreFound = (line said : List ℕ) → IsTrue (has_no_semicolon said) → last_mark (line ++ (mark ++ said)) ≡ Some (length line)
+
+abbrev pub are_bytes : List ℕ → Bool
+are_bytes bytes = list_all (λ byte. nat_lt byte 256) bytes
+
+-- a line feed, or a byte of printable ASCII
+abbrev pub is_plain : ℕ → Bool
+is_plain byte = byte == 10 || (nat_le 32 byte && nat_le byte 126)
+
+-- Objects are of printable ASCII and line feeds, whatever bytes their lines have.
+abbrev pub ObjectsArePlain : Type 0
+ObjectsArePlain = (form : Form) (bytes : List ℕ) → IsTrue (are_bytes bytes) → IsTrue (list_all is_plain (objects form bytes))

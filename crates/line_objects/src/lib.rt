@@ -2,8 +2,8 @@
 //!
 //! [`objects`] gives a text with an object for each of its lines. Which fields an object has stands in rows by the words of a line
 //! (specs/Lines.antt), and how they are written in specs/Objects.antt. [`Objects`] is a sink that writes so to another, or as it is. The
-//! objects are ASCII, whatever bytes a line has. What `decode` says of a line is told apart from it by the last mark, and a law
-//! ([`marks_are_found`]) says that this is the right one.
+//! objects are printable ASCII, whatever bytes a line has ([`objects_are_plain`]). What `decode` says of a line is told apart from it by the
+//! last mark, which is the right one ([`marks_are_found`]).
 //!
 //! When lines are told so is [`form_of`], of the words of the command line (specs/Asked.antt).
 //!
@@ -21,7 +21,7 @@ mod telling;
 mod values;
 
 pub use asked::form_of;
-pub use laws::marks_are_found;
+pub use laws::{marks_are_found, objects_are_plain};
 pub use sink::Objects;
 pub use telling::objects;
 

@@ -133,5 +133,8 @@ fn is_script_named(words: &[String]) -> bool {
         return false;
     };
     let is_script = run.as_str() == "replay" || run.as_str() == "trace";
-    is_script && words.len() == 5 && !last.as_bytes().iter().all(|byte| byte.is_ascii_digit())
+    is_script
+        && words.len() == 5
+        && last.as_str() != "--json"
+        && !last.as_bytes().iter().all(|byte| byte.is_ascii_digit())
 }

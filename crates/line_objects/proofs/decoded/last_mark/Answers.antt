@@ -1,4 +1,4 @@
-use Rattle.std.proofs.Common.{◌≡◌, ◌∙◌, ◌-◌, ap, sym, arith}
+use Rattle.std.proofs.Common.{◌∙◌, ◌-◌, ap, sym, arith}
 use Rattle.line_objects.specs.Objects.{is_marked}
 use Rattle.line_objects.proofs.Marks.{last-here, left-whole, none-behind, none-here}
 use Rattle.line_objects.proofs.decoded.last_mark.Goals as goal

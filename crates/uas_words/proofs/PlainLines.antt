@@ -6,7 +6,7 @@ use Rattle.clap.specs.Words.{FailsBy, HasKind, Kinds, Text, fault_of, kind_of}
 use Rattle.clap.specs.declared.error.Error.{Error}
 use Rattle.clap.specs.declared.error.kind.ErrorKind.TheVariants.{OutOfMemory}
 use Rattle.clap.proofs.OnLiterals.{clap_on_literals}
-use Rattle.clap.specs.Faults.{check_fault, defaults_fault, entered_fault, settle_fault, walk_fault}
+use Rattle.clap.specs.Faults.{check_fault, defaults_fault, entered_fault, level_fault, settle_fault, walk_fault}
 use Rattle.clap.specs.Kinds.{or_else}
 use Rattle.clap.specs.Simple.{Shape, built, entered, label_of}
 use Rattle.clap.specs.Walk.{answers_to, finished, nothing_held, settled, walk, walk_from}

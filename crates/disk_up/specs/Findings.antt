@@ -52,7 +52,7 @@ in_step f next = record f { step = next }
 abbrev pub begun_finding : Finding
 begun_finding = record {
   third = 0;
-  known = record { vendor = 0; product = 0; disk = None };
+  known = record { vendor = 0; product = 0; release = 0; disk = None };
   step = step.Send request.Device Zeros;
 }
 

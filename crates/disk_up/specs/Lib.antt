@@ -1,3 +1,4 @@
+pub mod Bridges
 pub mod Requests
 pub mod Controls
 pub mod PipeRows

@@ -93,6 +93,7 @@ impl Finding {
             known: Known {
                 vendor: 0,
                 product: 0,
+                release: 0,
                 disk: None,
             },
             step: FindStep::Send {

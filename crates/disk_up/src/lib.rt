@@ -11,11 +11,11 @@
 //! fails, or has no end in time, has the whole device tried again from its port's reset on, twice. A transfer stands alone in its third of
 //! endpoint 0's ring: the next third is zeroed, TRBs and Link are stored, the first with Cycle 0, and then that one's last word.
 //!
-//! What is promised, for any answers, times and calls: what is told is the access of the table's row (`disk_access`), and the next state is that
-//! of the row too (`told`, `answered`, in specs/Disks, Findings, Endings). No access is outside the registers or the memory that was lent
+//! What is promised, for any answers, times and calls: what is told is the access of the table's row (`next_access`), and the next state is that
+//! of the row too (`next_state`, `answered`, in specs/Disks, Findings, Endings). No access is outside the registers or the memory that was lent
 //! (`inside`). No call takes memory. That a disk is configured is tried, in front of the controller of `xhci_machine` (tests/crates/driver).
 //!
-//! It stands on `bring_up`, `usb_descriptors`, `host_layout`, `host_trbs` and `byteorder`.
+//! It stands on `bring_up`, `usb_descriptors`, `uas_profile`, `host_layout`, `host_trbs` and `byteorder`.
 #![tactic(auto)]
 
 ghost use Rattle.std.specs.Prelude.{◌≡◌, ◌↔◌, true, false};
@@ -23,6 +23,7 @@ ghost use Rattle.bring_up.specs.Accesses.{IsInside};
 ghost use Rattle.bring_up.specs.Calls.{fits, is_addressed, layout_of};
 ghost use Rattle.disk_up.specs.Disks.{answered, asked_access, begun_disk, disk_access, disk_advanced, disk_interrupted, disk_told, disk_woken, is_asked, is_configured, next_access, next_layout, next_state, own_access, own_answered};
 
+mod bridges;
 mod control;
 mod ending;
 mod finding;

@@ -95,7 +95,7 @@ step_access (step.Free verdict freeing at) w pipes = freeing_access w pipes free
 step_access (step.ServeFree removal) w pipes = service_access removal.service w.taken.controller w.taken.layout w.taken.events
 step_access (step.Context verdict) w pipes = load_in (context_of w.taken.layout DeviceContext 32 (context_index pipes.data_in)) 32
 step_access (step.Take verdict count) w pipes = load_in (Some (address_of w.taken.layout (At Buffer))) count
-step_access (step.Pause until) w pipes = Rest until
+step_access (step.Pause question until) w pipes = Rest until
 step_access step.Ready w pipes = Rest (2 ^ 64 - 1)
 
 abbrev pub ready_access : World → Pipes → Access

@@ -74,7 +74,7 @@ sending_after r question None =
 abbrev pub next_step : World → Next → ℕ → World
 next_step w (next.Ask question) now = with_ready w (asked w.ready question)
 next_step w next.Size now = with_ready w (row_begun w.ready question.ShortCapacity now)
-next_step w next.Pause now = with_ready w (in_step w.ready (step.Pause (later now 200)))
+next_step w (next.Pause question) now = with_ready w (in_step w.ready (step.Pause question (later now 200)))
 next_step w (next.Refused why) now = with_taken w (given_up w.taken why)
 next_step w next.Ready now = with_ready w (in_step w.ready step.Ready)
 
@@ -274,8 +274,9 @@ context_taken w verdict word = if is_stopped (endpoint_state_in word) then movin
 abbrev pub first_word : List ℕ → ℕ
 first_word bytes = if length bytes == 32 then little_number 4 bytes else 0
 
-abbrev pub pause_over : World → ℕ → World
-pause_over w now = if nat_le w.ready.limit now then with_taken w (given_up w.taken NeverReady) else with_ready w (asked w.ready question.UnitReady)
+abbrev pub pause_over : World → Question → ℕ → World
+pause_over w question now =
+    if nat_le w.ready.limit now then with_taken w (late w.taken question) else with_ready w (asked w.ready question)
 
 -- THE TABLE
 
@@ -289,7 +290,7 @@ step_advanced (step.Free verdict freeing at) w pipes now value bytes = with_read
 step_advanced (step.ServeFree removal) w pipes now value bytes = free_served w removal now value bytes
 step_advanced (step.Context verdict) w pipes now value bytes = context_taken w verdict (first_word bytes)
 step_advanced (step.Take verdict count) w pipes now value bytes = concluded w verdict bytes now
-step_advanced (step.Pause until) w pipes now value bytes = pause_over w now
+step_advanced (step.Pause question until) w pipes now value bytes = pause_over w question now
 step_advanced step.Ready w pipes now value bytes = w
 
 abbrev pub ready_advanced : World → Pipes → ℕ → ℕ → List ℕ → World

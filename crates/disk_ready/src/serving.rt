@@ -15,7 +15,7 @@ use usb_descriptors::Pipes;
 /// ms that data may come behind a status GOOD.
 const GRACE: u64 = 1_000;
 
-/// ms between two TEST UNIT READYs of a disk that becomes ready by itself.
+/// ms before a question is asked again.
 const PAUSE: u64 = 200;
 
 /// The most bytes of a status unit.
@@ -218,7 +218,12 @@ impl Readying {
         match next {
             Next::Ask(question) => self.ask(question),
             Next::Size => self.begin_row(Question::ShortCapacity, now),
-            Next::Pause => self.step = ReadyStep::Pause(later(now, PAUSE)),
+            Next::Pause(question) => {
+                self.step = ReadyStep::Pause {
+                    question,
+                    until: later(now, PAUSE),
+                };
+            }
             Next::Refused(why) => taken.give_up(why),
             Next::Ready => self.step = ReadyStep::Ready,
         }
@@ -226,7 +231,7 @@ impl Readying {
 }
 
 /// A row's time is over: the disk isn't used, or the device is tried again.
-fn late(taken: &mut Taken, question: Question)
+pub(crate) fn late(taken: &mut Taken, question: Question)
     ensures { taken.new ≡ late taken.old question }
 {
     if is_row_15(question) {

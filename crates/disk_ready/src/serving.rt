@@ -32,8 +32,12 @@ impl Readying {
         value: u32,
         bytes: &[u8],
     )
-        ensures { record { ready = self.new; taken = taken.new } ≡ served (record { ready = self.old; taken = taken.old }) pipes.now awaited now value bytes.now }
+        ensures { record { ready = self.new; taken = taken.new } ≡ served taken.old.check (record { ready = self.old; taken = taken.old }) pipes.now awaited now value bytes.now }
     {
+        if let Some(check) = taken.check {
+            taken.check_port(check, value);
+            return;
+        }
         match awaited.service.at {
             Serving::Event => self.event_came(taken, pipes, awaited, now, taken_event(bytes)),
             _ => {
@@ -53,7 +57,7 @@ impl Readying {
     )
         ensures { record { ready = self.new; taken = taken.new } ≡ event_came (record { ready = self.old; taken = taken.old }) pipes.now awaited now event }
     {
-        taken.events = taken.events.next();
+        taken.pass_event(event);
         match event {
             Event::Controller { .. } => taken.restart(now),
             _ => {

@@ -179,25 +179,24 @@ impl Readying {
     fn access(&self, taken: &Taken, pipes: &Pipes) -> Access
         ensures { result ≡ ready_access (record { ready = self.now; taken = taken.now }) pipes.now }
     {
-        let c = &taken.controller;
         let layout = &taken.layout;
         match self.step {
             ReadyStep::Begin => Access::Rest(0),
             ReadyStep::Sending { question, at } => at.access(
-                c,
+                &taken.controller,
                 layout,
                 &target_of(taken, pipes),
                 &sent_of(question),
                 self.spots,
                 &pieces_of(layout, question),
             ),
-            ReadyStep::Serve(awaited) => awaited.service.access(c, layout, taken.events),
+            ReadyStep::Serve(awaited) => taken.look_access(awaited.service),
             ReadyStep::Status { count, .. } => load_in(
                 layout.of_tag(TAG, TagArea::StatusUnit),
                 count,
             ),
             ReadyStep::Free { freeing, at, .. } => self.freeing_access(taken, pipes, freeing, at),
-            ReadyStep::ServeFree(removal) => removal.service.access(c, layout, taken.events),
+            ReadyStep::ServeFree(removal) => taken.look_access(removal.service),
             ReadyStep::Context(_) => load_in(
                 layout.device_context(pipes.data_in.context_index()),
                 CONTEXT_BYTES,

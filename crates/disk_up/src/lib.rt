@@ -7,6 +7,8 @@
 //! | configuration 0, its first 9 bytes, then all | `LongConfiguration`, `BadDescriptor`, `NoUas`, `BadPipes`, `NoCompanion`, `BrokenUas`, `NoStreams` |
 //! | SET_CONFIGURATION; SET_INTERFACE where the setting isn't 0 | the pipes: rings, stream arrays and contexts, then Configure Endpoint; `NotConfigured` |
 //!
+//! An event of the device's port has that read: a device that was pulled is forgotten, one whose link is lost is tried again.
+//!
 //! [`DiskUp`] owns a [`BringUp`], tells its accesses until it has a device with an address, and then its own. Each request has 5,000 ms; one that
 //! fails, or has no end in time, has the whole device tried again from its port's reset on, twice. A transfer stands alone in its third of
 //! endpoint 0's ring: the next third is zeroed, TRBs and Link are stored, the first with Cycle 0, and then that one's last word.

@@ -5,3 +5,4 @@ pub mod PipeRows
 pub mod Findings
 pub mod Endings
 pub mod Disks
+pub mod Rows

@@ -36,7 +36,7 @@ mod requests;
 use bring_up::{Access, AnswerFault, BringUp, Options, Stage, fits, is_gone, word_in};
 pub use control::{Seen, Sending, is_at, next_third};
 pub use finding::{Clearing, Ending, FindStep, Finding};
-pub use laws::{contexts_are_added, waits_end};
+pub use laws::{contexts_are_added, pipes_are_stored, streams_are_stored, waits_end};
 pub use pipes::Piping;
 pub use requests::{Found, Known, Request};
 

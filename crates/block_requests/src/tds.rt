@@ -16,8 +16,16 @@ pub fn pieces_of(layout: &Layout, tag: u8, submission: &Submission) -> ArrayVec<
 {
     match submission.list {
         Some(_) => list_piece(layout.of_tag(tag, TagArea::UnmapList)),
-        None => submission.pieces.clone(),
+        None => copied(&submission.pieces),
     }
+}
+
+fn copied(pieces: &ArrayVec<Piece, MOST_PIECES>) -> ArrayVec<Piece, MOST_PIECES>
+    ensures { result.items ≡ pieces.now.items }
+{
+    let mut copy = ArrayVec::new();
+    copy.try_extend_from_slice(pieces.as_slice()).unwrap();
+    copy
 }
 
 /// UNMAP's list, in one piece.

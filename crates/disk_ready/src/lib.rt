@@ -32,6 +32,7 @@ ghost use Rattle.disk_ready.specs.Calls.{answered, asked_access, begun_ready, di
 
 mod ends;
 mod freeing;
+mod laws;
 mod puts;
 mod questions;
 mod serving;
@@ -42,6 +43,7 @@ mod stores;
 use bring_up::{Access, AnswerFault, Options, Stage, fits, is_gone, word_in};
 use disk_up::DiskUp;
 pub use ends::{Ends, Td};
+pub use laws::{bells_are_rung, thirds_are_put};
 pub use puts::{PipeRing, Put, Sent, Spots, Target, Way};
 pub use questions::{Heard, Learned, Next, Question};
 pub use shapes::ReadyDisk;

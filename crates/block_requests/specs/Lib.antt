@@ -1,2 +1,3 @@
 pub mod Submissions
+pub mod Tds
 pub mod Outcomes

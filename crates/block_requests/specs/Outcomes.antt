@@ -1,5 +1,5 @@
 -- What a command came to: the bytes that its data's events tell, and what its status unit says.
-use Rattle.std.specs.Prelude.{ℕ, ◌+◌, ◌==◌, if◌then◌else◌, Option, Some, None, List, length, slice_get}
+use Rattle.std.specs.Prelude.{ℕ, ◌+◌, ◌==◌, min, if◌then◌else◌, Option, Some, None, List, length, slice_get}
 use Rattle.disk_requests.specs.declared.StatusKind.{StatusKind}
 use Rattle.disk_requests.specs.declared.StatusKind.TheVariants.{Sense, Response, ReadReady, WriteReady}
 use Rattle.arrayvec.specs.ArrayVec.{ArrayVec}
@@ -19,6 +19,12 @@ moved_at (Some piece) residual = Some (moved_of piece residual)
 
 abbrev pub moved_in : List Piece → ℕ → ℕ → Option ℕ
 moved_in pieces number residual = moved_at (slice_get pieces number) residual
+
+-- the bytes of a TD that were moved when it was stopped: 26 tells what of its TRB wasn't, 27 nothing, 28 the bytes of the TD so far (EDTLA)
+abbrev pub stopped_at : List Piece → ℕ → ℕ → Completion → Option ℕ
+stopped_at pieces number length completion.Stopped = moved_in pieces number length
+stopped_at pieces number length completion.StoppedShortPacket = Some (min length (total_of pieces))
+stopped_at pieces number length _ = None
 
 -- a success ends the TD at its last TRB, with all bytes
 abbrev pub success_end : List Piece → ℕ → DataEnd

@@ -38,7 +38,7 @@ lent_bytes segments = min (sum_by length_in segments) (2 ^ 64 - 1)
 abbrev pub is_uneven : Segment → Bool
 is_uneven segment = not (segment.address % 512 == 0) || not (segment.length % 512 == 0)
 
--- it ends behind the last address that is reached
+-- it has bytes at `reach`, the first address that isn't reached, or behind it
 abbrev pub is_out : ℕ → Segment → Bool
 is_out reach segment = nat_lt reach (segment.address + segment.length)
 

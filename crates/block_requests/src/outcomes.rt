@@ -1,6 +1,7 @@
 //! What a command came to.
 ghost use Rattle.std.specs.Prelude.{◌≡◌};
-ghost use Rattle.block_requests.specs.Outcomes.{data_end, moved_in, outcome_of, short_end, status_outcome, success_end};
+ghost use Rattle.host_layout.specs.Cutting.{total_of};
+ghost use Rattle.block_requests.specs.Outcomes.{data_end, moved_in, outcome_of, short_end, status_outcome, stopped_at, success_end};
 
 use arrayvec::ArrayVec;
 use disk_requests::StatusKind;
@@ -67,13 +68,41 @@ fn short_end(moved: Option<u32>) -> DataEnd
     }
 }
 
-/// The bytes of a TD that were moved, where an event names the TRB of a piece and so many of its bytes were not; None behind the last piece.
+/// The bytes of a TD that were moved, where an event of code 1, 13 or 26 names the TRB of a piece and so many of its bytes were not; None behind the
+/// last piece.
 pub fn moved_in(pieces: &[Piece], number: usize, residual: u32) -> Option<u32>
     ensures { result ≡ moved_in pieces.now number residual }
 {
     match pieces.get(number) {
         Some(piece) => Some(piece.moved(residual)),
         None => None,
+    }
+}
+
+/// The bytes of a TD that were moved when it was stopped, where an event with this length names the TRB of a piece: the length is what of the piece
+/// was not (26), or the bytes of the TD so far (28). None of another completion.
+pub fn stopped_at(
+    pieces: &[Piece],
+    number: usize,
+    length: u32,
+    completion: Completion,
+) -> Option<u32>
+    ensures { result ≡ stopped_at pieces.now number length completion }
+{
+    match completion {
+        Completion::Stopped => moved_in(pieces, number, length),
+        Completion::StoppedShortPacket => Some(length.min(total_of(pieces))),
+        _ => None,
+    }
+}
+
+/// The bytes of a TD.
+pub(crate) fn total_of(pieces: &[Piece]) -> u32
+    ensures { result ≡ total_of pieces.now }
+{
+    match pieces.last() {
+        Some(piece) => piece.end,
+        None => 0,
     }
 }
 

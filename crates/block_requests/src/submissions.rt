@@ -11,10 +11,10 @@ use disk_ready::Way;
 use disk_requests::{DiskShape, Refusal, Request, refusal_of, request_cdb, unmap_list};
 use host_layout::{CutFault, MOST_PIECES, Piece, Pieces, Segment, cut};
 
-/// The blocks from which on CDBs have 16 bytes.
+/// The most blocks of a disk whose CDBs have 10 bytes.
 const MOST_SHORT: u64 = 1 << 32;
 
-/// What is put for a request of a disk, with the segments of its data; `reach` is the last address at which one may end, and a TD has `most` TRBs.
+/// What is put for a request of a disk, with the segments of its data; `reach` is the first address that isn't reached, and a TD has `most` TRBs.
 pub fn submitted(
     request: &Request,
     disk: &DiskShape,

@@ -1,5 +1,5 @@
 -- One access, and which accesses there are: registers of the controller, and memory that was lent.
-use Rattle.std.specs.Prelude.{ℕ, ◌+◌, ◌-◌, ◌^◌, ◌≤◌, ◌&&◌, nat_le, min, if◌then◌else◌, Bool, true, false, Option, Some, None}
+use Rattle.std.specs.Prelude.{ℕ, ◌+◌, ◌-◌, ◌^◌, ◌≤◌, ◌==◌, ◌&&◌, nat_le, min, if◌then◌else◌, Bool, true, false, Option, Some, None}
 use Rattle.host_layout.specs.declared.layout.Layout.{Layout}
 use Rattle.host_layout.specs.Shapes.{bytes_of}
 use Rattle.bring_up.specs.declared.access.Access.{Access}
@@ -46,9 +46,10 @@ abbrev pub store_in : Option ℕ → Stored → Access
 store_in None bytes = Rest 0
 store_in (Some at) bytes = Store at bytes
 
+-- of no bytes nothing is told but a rest that is over
 abbrev pub load_in : Option ℕ → ℕ → Access
 load_in None length = Rest 0
-load_in (Some at) length = Load at length
+load_in (Some at) length = if length == 0 then Rest 0 else Load at length
 
 -- WHICH ACCESSES ARE TOLD
 

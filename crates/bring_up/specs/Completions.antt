@@ -6,10 +6,10 @@ use Rattle.host_trbs.specs.declared.events.Event.{Event}
 use Rattle.host_trbs.specs.declared.events.Event.TheVariants as event
 use Rattle.host_trbs.specs.Events.{completion_in}
 use Rattle.bring_up.specs.declared.commands.Asked.{Asked}
-use Rattle.bring_up.specs.declared.commands.Asked.TheVariants.{EnableSlot, AddressDevice, ResetPort, Refuse}
+use Rattle.bring_up.specs.declared.commands.Asked.TheVariants.{EnableSlot, AddressDevice, ResetPort, Forget, Refuse}
 use Rattle.bring_up.specs.declared.commands.Completed.{Completed}
 use Rattle.bring_up.specs.declared.ports.PortReset.{PortReset}
-use Rattle.bring_up.specs.declared.ports.PortReset.TheVariants.{Read, Start, Done, Clear, Recover, Speed}
+use Rattle.bring_up.specs.declared.ports.PortReset.TheVariants.{Read, Start, Done, Clear, Late, Recover, Speed}
 use Rattle.bring_up.specs.declared.service.Served.{Served}
 use Rattle.bring_up.specs.declared.service.Served.TheVariants.{On, Closed, Broken}
 use Rattle.bring_up.specs.declared.service.Service.{Service}
@@ -26,7 +26,7 @@ use Rattle.bring_up.specs.declared.why.Why.{Why}
 use Rattle.bring_up.specs.declared.why.Why.TheVariants as why
 use Rattle.bring_up.specs.Accesses.{later}
 use Rattle.bring_up.specs.CommandRings.{command_address, commands_begun, next_command, put_after}
-use Rattle.bring_up.specs.PortRows.{look_begun}
+use Rattle.bring_up.specs.PortRows.{changes_in, look_begun}
 use Rattle.bring_up.specs.Registers.{is_set}
 use Rattle.bring_up.specs.Services.{closing, events_begun, idle, next_event, passed, rested, service_after, taken_event}
 use Rattle.bring_up.specs.Slots.{addressing_after, command_begun}
@@ -46,7 +46,7 @@ reset_late t now =
 
 abbrev pub reset_waited : Taken → Waited → ℕ → ℕ → Taken
 reset_waited t waits.So now value = with_step t (step.PortReset (Clear value))
-reset_waited t waits.Late now value = reset_late t now
+reset_waited t waits.Late now value = if changes_in value == 0 then reset_late t now else with_step t (step.PortReset (Late value))
 reset_waited t (waits.On wait) now value = with_step t (step.PortReset (Done wait))
 
 -- Port Speed, bits 13:10: 4 is SuperSpeed
@@ -60,6 +60,7 @@ reset_advanced t Read now value = with_step t (step.PortReset (Start value))
 reset_advanced t (Start old) now value = with_step t (step.PortReset (Done (begun now 800)))
 reset_advanced t (Done wait) now value = reset_waited t (waited wait now 10 (is_enabled value)) now value
 reset_advanced t (Clear old) now value = with_step t (step.PortReset (Recover (later now 50)))
+reset_advanced t (Late old) now value = reset_late t now
 reset_advanced t (Recover until) now value = with_step t (step.PortReset Speed)
 reset_advanced t Speed now value = speed_read t (value / 2 ^ 10 % 16) now
 
@@ -97,10 +98,16 @@ disabled t Success None now = with_step t (step.PortReset Read)
 disabled t Success (Some why) now = refused t why now
 disabled t _ why now = restarted t now
 
+-- a device that was pulled: nothing is known of its port
+abbrev pub forgotten : Taken → Completion → ℕ → Taken
+forgotten t Success now = record t { ports = slice_set t.ports t.device.port.number nothing_known; step = look_begun now false }
+forgotten t _ now = restarted t now
+
 abbrev pub ended_as : Taken → Asked → Completion → ℕ → ℕ → Taken
 ended_as t EnableSlot completion slot now = enabled t completion slot now
 ended_as t AddressDevice completion slot now = addressed t completion now
 ended_as t ResetPort completion slot now = disabled t completion None now
+ended_as t Forget completion slot now = forgotten t completion now
 ended_as t (Refuse why) completion slot now = disabled t completion (Some why) now
 
 abbrev pub completed : Taken → Asked → Completed → ℕ → Taken

@@ -11,6 +11,7 @@ pub mod PortRows
 pub mod Takeovers
 pub mod Table
 pub mod Completions
+pub mod PortChecks
 pub mod Calls
 pub mod Lending
 pub mod States

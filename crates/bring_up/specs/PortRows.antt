@@ -9,7 +9,7 @@ use Rattle.bring_up.specs.declared.ports.PortReset.{PortReset}
 use Rattle.bring_up.specs.declared.ports.PortReset.TheVariants as port_reset
 use Rattle.bring_up.specs.declared.ports.PortState.{PortState}
 use Rattle.bring_up.specs.declared.ports.Ports.{Ports}
-use Rattle.bring_up.specs.declared.ports.Ports.TheVariants.{Power, PowerOn, Settle, Look, Pause, Warm, WarmReset}
+use Rattle.bring_up.specs.declared.ports.Ports.TheVariants.{Power, PowerOn, Settle, Look, ClearChanges, Pause, Warm, WarmReset}
 use Rattle.bring_up.specs.declared.step.Step.{Step}
 use Rattle.bring_up.specs.declared.step.Step.TheVariants as step
 use Rattle.bring_up.specs.Accesses.{later, read_at, write_at}
@@ -20,6 +20,13 @@ use Rattle.bring_up.specs.Waits.{wait_access}
 -- PORTSC with its wake bits, indicators, power and link state: Port Enabled written 1 disables the port, and a change bit written 1 is cleared
 abbrev pub neutral : ℕ → ℕ
 neutral value = bit_and value 0x0e00c3e0
+
+-- the change bits, 23:17; each is cleared by a 1. A Port Status Change Event comes only where all were 0 (4.19.2).
+abbrev pub changes_in : ℕ → ℕ
+changes_in value = bit_and value 0xfe0000
+
+abbrev pub changes_cleared : ℕ → ℕ
+changes_cleared value = bit_or (neutral value) (changes_in value)
 
 -- Port Link State, bits 8:5: Inactive, Polling or Compliance Mode; or Cold Attach Status, bit 24
 abbrev pub needs_warm_reset : ℕ → Bool
@@ -43,13 +50,15 @@ number_of None = 0
 abbrev pub number_at : Controller → PortPlace → ℕ
 number_at c place = number_of (port_at c place)
 
--- 8, PORTS: each port without power gets it (Port Power, bit 9); 100 ms later each is read until one has had a device for 100 ms
+-- 8, PORTS: each port without power gets it (Port Power, bit 9); 100 ms later each is read, and its change bits are cleared, until one has had a
+-- device for 100 ms
 
 abbrev pub ports_access : Ports → Controller → Access
 ports_access (Power place) c = port_read c (number_at c place)
 ports_access (PowerOn place value) c = port_written c (number_at c place) (bit_or (neutral value) 0x200)
 ports_access (Settle until) c = Rest until
 ports_access (Look place limit warmed) c = port_read c (number_at c place)
+ports_access (ClearChanges place limit warmed value) c = port_written c (number_at c place) (changes_cleared value)
 ports_access (Pause until limit warmed) c = Rest until
 ports_access (Warm place) c = port_read c (number_at c place)
 ports_access (WarmReset place value) c = port_written c (number_at c place) (bit_or (neutral value) 0x80000000)
@@ -78,6 +87,7 @@ ports_after (Power place) c now value = if not (is_set value 9) then step.Ports 
 ports_after (PowerOn place old) c now value = powered c now place
 ports_after (Settle until) c now value = look_begun now false
 ports_after (Look place limit warmed) c now value = looked_on c now place limit warmed
+ports_after (ClearChanges place limit warmed old) c now value = looked_on c now place limit warmed
 ports_after (Pause until limit warmed) c now value = step.Ports (Look first_place limit warmed)
 ports_after (Warm place) c now value = if needs_warm_reset value then step.Ports (WarmReset place value) else warm_reset_on c now place
 ports_after (WarmReset place old) c now value = warm_reset_on c now place
@@ -96,12 +106,13 @@ is_long_since None now = false
 abbrev pub is_ready : PortState → ℕ → Bool
 is_ready state now = is_long_since state.since now && is_none state.refused
 
--- 9, PORT RESET: Port Reset or Warm Port Reset; the port is enabled; its change bits, 23:17, are cleared; 50 ms; the speed is read
+-- 9, PORT RESET: Port Reset or Warm Port Reset; the port is enabled; its change bits are cleared, also where it is late; 50 ms; the speed is read
 
 abbrev pub port_reset_access : PortReset → Controller → ℕ → Access
 port_reset_access port_reset.Read c number = port_read c number
 port_reset_access (port_reset.Start value) c number = port_written c number (bit_or (neutral value) (reset_bit value))
 port_reset_access (port_reset.Done wait) c number = wait_access wait (port_register c number)
 port_reset_access (port_reset.Clear value) c number = port_written c number (bit_or (neutral value) 0xfe0000)
+port_reset_access (port_reset.Late value) c number = port_written c number (changes_cleared value)
 port_reset_access (port_reset.Recover until) c number = Rest until
 port_reset_access port_reset.Speed c number = port_read c number

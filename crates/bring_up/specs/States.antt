@@ -32,6 +32,7 @@ abbrev pub asked_row : Asked → Row
 asked_row asked.EnableSlot = row.EnableSlot
 asked_row asked.AddressDevice = row.AddressDevice
 asked_row asked.ResetPort = row.DisableSlot
+asked_row asked.Forget = row.DisableSlot
 asked_row (asked.Refuse why) = row.DisableSlot
 
 abbrev pub ended_state : Ended → State

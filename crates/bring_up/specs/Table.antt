@@ -11,7 +11,7 @@ use Rattle.host_trbs.specs.Commands.{command_words}
 use Rattle.bring_up.specs.declared.access.Access.{Access}
 use Rattle.bring_up.specs.declared.access.Access.TheVariants.{Rest}
 use Rattle.bring_up.specs.declared.commands.Asked.{Asked}
-use Rattle.bring_up.specs.declared.commands.Asked.TheVariants.{EnableSlot, AddressDevice, ResetPort, Refuse}
+use Rattle.bring_up.specs.declared.commands.Asked.TheVariants.{EnableSlot, AddressDevice, ResetPort, Forget, Refuse}
 use Rattle.bring_up.specs.declared.controller.Controller.{Controller}
 use Rattle.bring_up.specs.declared.controller.Port.{Port}
 use Rattle.bring_up.specs.declared.controller.PortPlace.{PortPlace}
@@ -29,7 +29,7 @@ use Rattle.bring_up.specs.declared.taken.Taken.{Taken}
 use Rattle.bring_up.specs.declared.taken.Tries.{Tries}
 use Rattle.bring_up.specs.declared.why.Why.{Why}
 use Rattle.bring_up.specs.CommandRings.{command_put, commands_begun}
-use Rattle.bring_up.specs.PortRows.{is_ready, look_begun, looked_at, looked_on, port_reset_access, ports_access, ports_after}
+use Rattle.bring_up.specs.PortRows.{changes_in, is_ready, look_begun, looked_at, looked_on, port_reset_access, ports_access, ports_after}
 use Rattle.bring_up.specs.Programs.{program_access}
 use Rattle.bring_up.specs.Registers.{is_set, port_at}
 use Rattle.bring_up.specs.Services.{events_begun, service_access, woken}
@@ -61,6 +61,7 @@ taken_begun controller layout quirks now = record {
   device = no_device;
   tries = no_tries;
   has_change = false;
+  check = None;
 }
 
 abbrev pub with_step : Taken → Step → Taken
@@ -73,6 +74,7 @@ abbrev pub asked_command : Taken → Asked → Command
 asked_command t EnableSlot = command.EnableSlot t.device.port.slot_type
 asked_command t AddressDevice = command.AddressDevice (address_of t.layout (At fixed.InputContext)) t.device.slot
 asked_command t ResetPort = command.DisableSlot t.device.slot
+asked_command t Forget = command.DisableSlot t.device.slot
 asked_command t (Refuse why) = command.DisableSlot t.device.slot
 
 abbrev pub step_access : Step → Taken → Access
@@ -124,8 +126,15 @@ look_at t (Some port) place limit warmed now connected =
 abbrev pub look_on : Taken → PortPlace → ℕ → Bool → ℕ → Bool → Taken
 look_on t place limit warmed now connected = look_at t (port_at t.controller place) place limit warmed now connected
 
+-- change bits are cleared first
+abbrev pub look_read : Taken → PortPlace → ℕ → Bool → ℕ → ℕ → Taken
+look_read t place limit warmed now value =
+    if changes_in value == 0 then look_on t place limit warmed now (is_set value 0)
+    else with_step t (step.Ports (ports.ClearChanges place limit warmed value))
+
 abbrev pub ports_advanced : Taken → Ports → ℕ → ℕ → Taken
-ports_advanced t (ports.Look place limit warmed) now value = look_on t place limit warmed now (is_set value 0)
+ports_advanced t (ports.Look place limit warmed) now value = look_read t place limit warmed now value
+ports_advanced t (ports.ClearChanges place limit warmed old) now value = look_on t place limit warmed now (is_set old 0)
 ports_advanced t at now value = with_step t (ports_after at t.controller now value)
 
 -- a device that isn't used: the next port is tried

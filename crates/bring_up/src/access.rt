@@ -104,13 +104,13 @@ pub fn store_in(at: Option<u64>, bytes: Stored) -> Access
     }
 }
 
-/// Bytes are loaded, likewise.
+/// Bytes are loaded, likewise; of no bytes nothing is told but such a rest.
 pub fn load_in(at: Option<u64>, length: u32) -> Access
     ensures { result ≡ load_in at length }
 {
     match at {
-        Some(at) => Access::Load { at, length },
-        None => Access::Rest(0),
+        Some(at) if length != 0 => Access::Load { at, length },
+        _ => Access::Rest(0),
     }
 }
 

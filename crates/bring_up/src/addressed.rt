@@ -1,11 +1,13 @@
 //! Rows 9 to 11: what a device's reset and its commands came to.
 ghost use Rattle.std.specs.Prelude.{◌≡◌, ◌<◌, ◌^◌, slice_set};
-ghost use Rattle.bring_up.specs.Completions.{addressed, closed, completed, disabled, enabled, event_seen, event_watched, given_up, is_enabled, reset_advanced, reset_late, reset_waited, restarted, served, service_went, speed_read, tried_again, watch_went, watched};
+ghost use Rattle.bring_up.specs.Completions.{addressed, closed, completed, disabled, enabled, event_seen, event_watched, forgotten, given_up, is_enabled, reset_advanced, reset_late, reset_waited, restarted, served, service_went, speed_read, tried_again, watch_went, watched};
 
 use crate::access::later;
 use crate::commands::{Asked, CommandRing, Completed};
 use crate::controller::is_set;
-use crate::ports::{CONNECTED, ENABLED, PORT_PERIOD, PortReset, PortState, RESETTING, look_begun};
+use crate::ports::{
+    CONNECTED, ENABLED, PORT_PERIOD, PortReset, PortState, RESETTING, changes_in, look_begun,
+};
 use crate::service::{EventRing, Served, Service, Serving, taken_event};
 use crate::slots::{Addressing, command_begun};
 use crate::step::{Ended, Step};
@@ -34,6 +36,7 @@ impl Taken {
             PortReset::Clear(_) => {
                 self.step = Step::PortReset(PortReset::Recover(later(now, RECOVERY)));
             }
+            PortReset::Late(_) => self.reset_late(now),
             PortReset::Recover(_) => self.step = Step::PortReset(PortReset::Speed),
             PortReset::Speed => self.speed_read((value >> 10 & 15) as u8, now),
         }
@@ -44,6 +47,9 @@ impl Taken {
     {
         match waited {
             Waited::So => self.step = Step::PortReset(PortReset::Clear(value)),
+            Waited::Late if changes_in(value) != 0 => {
+                self.step = Step::PortReset(PortReset::Late(value));
+            }
             Waited::Late => self.reset_late(now),
             Waited::On(wait) => self.step = Step::PortReset(PortReset::Done(wait)),
         }
@@ -179,6 +185,7 @@ impl Taken {
             Asked::EnableSlot => self.enabled(completion, ended.slot, now),
             Asked::AddressDevice => self.addressed(completion, now),
             Asked::ResetPort => self.disabled(completion, None, now),
+            Asked::Forget => self.forgotten(completion, now),
             Asked::Refuse(why) => self.disabled(completion, Some(why), now),
         }
     }
@@ -216,6 +223,22 @@ impl Taken {
         match (completion, why) {
             (Completion::Success, None) => self.step = Step::PortReset(PortReset::Read),
             (Completion::Success, Some(why)) => self.refuse(why, now),
+            _ => self.restart(now),
+        }
+    }
+
+    /// The slot of a device that was pulled is taken back: nothing is known of its port.
+    fn forgotten(&mut self, completion: Completion, now: u64)
+        ensures { self.new ≡ forgotten self.old completion now }
+    {
+        match completion {
+            Completion::Success => {
+                self.ports[usize::from(self.device.port.number)] = PortState {
+                    since: None,
+                    refused: None,
+                };
+                self.step = look_begun(now, false);
+            }
             _ => self.restart(now),
         }
     }

@@ -17,8 +17,9 @@ use host_trbs::{LinkTrb, Words};
 pub enum Asked {
     EnableSlot,
     AddressDevice,
-    /// The slot is taken back, and then the port is reset, or its device refused.
+    /// The slot is taken back, and then the port is reset, or looked at as one without a device, or its device refused.
     ResetPort,
+    Forget,
     Refuse(Why),
 }
 

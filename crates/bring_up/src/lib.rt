@@ -35,6 +35,7 @@ mod access;
 mod addressed;
 mod bring_up;
 mod capabilities;
+mod checks;
 mod commands;
 mod controller;
 mod laws;
@@ -54,6 +55,7 @@ mod why;
 
 pub use access::{Access, Stored, later, load_in, read_at, store_in, write_at};
 pub use bring_up::{AnswerFault, BringUp, LendFault, Stage, fits, is_gone};
+pub use checks::{Checked, PortCheck};
 pub use commands::{Asked, CommandRing, Completed, Putting};
 pub use controller::{Controller, MOST_CAPABILITIES, Port, PortPlace, Protocol, is_set};
 pub use laws::waits_end;

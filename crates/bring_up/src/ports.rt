@@ -1,6 +1,6 @@
 //! Rows 8 and 9: the ports of USB 3, and the reset of one (xHCI 1.2, 4.19 and 5.4.8).
-ghost use Rattle.std.specs.Prelude.{◌≡◌, ◌<◌, ◌^◌, bit_and, bit_or};
-ghost use Rattle.bring_up.specs.PortRows.{is_ready, look_begun, looked_at, looked_on, needs_warm_reset, neutral, number_at, port_read, port_reset_access, port_written, ports_access, ports_after, powered, reset_bit, warm_reset_on};
+ghost use Rattle.std.specs.Prelude.{◌≡◌, ◌<◌, ◌/◌, ◌%◌, ◌^◌, ◌==◌, bit_and, bit_or};
+ghost use Rattle.bring_up.specs.PortRows.{changes_cleared, changes_in, is_ready, look_begun, looked_at, looked_on, needs_warm_reset, neutral, number_at, port_read, port_reset_access, port_written, ports_access, ports_after, powered, reset_bit, warm_reset_on};
 
 use crate::access::{Access, later, read_at, write_at};
 use crate::controller::{Controller, PortPlace, is_set};
@@ -26,6 +26,13 @@ pub enum Ports {
         limit: u64,
         is_warmed: bool,
     },
+    /// Its change bits are cleared, in this value.
+    ClearChanges {
+        place: PortPlace,
+        limit: u64,
+        is_warmed: bool,
+        value: u32,
+    },
     Pause {
         until: u64,
         limit: u64,
@@ -47,8 +54,9 @@ pub enum PortReset {
     Start(u32),
     /// Until the port is enabled.
     Done(Wait),
-    /// The change bits are cleared, in this value.
+    /// The change bits are cleared, in this value; likewise where the port isn't enabled in time.
     Clear(u32),
+    Late(u32),
     /// The device's time to recover.
     Recover(u64),
     /// The speed is read.
@@ -80,7 +88,7 @@ const PORT_RESET: u32 = 0x10;
 
 const WARM_PORT_RESET: u32 = 0x8000_0000;
 
-pub(crate) const CHANGES: u32 = 0x00fe_0000;
+const CHANGES: u32 = 0x00fe_0000;
 
 /// PORTSC without what a write of its own value would do: Port Enabled written 1 disables, changes are cleared.
 const NEUTRAL: u32 = 0x0e00_c3e0;
@@ -98,6 +106,27 @@ pub(crate) fn neutral(value: u32) -> u32
     ensures { result ≡ neutral value }
 {
     value & NEUTRAL
+}
+
+/// Which change bits are set.
+pub(crate) fn changes_in(value: u32) -> u32
+    ensures { result ≡ changes_in value }
+{
+    value & CHANGES
+}
+
+/// PORTSC as it is written to clear the change bits that are set.
+pub(crate) fn changes_cleared(value: u32) -> u32
+    ensures { result ≡ changes_cleared value }
+{
+    neutral(value) | changes_in(value)
+}
+
+/// Whether a link is Inactive.
+pub(crate) fn is_inactive(value: u32) -> bool
+    ensures { result ≡ (value / 2 ^ 5 % 16 == 6) }
+{
+    value >> 5 & 15 == 6
 }
 
 /// Whether a link hangs: Inactive, Polling or Compliance Mode, or a device that was attached in between.
@@ -254,6 +283,11 @@ impl Ports {
                 number_at(c, place),
                 neutral(value) | WARM_PORT_RESET,
             ),
+            Ports::ClearChanges { place, value, .. } => port_written(
+                c,
+                number_at(c, place),
+                changes_cleared(value),
+            ),
             Ports::Settle(until) | Ports::Pause { until, .. } => Access::Rest(until),
         }
     }
@@ -272,6 +306,12 @@ impl Ports {
                 place,
                 limit,
                 is_warmed,
+            } => looked_on(c, now, place, limit, is_warmed),
+            Ports::ClearChanges {
+                place,
+                limit,
+                is_warmed,
+                ..
             } => looked_on(c, now, place, limit, is_warmed),
             Ports::Pause {
                 limit,
@@ -299,6 +339,7 @@ impl PortReset {
             PortReset::Start(value) => port_written(c, number, neutral(value) | reset_bit(value)),
             PortReset::Done(wait) => wait.access(c.port_register(number)),
             PortReset::Clear(value) => port_written(c, number, neutral(value) | CHANGES),
+            PortReset::Late(value) => port_written(c, number, changes_cleared(value)),
             PortReset::Recover(until) => Access::Rest(until),
         }
     }

@@ -95,6 +95,6 @@ fn asked_row(asked: Asked) -> Row
     match asked {
         Asked::EnableSlot => Row::EnableSlot,
         Asked::AddressDevice => Row::AddressDevice,
-        Asked::ResetPort | Asked::Refuse(_) => Row::DisableSlot,
+        Asked::ResetPort | Asked::Forget | Asked::Refuse(_) => Row::DisableSlot,
     }
 }

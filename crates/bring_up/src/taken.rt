@@ -1,13 +1,14 @@
 //! A controller that memory was lent for, and the table's steps on it.
 ghost use Rattle.std.specs.Prelude.{◌≡◌, ◌<◌, ◌^◌, replicate, slice_set};
-ghost use Rattle.bring_up.specs.Table.{asked_command, look_on, port_state, ports_advanced, refused, step_addressed, taken_access, taken_begun, taken_interrupted, word_in};
+ghost use Rattle.bring_up.specs.Table.{asked_command, look_on, look_read, port_state, ports_advanced, refused, step_addressed, taken_access, taken_begun, taken_interrupted, word_in};
 ghost use Rattle.bring_up.specs.Completions.{advanced};
 
 use crate::access::Access;
+use crate::checks::PortCheck;
 use crate::commands::{Asked, CommandRing, put_after};
 use crate::controller::{Controller, Port, PortPlace, is_set};
 use crate::options::Quirks;
-use crate::ports::{CONNECTED, PortReset, PortState, Ports, look_begun, looked_on};
+use crate::ports::{CONNECTED, PortReset, PortState, Ports, changes_in, look_begun, looked_on};
 use crate::service::EventRing;
 use crate::slots::Device;
 use crate::step::{Ended, Step};
@@ -42,6 +43,8 @@ pub struct Taken {
     pub tries: Tries,
     /// A port changed while none had a device.
     pub has_change: bool,
+    /// The port of a device that has its address changed, and is checked.
+    pub check: Option<PortCheck>,
 }
 
 /// The most resets of a port, and Address Device of a device; the most restarts.
@@ -102,6 +105,7 @@ impl Taken {
                 of_all: 0,
             },
             has_change: false,
+            check: None,
         }
     }
 
@@ -147,7 +151,7 @@ impl Taken {
                 input: self.layout.fixed(Fixed::InputContext),
                 slot: self.device.slot,
             },
-            Asked::ResetPort | Asked::Refuse(_) => Command::DisableSlot {
+            Asked::ResetPort | Asked::Forget | Asked::Refuse(_) => Command::DisableSlot {
                 slot: self.device.slot,
             },
         }
@@ -188,12 +192,34 @@ impl Taken {
                 place,
                 limit,
                 is_warmed,
+            } => self.look_read(place, limit, is_warmed, now, value),
+            Ports::ClearChanges {
+                place,
+                limit,
+                is_warmed,
+                value,
             } => self.look(place, limit, is_warmed, now, is_set(value, CONNECTED)),
             _ => self.step = at.after(&self.controller, now, value),
         }
     }
 
-    /// A port was read: its device is brought up where it was there long enough.
+    /// A port was read: its change bits are cleared, and then it is looked at.
+    fn look_read(&mut self, place: PortPlace, limit: u64, is_warmed: bool, now: u64, value: u32)
+        ensures { self.new ≡ look_read self.old place limit is_warmed now value }
+    {
+        if changes_in(value) == 0 {
+            self.look(place, limit, is_warmed, now, is_set(value, CONNECTED));
+        } else {
+            self.step = Step::Ports(Ports::ClearChanges {
+                place,
+                limit,
+                is_warmed,
+                value,
+            });
+        }
+    }
+
+    /// A port's device is brought up where it was there long enough.
     fn look(&mut self, place: PortPlace, limit: u64, is_warmed: bool, now: u64, is_connected: bool)
         ensures { self.new ≡ look_on self.old place limit is_warmed now is_connected }
     {

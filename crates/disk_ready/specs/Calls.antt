@@ -128,7 +128,7 @@ step_ready (Free verdict freeing at) = false
 step_ready (ServeFree removal) = false
 step_ready (Context verdict) = false
 step_ready (Take verdict count) = false
-step_ready (Pause until) = false
+step_ready (Pause question until) = false
 step_ready Ready = true
 
 abbrev pub ready_disk : DiskReady → Option ReadyDisk

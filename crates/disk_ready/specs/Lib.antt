@@ -5,3 +5,4 @@ pub mod Ends
 pub mod Steps
 pub mod Table
 pub mod Calls
+pub mod Rows

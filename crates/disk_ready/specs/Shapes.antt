@@ -1,8 +1,9 @@
 -- What a disk that is ready can be asked.
-use Rattle.std.specs.Prelude.{ℕ, ◌*◌, ◌/◌, ◌==◌, ◌&&◌, ◌||◌, min, nat_lt, not, if◌then◌else◌, Bool, Option, Some, None}
+use Rattle.std.specs.Prelude.{ℕ, ◌*◌, ◌/◌, ◌==◌, ◌&&◌, ◌||◌, min, not, if◌then◌else◌, Bool, Option, Some, None}
 use Rattle.disk_requests.specs.declared.answers.BlockLimits.{BlockLimits}
 use Rattle.disk_requests.specs.declared.answers.Capacity.{Capacity}
 use Rattle.disk_requests.specs.declared.refusals.DiskShape.{DiskShape}
+use Rattle.disk_up.specs.Bridges.{is_asm105x}
 use Rattle.disk_up.specs.declared.requests.Known.{Known}
 use Rattle.usb_descriptors.specs.declared.UasFunction.{UasFunction}
 use Rattle.usb_descriptors.specs.declared.stream_tags.Streams.{Streams}
@@ -21,9 +22,9 @@ limits_or_none None = no_limits
 abbrev pub lower_limit : ℕ → ℕ → ℕ
 lower_limit a b = if a == 0 then b else if b == 0 then a else min a b
 
--- ASMedia's ASM1053, 174c:55aa with fewer than 2^5 streams: 240 sectors of 512 bytes
+-- ASMedia's ASM1053, an ASM105x without 2^5 streams: 240 sectors of 512 bytes
 abbrev pub has_240_sectors : Known → UasFunction → Bool
-has_240_sectors known function = (known.vendor == 0x174c) && (known.product == 0x55aa) && nat_lt function.pipes.status.max_streams 5
+has_240_sectors known function = is_asm105x known function && not (function.pipes.status.max_streams == 5)
 
 abbrev pub bridge_limit : Known → UasFunction → ℕ → ℕ
 bridge_limit known function block_bytes =

@@ -6,7 +6,7 @@ use Rattle.bring_up.specs.declared.commands.Putting.{Putting}
 use Rattle.bring_up.specs.declared.taken.Taken.{Taken}
 use Rattle.bring_up.specs.Accesses.{load_in}
 use Rattle.bring_up.specs.CommandRings.{command_put}
-use Rattle.bring_up.specs.Services.{service_access}
+use Rattle.bring_up.specs.PortChecks.{look_access}
 use Rattle.disk_requests.specs.Commands.{asking_cdb}
 use Rattle.disk_requests.specs.Units.{command_text}
 use Rattle.disk_up.specs.Controls.{at_or_zero, next_third}
@@ -89,13 +89,13 @@ abbrev pub step_access : ReadyStep → World → Pipes → Access
 step_access step.Begin w pipes = Rest 0
 step_access (step.Sending question at) w pipes =
     put_access at w.taken.controller w.taken.layout (target_of w.taken pipes) (sent_of question) w.ready.spots (pieces_of w.taken.layout question)
-step_access (step.Serve awaited) w pipes = service_access awaited.service w.taken.controller w.taken.layout w.taken.events
+step_access (step.Serve awaited) w pipes = look_access w.taken.check w.taken awaited.service
 step_access (step.Status awaited count) w pipes = load_in (place_of w.taken.layout (OfTag 1 StatusUnit)) count
 step_access (step.Free verdict freeing at) w pipes = freeing_access w pipes freeing at
-step_access (step.ServeFree removal) w pipes = service_access removal.service w.taken.controller w.taken.layout w.taken.events
+step_access (step.ServeFree removal) w pipes = look_access w.taken.check w.taken removal.service
 step_access (step.Context verdict) w pipes = load_in (context_of w.taken.layout DeviceContext 32 (context_index pipes.data_in)) 32
 step_access (step.Take verdict count) w pipes = load_in (Some (address_of w.taken.layout (At Buffer))) count
-step_access (step.Pause until) w pipes = Rest until
+step_access (step.Pause question until) w pipes = Rest until
 step_access step.Ready w pipes = Rest (2 ^ 64 - 1)
 
 abbrev pub ready_access : World → Pipes → Access

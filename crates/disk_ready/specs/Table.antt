@@ -1,6 +1,7 @@
 -- Rows 15 and 16: what comes after each step's access.
 use Rattle.std.specs.Prelude.{ℕ, ◌==◌, ◌&&◌, min, nat_le, not, if◌then◌else◌, Bool, true, false, Option, Some, None, is_some, List, [], length}
 use Rattle.byteorder.specs.Endian.{little_number}
+use Rattle.bring_up.specs.declared.checks.PortCheck.{PortCheck}
 use Rattle.bring_up.specs.declared.commands.Completed.{Completed}
 use Rattle.bring_up.specs.declared.commands.Putting.{Putting}
 use Rattle.bring_up.specs.declared.commands.Putting.TheVariants as putting
@@ -14,7 +15,8 @@ use Rattle.bring_up.specs.declared.why.Why.TheVariants.{NeverReady}
 use Rattle.bring_up.specs.Accesses.{later}
 use Rattle.bring_up.specs.CommandRings.{begun_command, command_address, next_command}
 use Rattle.bring_up.specs.Completions.{given_up, restarted, tried_again}
-use Rattle.bring_up.specs.Services.{closing, next_event, passed, rested, service_after, service_begun, taken_event, woken}
+use Rattle.bring_up.specs.PortChecks.{check_advanced, event_passed}
+use Rattle.bring_up.specs.Services.{closing, passed, rested, service_after, service_begun, taken_event, woken}
 use Rattle.disk_requests.specs.declared.senses.Readiness.{Readiness}
 use Rattle.disk_requests.specs.declared.senses.Readiness.TheVariants as readiness
 use Rattle.disk_up.specs.Endings.{is_controller_event}
@@ -74,7 +76,7 @@ sending_after r question None =
 abbrev pub next_step : World → Next → ℕ → World
 next_step w (next.Ask question) now = with_ready w (asked w.ready question)
 next_step w next.Size now = with_ready w (row_begun w.ready question.ShortCapacity now)
-next_step w next.Pause now = with_ready w (in_step w.ready (step.Pause (later now 200)))
+next_step w (next.Pause question) now = with_ready w (in_step w.ready (step.Pause question (later now 200)))
 next_step w (next.Refused why) now = with_taken w (given_up w.taken why)
 next_step w next.Ready now = with_ready w (in_step w.ready step.Ready)
 
@@ -167,14 +169,16 @@ event_taken false w pipes awaited now came = with_ready w (serve_on w.ready (see
 
 abbrev pub event_came : World → Pipes → Awaited → ℕ → Event → World
 event_came w pipes awaited now came =
-    event_taken (is_controller_event came) (with_taken w (record w.taken { events = next_event w.taken.events })) pipes awaited now came
+    event_taken (is_controller_event came) (with_taken w (event_passed w.taken came)) pipes awaited now came
 
 abbrev pub served_by : Serving → World → Pipes → Awaited → ℕ → ℕ → List ℕ → World
 served_by serving.Event w pipes awaited now value bytes = event_came w pipes awaited now (taken_event bytes)
 served_by _ w pipes awaited now value bytes = went w awaited now (service_after awaited.service w.taken.events.cycle value)
 
-abbrev pub served : World → Pipes → Awaited → ℕ → ℕ → List ℕ → World
-served w pipes awaited now value bytes = served_by awaited.service.at w pipes awaited now value bytes
+-- a check of the device's port comes first
+abbrev pub served : Option PortCheck → World → Pipes → Awaited → ℕ → ℕ → List ℕ → World
+served (Some check) w pipes awaited now value bytes = with_taken w (check_advanced w.taken check value)
+served None w pipes awaited now value bytes = served_by awaited.service.at w pipes awaited now value bytes
 
 -- THE STATUS UNIT: another tag's, or none of a command, has the device tried again
 
@@ -248,7 +252,7 @@ free_taken (event.Controller code) w removal now = with_taken w (restarted w.tak
 free_taken (event.Other kind) w removal now = free_passed w removal
 
 abbrev pub free_event : World → Removal → ℕ → Event → World
-free_event w removal now came = free_taken came (with_taken w (record w.taken { events = next_event w.taken.events })) removal now
+free_event w removal now came = free_taken came (with_taken w (event_passed w.taken came)) removal now
 
 abbrev pub free_went : World → Removal → ℕ → Served → World
 free_went w removal now (On next) = with_ready w (free_on w.ready (record removal { service = next }))
@@ -259,8 +263,9 @@ abbrev pub free_served_by : Serving → World → Removal → ℕ → ℕ → Li
 free_served_by serving.Event w removal now value bytes = free_event w removal now (taken_event bytes)
 free_served_by _ w removal now value bytes = free_went w removal now (service_after removal.service w.taken.events.cycle value)
 
-abbrev pub free_served : World → Removal → ℕ → ℕ → List ℕ → World
-free_served w removal now value bytes = free_served_by removal.service.at w removal now value bytes
+abbrev pub free_served : Option PortCheck → World → Removal → ℕ → ℕ → List ℕ → World
+free_served (Some check) w removal now value bytes = with_taken w (check_advanced w.taken check value)
+free_served None w removal now value bytes = free_served_by removal.service.at w removal now value bytes
 
 -- 6.2.3: an endpoint that stands is Stopped, 3
 abbrev pub is_stopped : EndpointState → Bool
@@ -274,8 +279,9 @@ context_taken w verdict word = if is_stopped (endpoint_state_in word) then movin
 abbrev pub first_word : List ℕ → ℕ
 first_word bytes = if length bytes == 32 then little_number 4 bytes else 0
 
-abbrev pub pause_over : World → ℕ → World
-pause_over w now = if nat_le w.ready.limit now then with_taken w (given_up w.taken NeverReady) else with_ready w (asked w.ready question.UnitReady)
+abbrev pub pause_over : World → Question → ℕ → World
+pause_over w question now =
+    if nat_le w.ready.limit now then with_taken w (late w.taken question) else with_ready w (asked w.ready question)
 
 -- THE TABLE
 
@@ -283,13 +289,13 @@ abbrev pub step_advanced : ReadyStep → World → Pipes → ℕ → ℕ → Lis
 step_advanced step.Begin w pipes now value bytes = with_ready w (row_begun w.ready question.Inquiry now)
 step_advanced (step.Sending question at) w pipes now value bytes =
     with_ready w (sending_after w.ready question (put_after at (sent_of question) w.ready.spots (pieces_of w.taken.layout question)))
-step_advanced (step.Serve awaited) w pipes now value bytes = served w pipes awaited now value bytes
+step_advanced (step.Serve awaited) w pipes now value bytes = served w.taken.check w pipes awaited now value bytes
 step_advanced (step.Status awaited count) w pipes now value bytes = status_taken w awaited now (told_in bytes 1)
 step_advanced (step.Free verdict freeing at) w pipes now value bytes = with_ready w (freeing_put w.ready verdict freeing at now)
-step_advanced (step.ServeFree removal) w pipes now value bytes = free_served w removal now value bytes
+step_advanced (step.ServeFree removal) w pipes now value bytes = free_served w.taken.check w removal now value bytes
 step_advanced (step.Context verdict) w pipes now value bytes = context_taken w verdict (first_word bytes)
 step_advanced (step.Take verdict count) w pipes now value bytes = concluded w verdict bytes now
-step_advanced (step.Pause until) w pipes now value bytes = pause_over w now
+step_advanced (step.Pause question until) w pipes now value bytes = pause_over w question now
 step_advanced step.Ready w pipes now value bytes = w
 
 abbrev pub ready_advanced : World → Pipes → ℕ → ℕ → List ℕ → World

@@ -60,8 +60,12 @@ impl Readying {
         value: u32,
         bytes: &[u8],
     )
-        ensures { record { ready = self.new; taken = taken.new } ≡ free_served (record { ready = self.old; taken = taken.old }) removal now value bytes.now }
+        ensures { record { ready = self.new; taken = taken.new } ≡ free_served taken.old.check (record { ready = self.old; taken = taken.old }) removal now value bytes.now }
     {
+        if let Some(check) = taken.check {
+            taken.check_port(check, value);
+            return;
+        }
         match removal.service.at {
             Serving::Event => self.free_event(taken, removal, now, taken_event(bytes)),
             _ => {
@@ -74,7 +78,7 @@ impl Readying {
     fn free_event(&mut self, taken: &mut Taken, removal: Removal, now: u64, event: Event)
         ensures { record { ready = self.new; taken = taken.new } ≡ free_event (record { ready = self.old; taken = taken.old }) removal now event }
     {
-        taken.events = taken.events.next();
+        taken.pass_event(event);
         match event {
             Event::Controller { .. } => taken.restart(now),
             Event::Command { trb, code, slot } if trb == taken.commands.address(&taken.layout) => {

@@ -3,9 +3,11 @@
 //! | Question | Leads to |
 //! |---|---|
 //! | INQUIRY | `Why` it is refused: `NotADisk` |
-//! | TEST UNIT READY until GOOD | a UNIT ATTENTION is asked again, ten times in all; a disk is started once, and asked again each 200 ms; `NoMedium`, `NeverReady` |
+//! | TEST UNIT READY until GOOD | a disk is started once, and asked again each 200 ms; `NoMedium`, `NeverReady` |
 //! | READ CAPACITY(10) | `BadCapacity`, `BlockLength` |
-//! | (16), pages 00h and B0h | each may be refused; asked of SPC-3 and later, and (16) of 2^32 blocks and more |
+//! | (16), pages 00h and B0h | each may be refused; asked of SPC-3 and later, and (16) of 2^32 blocks and more; `BadCapacity`, `BlockLength` |
+//!
+//! A UNIT ATTENTION is asked again, ten times in a row of the table. What may pass of INQUIRY and READ CAPACITY(10), too, is asked again each 200 ms.
 //!
 //! [`DiskReady`] owns a [`DiskUp`], tells its accesses until it is configured, and then its own. INQUIRY and TEST UNIT READY have 30,000 ms, then the
 //! disk isn't used (`NeverReady`). Its size has as many, then the device is tried again, as it is where a TD fails or the status unit is another
@@ -30,6 +32,7 @@ ghost use Rattle.disk_ready.specs.Calls.{answered, asked_access, begun_ready, di
 
 mod ends;
 mod freeing;
+mod laws;
 mod puts;
 mod questions;
 mod serving;
@@ -40,6 +43,7 @@ mod stores;
 use bring_up::{Access, AnswerFault, Options, Stage, fits, is_gone, word_in};
 use disk_up::DiskUp;
 pub use ends::{Ends, Td};
+pub use laws::{bells_are_rung, thirds_are_put};
 pub use puts::{PipeRing, Put, Sent, Spots, Target, Way};
 pub use questions::{Heard, Learned, Next, Question};
 pub use shapes::ReadyDisk;

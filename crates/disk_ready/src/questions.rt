@@ -1,6 +1,6 @@
 //! Rows 15 and 16: what a disk is asked, and what its answers lead to (SPC-4, SBC-3).
 ghost use Rattle.std.specs.Prelude.{◌≡◌};
-ghost use Rattle.disk_ready.specs.Questions.{asking_of, behind_inquiry, behind_long, behind_short, by_short, data_bytes, has_version_5, heard, inquiry_heard, is_attention, limits_heard, list_heard, long_heard, nothing_learned, on, pages_next, question_heard, short_heard, unit_heard, why_of};
+ghost use Rattle.disk_ready.specs.Questions.{asking_of, behind_inquiry, behind_long, behind_short, by_short, data_bytes, has_version_5, heard, inquiry_heard, is_as_short, is_attention, limits_heard, list_heard, long_heard, may_pass, nothing_learned, on, pages_next, paused_or, question_heard, short_heard, unit_heard, why_of};
 
 use bring_up::Why;
 use disk_requests::{
@@ -27,7 +27,7 @@ pub struct Learned {
     pub inquiry: Option<InquiryData>,
     pub capacity: Option<Capacity>,
     pub limits: Option<BlockLimits>,
-    /// UNIT ATTENTIONs that it told.
+    /// UNIT ATTENTIONs that it told in this row.
     pub attentions: u8,
     /// It was started.
     pub is_started: bool,
@@ -39,8 +39,8 @@ pub enum Next {
     Ask(Question),
     /// The next row: how large it is.
     Size,
-    /// TEST UNIT READY, a little later.
-    Pause,
+    /// A question again, a little later.
+    Pause(Question),
     Refused(Why),
     /// The disk is ready.
     Ready,
@@ -53,7 +53,7 @@ pub struct Heard {
     pub next: Next,
 }
 
-/// The most UNIT ATTENTIONs that a disk tells.
+/// The most UNIT ATTENTIONs that a disk tells in a row.
 const MOST_ATTENTIONS: u8 = 10;
 
 /// VERSION of SPC-3, from which on READ CAPACITY(16) and pages are asked.
@@ -153,7 +153,18 @@ impl Learned {
     {
         match how {
             Readiness::Ready => self.behind_inquiry(read_inquiry(bytes)),
-            _ => on(self, Next::Refused(Why::NotADisk)),
+            _ => self.paused_or(Question::Inquiry, how, Why::NotADisk),
+        }
+    }
+
+    /// What may pass is asked again a little later.
+    fn paused_or(self, question: Question, how: Readiness, why: Why) -> Heard
+        ensures { result ≡ paused_or self question how why }
+    {
+        if may_pass(how) {
+            on(self, Next::Pause(question))
+        } else {
+            on(self, Next::Refused(why))
         }
     }
 
@@ -176,7 +187,13 @@ impl Learned {
         ensures { result ≡ unit_heard self how }
     {
         match how {
-            Readiness::Ready => on(self, Next::Size),
+            Readiness::Ready => {
+                let learned = Learned {
+                    attentions: 0,
+                    ..self
+                };
+                on(learned, Next::Size)
+            }
             Readiness::Start if !self.is_started => {
                 let learned = Learned {
                     is_started: true,
@@ -184,9 +201,12 @@ impl Learned {
                 };
                 on(learned, Next::Ask(Question::StartUnit))
             }
-            Readiness::Start | Readiness::Wait => on(self, Next::Pause),
+            Readiness::Start | Readiness::Wait | Readiness::Busy | Readiness::Failed => on(
+                self,
+                Next::Pause(Question::UnitReady),
+            ),
             Readiness::NoMedium => on(self, Next::Refused(Why::NoMedium)),
-            Readiness::Again | Readiness::Failed => on(self, Next::Refused(Why::NeverReady)),
+            Readiness::Again => on(self, Next::Refused(Why::NeverReady)),
         }
     }
 
@@ -195,7 +215,7 @@ impl Learned {
     {
         match how {
             Readiness::Ready => self.behind_short(read_capacity10(bytes)),
-            _ => on(self, Next::Refused(Why::BadCapacity)),
+            _ => self.paused_or(Question::ShortCapacity, how, Why::BadCapacity),
         }
     }
 
@@ -230,7 +250,7 @@ impl Learned {
     {
         match how {
             Readiness::Ready => self.behind_long(read_capacity16(bytes)),
-            _ => self.by_short(Why::BadCapacity),
+            _ => self.by_short(),
         }
     }
 
@@ -238,17 +258,21 @@ impl Learned {
         ensures { result ≡ behind_long self read }
     {
         match read {
-            Err(fault) => self.by_short(why_of(fault)),
-            Ok(capacity) => on(self.with_capacity(capacity), self.pages_next()),
+            Err(fault) => on(self, Next::Refused(why_of(fault))),
+            Ok(capacity) if is_as_short(self.capacity, capacity) => on(
+                self.with_capacity(capacity),
+                self.pages_next(),
+            ),
+            Ok(_) => on(self, Next::Refused(Why::BlockLength)),
         }
     }
 
     /// READ CAPACITY(16) told nothing: what the short one told counts.
-    fn by_short(self, why: Why) -> Heard
-        ensures { result ≡ by_short self.capacity self why }
+    fn by_short(self) -> Heard
+        ensures { result ≡ by_short self.capacity self }
     {
         match self.capacity {
-            None => on(self, Next::Refused(why)),
+            None => on(self, Next::Refused(Why::BadCapacity)),
             Some(_) => on(self, self.pages_next()),
         }
     }
@@ -295,6 +319,26 @@ fn is_attention(how: Readiness) -> bool
     ensures { result ≡ is_attention how }
 {
     matches!(how, Readiness::Again)
+}
+
+/// Whether a command that ended so may end otherwise a little later.
+fn may_pass(how: Readiness) -> bool
+    ensures { result ≡ may_pass how }
+{
+    match how {
+        Readiness::Again | Readiness::Start | Readiness::Wait | Readiness::Busy => true,
+        Readiness::Ready | Readiness::NoMedium | Readiness::Failed => false,
+    }
+}
+
+/// Whether READ CAPACITY(16) tells blocks of as many bytes as the short one, where that told any.
+fn is_as_short(short: Option<Capacity>, capacity: Capacity) -> bool
+    ensures { result ≡ is_as_short short capacity }
+{
+    match short {
+        Some(short) => capacity.block_bytes == short.block_bytes,
+        None => true,
+    }
 }
 
 /// Whether READ CAPACITY(16) and pages are asked.

@@ -15,7 +15,7 @@ use usb_descriptors::Pipes;
 /// ms that data may come behind a status GOOD.
 const GRACE: u64 = 1_000;
 
-/// ms between two TEST UNIT READYs of a disk that becomes ready by itself.
+/// ms before a question is asked again.
 const PAUSE: u64 = 200;
 
 /// The most bytes of a status unit.
@@ -32,8 +32,12 @@ impl Readying {
         value: u32,
         bytes: &[u8],
     )
-        ensures { record { ready = self.new; taken = taken.new } ≡ served (record { ready = self.old; taken = taken.old }) pipes.now awaited now value bytes.now }
+        ensures { record { ready = self.new; taken = taken.new } ≡ served taken.old.check (record { ready = self.old; taken = taken.old }) pipes.now awaited now value bytes.now }
     {
+        if let Some(check) = taken.check {
+            taken.check_port(check, value);
+            return;
+        }
         match awaited.service.at {
             Serving::Event => self.event_came(taken, pipes, awaited, now, taken_event(bytes)),
             _ => {
@@ -53,7 +57,7 @@ impl Readying {
     )
         ensures { record { ready = self.new; taken = taken.new } ≡ event_came (record { ready = self.old; taken = taken.old }) pipes.now awaited now event }
     {
-        taken.events = taken.events.next();
+        taken.pass_event(event);
         match event {
             Event::Controller { .. } => taken.restart(now),
             _ => {
@@ -218,7 +222,12 @@ impl Readying {
         match next {
             Next::Ask(question) => self.ask(question),
             Next::Size => self.begin_row(Question::ShortCapacity, now),
-            Next::Pause => self.step = ReadyStep::Pause(later(now, PAUSE)),
+            Next::Pause(question) => {
+                self.step = ReadyStep::Pause {
+                    question,
+                    until: later(now, PAUSE),
+                };
+            }
             Next::Refused(why) => taken.give_up(why),
             Next::Ready => self.step = ReadyStep::Ready,
         }
@@ -226,7 +235,7 @@ impl Readying {
 }
 
 /// A row's time is over: the disk isn't used, or the device is tried again.
-fn late(taken: &mut Taken, question: Question)
+pub(crate) fn late(taken: &mut Taken, question: Question)
     ensures { taken.new ≡ late taken.old question }
 {
     if is_row_15(question) {

@@ -93,7 +93,7 @@ fn bridge_limit(known: &Known, function: &UasFunction, block_bytes: u32) -> u32
 fn has_240_sectors(known: &Known, function: &UasFunction) -> bool
     ensures { result ≡ has_240_sectors known.now function.now }
 {
-    known.vendor == 0x174c && known.product == 0x55aa && function.pipes.status.max_streams < 5
+    known.is_asm105x(function) && function.pipes.status.max_streams != 5
 }
 
 /// Whether blocks can be unmapped (SBC-3, 5.16 and 6.5.3).

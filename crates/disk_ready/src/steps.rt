@@ -6,8 +6,9 @@ ghost use Rattle.disk_ready.specs.Table.{asked, found_advanced, pause_over, read
 use crate::ends::Ends;
 use crate::puts::{Put, Sent, Spots, Target, Way};
 use crate::questions::{Learned, Question};
+use crate::serving::late;
 use crate::stores::place_in;
-use bring_up::{Access, Completed, Putting, Service, Serving, Taken, Why, later, load_in};
+use bring_up::{Access, Completed, Putting, Service, Serving, Taken, later, load_in};
 use disk_requests::{Readiness, asking_cdb, command_unit};
 use disk_up::next_third;
 use host_layout::{Fixed, Layout, Piece, Ring, TagArea};
@@ -84,8 +85,11 @@ pub enum ReadyStep {
         verdict: Verdict,
         count: u32,
     },
-    /// TEST UNIT READY is asked again at this time.
-    Pause(u64),
+    /// A question is asked again at this time.
+    Pause {
+        question: Question,
+        until: u64,
+    },
     Ready,
 }
 
@@ -175,31 +179,30 @@ impl Readying {
     fn access(&self, taken: &Taken, pipes: &Pipes) -> Access
         ensures { result ≡ ready_access (record { ready = self.now; taken = taken.now }) pipes.now }
     {
-        let c = &taken.controller;
         let layout = &taken.layout;
         match self.step {
             ReadyStep::Begin => Access::Rest(0),
             ReadyStep::Sending { question, at } => at.access(
-                c,
+                &taken.controller,
                 layout,
                 &target_of(taken, pipes),
                 &sent_of(question),
                 self.spots,
                 &pieces_of(layout, question),
             ),
-            ReadyStep::Serve(awaited) => awaited.service.access(c, layout, taken.events),
+            ReadyStep::Serve(awaited) => taken.look_access(awaited.service),
             ReadyStep::Status { count, .. } => load_in(
                 layout.of_tag(TAG, TagArea::StatusUnit),
                 count,
             ),
             ReadyStep::Free { freeing, at, .. } => self.freeing_access(taken, pipes, freeing, at),
-            ReadyStep::ServeFree(removal) => removal.service.access(c, layout, taken.events),
+            ReadyStep::ServeFree(removal) => taken.look_access(removal.service),
             ReadyStep::Context(_) => load_in(
                 layout.device_context(pipes.data_in.context_index()),
                 CONTEXT_BYTES,
             ),
             ReadyStep::Take { count, .. } => load_in(Some(layout.fixed(Fixed::Buffer)), count),
-            ReadyStep::Pause(until) => Access::Rest(until),
+            ReadyStep::Pause { until, .. } => Access::Rest(until),
             ReadyStep::Ready => Access::Rest(u64::MAX),
         }
     }
@@ -274,7 +277,7 @@ impl Readying {
             ReadyStep::ServeFree(removal) => self.serve_free(taken, removal, now, value, bytes),
             ReadyStep::Context(verdict) => self.context_taken(taken, verdict, bytes),
             ReadyStep::Take { verdict, .. } => self.conclude(taken, verdict, bytes, now),
-            ReadyStep::Pause(_) => self.pause_over(taken, now),
+            ReadyStep::Pause { question, .. } => self.pause_over(taken, question, now),
             ReadyStep::Ready => {}
         }
     }
@@ -315,14 +318,14 @@ impl Readying {
         };
     }
 
-    /// TEST UNIT READY again, unless its row's time is over.
-    fn pause_over(&mut self, taken: &mut Taken, now: u64)
-        ensures { record { ready = self.new; taken = taken.new } ≡ pause_over (record { ready = self.old; taken = taken.old }) now }
+    /// A question again, unless its row's time is over.
+    fn pause_over(&mut self, taken: &mut Taken, question: Question, now: u64)
+        ensures { record { ready = self.new; taken = taken.new } ≡ pause_over (record { ready = self.old; taken = taken.old }) question now }
     {
         if self.limit <= now {
-            taken.give_up(Why::NeverReady);
+            late(taken, question);
         } else {
-            self.ask(Question::UnitReady);
+            self.ask(question);
         }
     }
 

@@ -82,12 +82,12 @@ RowLongCapacity =
 abbrev pub RowBlockLength : Type 0
 RowBlockLength = short_capacity_in (0 ∷ 0 ∷ 0 ∷ 0x63 ∷ 0 ∷ 0 ∷ 0x01 ∷ 0x00 ∷ []) ≡ Err BlockLength
 
--- a disk that was reset, that is to be started, that becomes ready, and without a medium
+-- a disk that was reset, that is to be started, that becomes ready, without a medium, and that is busy
 abbrev pub RowReadiness : Type 0
 RowReadiness =
     (readiness_in 0x02 attention ≡ readiness.Again) × (readiness_in 0x02 (0x72 ∷ 0x02 ∷ 0x04 ∷ 0x02 ∷ []) ≡ readiness.Start)
     × (readiness_in 0x02 (0x72 ∷ 0x02 ∷ 0x04 ∷ 0x01 ∷ []) ≡ readiness.Wait) × (readiness_in 0x02 (0x72 ∷ 0x02 ∷ 0x3a ∷ 0 ∷ []) ≡ readiness.NoMedium)
-    × (readiness_in 0x02 [] ≡ readiness.Failed)
+    × (readiness_in 0x02 [] ≡ readiness.Failed) × (readiness_in 0x08 [] ≡ readiness.Busy) × (readiness_in 0x28 [] ≡ readiness.Busy)
 
 -- THE ANSWERS OF THIS REPOSITORY'S OWN DISK
 

@@ -2,7 +2,7 @@
 use Rattle.std.specs.Prelude.{ℕ, ◌%◌, ◌==◌, ◌&&◌, ◌||◌, nat_le, if◌then◌else◌, List, length, slice_index, Option, None, Some}
 use Rattle.scsi_cmd.specs.declared.Sense.{Sense}
 use Rattle.disk_requests.specs.declared.senses.Readiness.{Readiness}
-use Rattle.disk_requests.specs.declared.senses.Readiness.TheVariants.{Ready, Again, Start, Wait, NoMedium, Failed}
+use Rattle.disk_requests.specs.declared.senses.Readiness.TheVariants.{Ready, Again, Start, Wait, NoMedium, Busy, Failed}
 
 -- the response code, bits 6 to 0 of byte 0: 70h and 71h are of the fixed format, 72h and 73h of that with descriptors
 abbrev pub response_code : List ℕ → ℕ
@@ -30,9 +30,11 @@ readiness_of (Some sense) =
     else (if (sense.key == 2) && (sense.asc == 0x3a) then NoMedium
     else Failed)))
 
--- GOOD is ready; CHECK CONDITION (2) is what its sense says; any other status is a failure
+-- GOOD is ready; CHECK CONDITION (2) is what its sense says; BUSY (8) and TASK SET FULL (28h) say that it is to be asked later; any other status is
+-- a failure
 abbrev pub readiness_in : ℕ → List ℕ → Readiness
 readiness_in status sense =
     if status == 0x00 then Ready
     else (if status == 0x02 then readiness_of (sense_in sense)
-    else Failed)
+    else (if status == 0x08 || status == 0x28 then Busy
+    else Failed))

@@ -4,10 +4,14 @@ ghost use Rattle.disk_requests.specs.Senses.{readiness_in, readiness_of, respons
 
 use scsi_cmd::Sense;
 
-/// The statuses GOOD and CHECK CONDITION.
+/// The statuses GOOD, CHECK CONDITION, BUSY and TASK SET FULL.
 const GOOD: u8 = 0x00;
 
 const CHECK_CONDITION: u8 = 0x02;
+
+const BUSY: u8 = 0x08;
+
+const TASK_SET_FULL: u8 = 0x28;
 
 /// What a TEST UNIT READY's answer says.
 #[derive(Clone, Copy, Debug, PartialEq, Eq)]
@@ -21,6 +25,8 @@ pub enum Readiness {
     Wait,
     /// There is no medium.
     NoMedium,
+    /// It has no room for a command now.
+    Busy,
     /// Anything else.
     Failed,
 }
@@ -58,6 +64,7 @@ pub fn readiness_of(status: u8, sense: &[u8]) -> Readiness
     match status {
         GOOD => Readiness::Ready,
         CHECK_CONDITION => told_by(read_sense(sense)),
+        BUSY | TASK_SET_FULL => Readiness::Busy,
         _ => Readiness::Failed,
     }
 }

@@ -1,5 +1,6 @@
 -- What a transfer's, and a command's, events came to.
 use Rattle.std.specs.Prelude.{ℕ, ◌==◌, nat_le, if◌then◌else◌, Bool, true, false, Option, Some, None, List}
+use Rattle.bring_up.specs.declared.checks.PortCheck.{PortCheck}
 use Rattle.bring_up.specs.declared.commands.Completed.{Completed}
 use Rattle.bring_up.specs.declared.service.Served.{Served}
 use Rattle.bring_up.specs.declared.service.Served.TheVariants.{On, Closed, Broken}
@@ -9,9 +10,10 @@ use Rattle.bring_up.specs.declared.service.Serving.TheVariants as serving
 use Rattle.bring_up.specs.declared.why.Why.TheVariants.{NotConfigured}
 use Rattle.bring_up.specs.CommandRings.{begun_command, command_address, next_command}
 use Rattle.bring_up.specs.Completions.{given_up, restarted, tried_again}
-use Rattle.bring_up.specs.Services.{closing, next_event, passed, rested, service_after, taken_event}
+use Rattle.bring_up.specs.PortChecks.{check_advanced, event_passed}
+use Rattle.bring_up.specs.Services.{closing, passed, rested, service_after, taken_event}
 use Rattle.host_trbs.specs.declared.events.Completion.{Completion}
-use Rattle.host_trbs.specs.declared.events.Completion.TheVariants.{Success}
+use Rattle.host_trbs.specs.declared.events.Completion.TheVariants.{Success, ContextState}
 use Rattle.host_trbs.specs.declared.events.Event.{Event}
 use Rattle.host_trbs.specs.declared.events.Event.TheVariants as event
 use Rattle.host_trbs.specs.Events.{completion_in}
@@ -77,7 +79,7 @@ event_taken false w request moved ended service now came =
 
 abbrev pub event_came : World → Request → ℕ → Option Ending → Service → ℕ → Event → World
 event_came w request moved ended service now came =
-    event_taken (is_controller_event came) (with_taken w (record w.taken { events = next_event w.taken.events })) request moved ended service now came
+    event_taken (is_controller_event came) (with_taken w (event_passed w.taken came)) request moved ended service now came
 
 abbrev pub went : World → Request → ℕ → Option Ending → Service → ℕ → Served → World
 went w request moved ended service now (On next) = with_find w (serve_on w.finding request moved ended next)
@@ -89,8 +91,10 @@ served_by serving.Event w request moved ended service now value bytes = event_ca
 served_by _ w request moved ended service now value bytes =
     went w request moved ended service now (service_after service w.taken.events.cycle value)
 
-abbrev pub served : World → Request → ℕ → Option Ending → Service → ℕ → ℕ → List ℕ → World
-served w request moved ended service now value bytes = served_by service.at w request moved ended service now value bytes
+-- a check of the device's port comes first
+abbrev pub served : Option PortCheck → World → Request → ℕ → Option Ending → Service → ℕ → ℕ → List ℕ → World
+served (Some check) w request moved ended service now value bytes = with_taken w (check_advanced w.taken check value)
+served None w request moved ended service now value bytes = served_by service.at w request moved ended service now value bytes
 
 -- A COMMAND
 
@@ -108,8 +112,15 @@ uncleared w Reset now = with_taken w (restarted w.taken now)
 uncleared w Move now = with_taken w (restarted w.taken now)
 uncleared w Configure now = with_taken w (given_up w.taken NotConfigured)
 
+-- 19, Context State Error: Reset Endpoint goes on, for endpoint 0 wasn't halted
+abbrev pub unhalted : World → Clearing → ℕ → World
+unhalted w Reset now = cleared_as w Reset
+unhalted w Move now = uncleared w Move now
+unhalted w Configure now = uncleared w Configure now
+
 abbrev pub cleared : World → Clearing → Completion → ℕ → World
 cleared w clearing Success now = cleared_as w clearing
+cleared w clearing ContextState now = unhalted w clearing now
 cleared w clearing _ now = uncleared w clearing now
 
 abbrev pub clear_closed : World → Clearing → Option Completed → Service → ℕ → World
@@ -134,7 +145,7 @@ clear_taken (event.Other kind) w clearing came service now = with_find w (clear_
 
 abbrev pub clear_event : World → Clearing → Option Completed → Service → ℕ → Event → World
 clear_event w clearing came service now event =
-    clear_taken event (with_taken w (record w.taken { events = next_event w.taken.events })) clearing came service now
+    clear_taken event (with_taken w (event_passed w.taken event)) clearing came service now
 
 abbrev pub clear_went : World → Clearing → Option Completed → Service → ℕ → Served → World
 clear_went w clearing came service now (On next) = with_find w (clear_on w.finding clearing came next)
@@ -145,17 +156,19 @@ abbrev pub clear_by : Serving → World → Clearing → Option Completed → Se
 clear_by serving.Event w clearing came service now value bytes = clear_event w clearing came service now (taken_event bytes)
 clear_by _ w clearing came service now value bytes = clear_went w clearing came service now (service_after service w.taken.events.cycle value)
 
-abbrev pub clear_served : World → Clearing → Option Completed → Service → ℕ → ℕ → List ℕ → World
-clear_served w clearing came service now value bytes = clear_by service.at w clearing came service now value bytes
+abbrev pub clear_served : Option PortCheck → World → Clearing → Option Completed → Service → ℕ → ℕ → List ℕ → World
+clear_served (Some check) w clearing came service now value bytes = with_taken w (check_advanced w.taken check value)
+clear_served None w clearing came service now value bytes = clear_by service.at w clearing came service now value bytes
 
 -- WHAT COMES AFTER EACH STEP'S ACCESS
 
 abbrev pub step_advanced : FindStep → World → ℕ → ℕ → ℕ → List ℕ → World
 step_advanced (step.Send request at) w tags now value bytes = with_find w (sent w.finding request (send_after request at) now)
-step_advanced (step.Serve request moved ended service) w tags now value bytes = served w request moved ended service now value bytes
+step_advanced (step.Serve request moved ended service) w tags now value bytes = served w.taken.check w request moved ended service now value bytes
 step_advanced (step.Take request moved) w tags now value bytes = taken_answer w request tags bytes
 step_advanced (step.Clear clearing at) w tags now value bytes = with_find w (clearing_put w.finding clearing at now)
-step_advanced (step.ServeClear clearing came service) w tags now value bytes = clear_served w clearing came service now value bytes
+step_advanced (step.ServeClear clearing came service) w tags now value bytes =
+    clear_served w.taken.check w clearing came service now value bytes
 step_advanced (step.Pipes function streams at) w tags now value bytes =
     with_find w (piped w.finding w.taken.commands function streams (pipes_after at w.taken.layout streams))
 step_advanced step.Configured w tags now value bytes = w

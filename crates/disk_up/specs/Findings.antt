@@ -9,7 +9,8 @@ use Rattle.bring_up.specs.declared.taken.Taken.{Taken}
 use Rattle.bring_up.specs.Accesses.{load_in}
 use Rattle.bring_up.specs.CommandRings.{begun_command, command_put}
 use Rattle.bring_up.specs.Completions.{given_up}
-use Rattle.bring_up.specs.Services.{service_access, service_begun, woken}
+use Rattle.bring_up.specs.PortChecks.{look_access}
+use Rattle.bring_up.specs.Services.{service_begun, woken}
 use Rattle.host_layout.specs.declared.layout.Area.TheVariants.{At}
 use Rattle.host_layout.specs.declared.layout.Fixed.TheVariants.{Buffer, InputContext}
 use Rattle.host_layout.specs.Places.{address_of}
@@ -52,7 +53,7 @@ in_step f next = record f { step = next }
 abbrev pub begun_finding : Finding
 begun_finding = record {
   third = 0;
-  known = record { vendor = 0; product = 0; disk = None };
+  known = record { vendor = 0; product = 0; release = 0; disk = None };
   step = step.Send request.Device Zeros;
 }
 
@@ -71,10 +72,10 @@ clearing_access w clearing at =
 
 abbrev pub step_access : FindStep → World → Access
 step_access (step.Send request at) w = send_access w.taken.controller w.taken.layout w.taken.device.slot w.finding.third request at
-step_access (step.Serve request moved ended service) w = service_access service w.taken.controller w.taken.layout w.taken.events
+step_access (step.Serve request moved ended service) w = look_access w.taken.check w.taken service
 step_access (step.Take request moved) w = load_in (Some (address_of w.taken.layout (At Buffer))) moved
 step_access (step.Clear clearing at) w = clearing_access w clearing at
-step_access (step.ServeClear clearing came service) w = service_access service w.taken.controller w.taken.layout w.taken.events
+step_access (step.ServeClear clearing came service) w = look_access w.taken.check w.taken service
 step_access (step.Pipes function streams at) w = pipes_access at w.taken.layout w.taken.device function.pipes streams
 step_access step.Configured w = Rest (2 ^ 64 - 1)
 

@@ -1,5 +1,5 @@
 -- Rows 12 and 13: the requests to endpoint 0 (USB 3.2, 9.4), and what their answers lead to (9.6).
-use Rattle.std.specs.Prelude.{ℕ, ◌==◌, ◌&&◌, ◌||◌, not, if◌then◌else◌, Bool, true, false, List, Some, Result, Ok, Err}
+use Rattle.std.specs.Prelude.{ℕ, if◌then◌else◌, Bool, true, false, List, Some, Result, Ok, Err}
 use Rattle.bring_up.specs.declared.why.Why.{Why}
 use Rattle.bring_up.specs.declared.why.Why.TheVariants as why
 use Rattle.host_trbs.specs.declared.transfers.SetupPacket.{SetupPacket}
@@ -17,6 +17,7 @@ use Rattle.disk_up.specs.declared.requests.Found.TheVariants.{Refused, Next}
 use Rattle.disk_up.specs.declared.requests.Known.{Known}
 use Rattle.disk_up.specs.declared.requests.Request.{Request}
 use Rattle.disk_up.specs.declared.requests.Request.TheVariants.{Device, BosHead, Bos, ConfigurationHead, Configuration, SetConfiguration, SetInterface}
+use Rattle.disk_up.specs.Bridges.{is_broken}
 
 -- 9.4.3: GET_DESCRIPTOR, 6, of the type in the upper byte of wValue
 abbrev pub get_descriptor : ℕ → ℕ → SetupPacket
@@ -55,7 +56,7 @@ why_of fault.NoStreams = why.NoStreams
 -- the device descriptor, then the BOS
 abbrev pub behind_device : Known → Result DeviceDescriptor DescriptorFault → Found
 behind_device known (Err f) = Refused (why_of f)
-behind_device known (Ok device) = Next (record { vendor = device.vendor; product = device.product; disk = known.disk }) BosHead
+behind_device known (Ok device) = Next (record { vendor = device.vendor; product = device.product; release = device.device; disk = known.disk }) BosHead
 
 -- the whole BOS, where its head tells how long it is; then the configuration
 abbrev pub behind_bos : Known → Result ℕ DescriptorFault → Found
@@ -66,17 +67,11 @@ abbrev pub behind_head : Known → Result ℕ DescriptorFault → Found
 behind_head known (Err f) = Refused (why_of f)
 behind_head known (Ok total) = Next known (Configuration total)
 
--- ASM1051: 174c:5106, and 174c:55aa with 2^5 streams that draws power
-abbrev pub is_broken : Known → UasFunction → Bool
-is_broken known function =
-    (known.vendor == 0x174c)
-    && ((known.product == 0x5106) || ((known.product == 0x55aa) && (function.pipes.status.max_streams == 5) && not (function.max_power == 0)))
-
 -- the function and its tags; then SET_CONFIGURATION
 abbrev pub behind_function : Known → UasFunction → Result Streams DescriptorFault → Found
 behind_function known function (Err f) = Refused (why_of f)
 behind_function known function (Ok streams) =
-    Next (record { vendor = known.vendor; product = known.product; disk = Some (record { 0 = function; 1 = streams }) }) (SetConfiguration function.configuration)
+    Next (record known { disk = Some (record { 0 = function; 1 = streams }) }) (SetConfiguration function.configuration)
 
 abbrev pub behind_configuration : Known → Result UasFunction DescriptorFault → ℕ → ℕ → Found
 behind_configuration known (Err f) tags max_psa_size = Refused (why_of f)

@@ -22,8 +22,12 @@ impl Finding {
         value: u32,
         bytes: &[u8],
     )
-        ensures { record { finding = self.new; taken = taken.new } ≡ served (record { finding = self.old; taken = taken.old }) request moved ended service now value bytes.now }
+        ensures { record { finding = self.new; taken = taken.new } ≡ served taken.old.check (record { finding = self.old; taken = taken.old }) request moved ended service now value bytes.now }
     {
+        if let Some(check) = taken.check {
+            taken.check_port(check, value);
+            return;
+        }
         match service.at {
             Serving::Event => self.event_came(
                 taken,
@@ -58,7 +62,7 @@ impl Finding {
     )
         ensures { record { finding = self.new; taken = taken.new } ≡ event_came (record { finding = self.old; taken = taken.old }) request moved ended service now event }
     {
-        taken.events = taken.events.next();
+        taken.pass_event(event);
         match event {
             Event::Controller { .. } => taken.restart(now),
             _ => {
@@ -196,8 +200,12 @@ impl Finding {
         value: u32,
         bytes: &[u8],
     )
-        ensures { record { finding = self.new; taken = taken.new } ≡ clear_served (record { finding = self.old; taken = taken.old }) clearing came service now value bytes.now }
+        ensures { record { finding = self.new; taken = taken.new } ≡ clear_served taken.old.check (record { finding = self.old; taken = taken.old }) clearing came service now value bytes.now }
     {
+        if let Some(check) = taken.check {
+            taken.check_port(check, value);
+            return;
+        }
         match service.at {
             Serving::Event => self.clear_event(
                 taken,
@@ -229,7 +237,7 @@ impl Finding {
     )
         ensures { record { finding = self.new; taken = taken.new } ≡ clear_event (record { finding = self.old; taken = taken.old }) clearing came service now event }
     {
-        taken.events = taken.events.next();
+        taken.pass_event(event);
         match event {
             Event::Controller { .. } => taken.restart(now),
             Event::Command { trb, code, slot } if trb == taken.commands.address(&taken.layout) => {
@@ -304,7 +312,7 @@ impl Finding {
         ensures { record { finding = self.new; taken = taken.new } ≡ cleared (record { finding = self.old; taken = taken.old }) clearing completion now }
     {
         match (completion, clearing) {
-            (Completion::Success, Clearing::Reset) => {
+            (Completion::Success | Completion::ContextState, Clearing::Reset) => {
                 self.step = FindStep::Clear {
                     clearing: Clearing::Move,
                     at: taken.commands.begun_command(),

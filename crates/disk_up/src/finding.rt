@@ -93,6 +93,7 @@ impl Finding {
             known: Known {
                 vendor: 0,
                 product: 0,
+                release: 0,
                 disk: None,
             },
             step: FindStep::Send {
@@ -116,7 +117,7 @@ impl Finding {
                 at,
             ),
             FindStep::Serve { service, .. } | FindStep::ServeClear { service, .. } =>
-                service.access(&taken.controller, &taken.layout, taken.events),
+                taken.look_access(service),
             FindStep::Take { moved, .. } => load_in(
                 Some(taken.layout.fixed(Fixed::Buffer)),
                 u32::from(moved),

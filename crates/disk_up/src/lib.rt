@@ -7,15 +7,17 @@
 //! | configuration 0, its first 9 bytes, then all | `LongConfiguration`, `BadDescriptor`, `NoUas`, `BadPipes`, `NoCompanion`, `BrokenUas`, `NoStreams` |
 //! | SET_CONFIGURATION; SET_INTERFACE where the setting isn't 0 | the pipes: rings, stream arrays and contexts, then Configure Endpoint; `NotConfigured` |
 //!
+//! An event of the device's port has that read: a device that was pulled is forgotten, one whose link is lost is tried again.
+//!
 //! [`DiskUp`] owns a [`BringUp`], tells its accesses until it has a device with an address, and then its own. Each request has 5,000 ms; one that
 //! fails, or has no end in time, has the whole device tried again from its port's reset on, twice. A transfer stands alone in its third of
 //! endpoint 0's ring: the next third is zeroed, TRBs and Link are stored, the first with Cycle 0, and then that one's last word.
 //!
-//! What is promised, for any answers, times and calls: what is told is the access of the table's row (`disk_access`), and the next state is that
-//! of the row too (`told`, `answered`, in specs/Disks, Findings, Endings). No access is outside the registers or the memory that was lent
+//! What is promised, for any answers, times and calls: what is told is the access of the table's row (`next_access`), and the next state is that
+//! of the row too (`next_state`, `answered`, in specs/Disks, Findings, Endings). No access is outside the registers or the memory that was lent
 //! (`inside`). No call takes memory. That a disk is configured is tried, in front of the controller of `xhci_machine` (tests/crates/driver).
 //!
-//! It stands on `bring_up`, `usb_descriptors`, `host_layout`, `host_trbs` and `byteorder`.
+//! It stands on `bring_up`, `usb_descriptors`, `uas_profile`, `host_layout`, `host_trbs` and `byteorder`.
 #![tactic(auto)]
 
 ghost use Rattle.std.specs.Prelude.{◌≡◌, ◌↔◌, true, false};
@@ -23,6 +25,7 @@ ghost use Rattle.bring_up.specs.Accesses.{IsInside};
 ghost use Rattle.bring_up.specs.Calls.{fits, is_addressed, layout_of};
 ghost use Rattle.disk_up.specs.Disks.{answered, asked_access, begun_disk, disk_access, disk_advanced, disk_interrupted, disk_told, disk_woken, is_asked, is_configured, next_access, next_layout, next_state, own_access, own_answered};
 
+mod bridges;
 mod control;
 mod ending;
 mod finding;
@@ -33,7 +36,7 @@ mod requests;
 use bring_up::{Access, AnswerFault, BringUp, Options, Stage, fits, is_gone, word_in};
 pub use control::{Seen, Sending, is_at, next_third};
 pub use finding::{Clearing, Ending, FindStep, Finding};
-pub use laws::{contexts_are_added, waits_end};
+pub use laws::{contexts_are_added, pipes_are_stored, streams_are_stored, waits_end};
 pub use pipes::Piping;
 pub use requests::{Found, Known, Request};
 

@@ -1,6 +1,6 @@
 //! The requests to endpoint 0 (USB 3.2, 9.4), and what their answers lead to (9.6).
 ghost use Rattle.std.specs.Prelude.{◌≡◌};
-ghost use Rattle.disk_up.specs.Requests.{behind_bos, behind_configuration, behind_device, behind_function, behind_head, get_descriptor, is_broken, may_stall, packet_of, read_answer, why_of};
+ghost use Rattle.disk_up.specs.Requests.{behind_bos, behind_configuration, behind_device, behind_function, behind_head, get_descriptor, may_stall, packet_of, read_answer, why_of};
 
 use bring_up::Why;
 use host_trbs::SetupPacket;
@@ -25,11 +25,13 @@ pub enum Request {
     SetInterface { interface: u8, alternate: u8 },
 }
 
-/// What is known of a device: its vendor and product, its function and how many tags that has.
+/// What is known of a device: its vendor, product and release, its function and how many tags that has.
 #[derive(Clone, Copy)]
 pub struct Known {
     pub vendor: u16,
     pub product: u16,
+    /// The release of the device, bcdDevice.
+    pub release: u16,
     pub disk: Option<(UasFunction, Streams)>,
 }
 
@@ -112,8 +114,8 @@ fn descriptor(value: u16, length: u16) -> SetupPacket
     }
 }
 
-/// What the answer of a request for a descriptor leads to; `tags` are asked for, and the controller's stream arrays have 2 to
-/// `max_psa_size` plus 1 contexts.
+/// What the answer of a request for a descriptor leads to; `tags` are asked for, and the controller's stream arrays have at most 2 to the power
+/// of `max_psa_size` plus 1 contexts.
 pub(crate) fn read_answer(
     known: Known,
     request: Request,
@@ -147,6 +149,7 @@ fn behind_device(known: Known, read: Result<DeviceDescriptor, DescriptorFault>) 
             Known {
                 vendor: device.vendor,
                 product: device.product,
+                release: device.device,
                 disk: known.disk,
             },
             Request::BosHead,
@@ -183,7 +186,7 @@ fn behind_configuration(
 {
     match read {
         Err(fault) => Found::Refused(why_of(fault)),
-        Ok(function) if is_broken(known, &function) => Found::Refused(Why::BrokenUas),
+        Ok(function) if known.is_broken(&function) => Found::Refused(Why::BrokenUas),
         Ok(function) => behind_function(
             known,
             function,
@@ -203,23 +206,11 @@ fn behind_function(
         Err(fault) => Found::Refused(why_of(fault)),
         Ok(streams) => Found::Next(
             Known {
-                vendor: known.vendor,
-                product: known.product,
                 disk: Some((function, streams)),
+                ..known
             },
             Request::SetConfiguration(function.configuration),
         ),
-    }
-}
-
-/// ASMedia's ASM1051 answers wrongly: by its number, or with 32 streams where the bus powers it.
-fn is_broken(known: Known, function: &UasFunction) -> bool
-    ensures { result ≡ is_broken known function.now }
-{
-    match (known.vendor, known.product) {
-        (0x174c, 0x5106) => true,
-        (0x174c, 0x55aa) => { function.pipes.status.max_streams == 5 && function.max_power != 0 }
-        _ => false,
     }
 }
 

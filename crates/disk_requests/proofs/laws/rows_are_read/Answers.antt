@@ -24,7 +24,7 @@ pub returns-clause-block_length : goal.returns-clause-block_length
 returns-clause-block_length c = refl
 
 pub returns-clause-readiness : goal.returns-clause-readiness
-returns-clause-readiness c = (refl, refl, refl, refl, refl)
+returns-clause-readiness c = (refl, refl, refl, refl, refl, refl, refl)
 
 pub returns-clause-inquiry : goal.returns-clause-inquiry
 unfolding inquiry_bytes

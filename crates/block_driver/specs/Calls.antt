@@ -18,13 +18,14 @@ use Rattle.host_layout.specs.declared.layout.Layout.{Layout}
 use Rattle.block_driver.specs.declared.BlockDriver.{BlockDriver}
 use Rattle.block_driver.specs.declared.replies.State.{State}
 use Rattle.block_driver.specs.declared.replies.State.TheVariants as state
+use Rattle.block_driver.specs.declared.steps.Blocks.{Blocks}
 use Rattle.block_driver.specs.declared.table.Entry.TheVariants as entry
 use Rattle.block_driver.specs.declared.table.Kind.TheVariants.{Replied}
 use Rattle.block_driver.specs.declared.table.Loss.TheVariants.{Gone}
 use Rattle.block_driver.specs.declared.table.Reply.{Reply}
 use Rattle.block_driver.specs.Steps.{World, begun_blocks, found_access}
 use Rattle.block_driver.specs.Table.{changed, entry_at, entry_taken, first_of, reply_in}
-use Rattle.block_driver.specs.Turns.{commands_closed, found_advanced, opened}
+use Rattle.block_driver.specs.Turns.{commands_closed, found_advanced, given_back, is_back, opened}
 
 abbrev pub begun_with : Option DiskReady → Options → Option BlockDriver
 begun_with None options = None
@@ -89,10 +90,14 @@ driver_told d =
 abbrev pub is_open : BlockDriver → Bool
 is_open d = is_some d.blocks.disk
 
+-- the commands of a disk that isn't used any more are lost once their TDs are given back
+abbrev pub blocks_back : BlockDriver → Blocks
+blocks_back d = if is_back d.ready.device.driver.stage then given_back d.blocks else d.blocks
+
 -- a disk that got ready is used from now on, under the next number
 abbrev pub met_by : Option ReadyDisk → BlockDriver → BlockDriver
-met_by None d = d
-met_by (Some disk) d = record d { blocks = opened d.blocks disk d.ready.ready.spots; is_asked = false }
+met_by None d = record d { blocks = blocks_back d }
+met_by (Some disk) d = record d { blocks = opened (blocks_back d) disk d.ready.ready.spots; is_asked = false }
 
 abbrev pub met : BlockDriver → BlockDriver
 met d = met_by (ready_disk d.ready) d

@@ -1,5 +1,5 @@
 -- Where the next TDs of each tag stand: the thirds of its rings.
-use Rattle.std.specs.Prelude.{ℕ, Bool, if◌then◌else◌}
+use Rattle.std.specs.Prelude.{ℕ, Bool, if◌then◌else◌, List, replicate, slice_set}
 use Rattle.disk_ready.specs.declared.puts.PipeRing.{PipeRing}
 use Rattle.disk_ready.specs.declared.puts.Spots.{Spots}
 use Rattle.disk_ready.specs.declared.puts.Way.{Way}
@@ -36,3 +36,10 @@ third_on thirds is_in = if is_in then thirds.data_in else thirds.data_out
 
 abbrev pub ring_on : ℕ → Bool → Ring
 ring_on tag is_in = if is_in then DataIn tag else DataOut tag
+
+-- once a disk got ready: the TDs of its questions were on tag 1, whose rings go on behind them
+abbrev pub first_thirds : Spots → Thirds
+first_thirds spots = record { data_in = spots.data_third; data_out = 0; status = spots.status_third }
+
+unfoldable pub thirds_from : Spots → List Thirds
+thirds_from spots = slice_set (replicate 256 thirds_begun) 1 (first_thirds spots)

@@ -1,5 +1,5 @@
 -- A disk with many commands out: what each step tells.
-use Rattle.std.specs.Prelude.{ℕ, ◌+◌, ◌*◌, ◌-◌, ◌^◌, ◌||◌, min, not, if◌then◌else◌, Bool, Option, None, Some, is_some, List, true, false, replicate, slice_index_or}
+use Rattle.std.specs.Prelude.{ℕ, ◌+◌, ◌*◌, ◌-◌, ◌^◌, ◌||◌, min, not, if◌then◌else◌, Bool, Option, None, Some, is_some, List, bit_and, bit_or, replicate, slice_index_or}
 use Rattle.bring_up.specs.declared.access.Access.{Access}
 use Rattle.bring_up.specs.declared.access.Access.TheVariants.{Rest}
 use Rattle.bring_up.specs.declared.commands.Putting.{Putting}
@@ -57,6 +57,7 @@ begun_blocks tags = record {
   work = work.Idle;
   removal = None;
   is_interrupted = false;
+  loss = None;
 }
 
 -- THE REST: until a command waits, an interrupt came, or a command's time is over; while data are taken off, no command is put
@@ -92,6 +93,10 @@ freeing_access w pipes removal at =
     (command_words (freeing_command removal.freeing w pipes removal.is_in) w.taken.commands.cycle)
     (command_words (freeing_command removal.freeing w pipes removal.is_in) (not w.taken.commands.cycle))
 
+-- 5.4.8: the change bits of PORTSC, 23:17, are cleared by a 1, and nothing else is changed
+abbrev pub changes_cleared : ℕ → ℕ
+changes_cleared value = bit_or (bit_and value 0x0e00c3e0) (bit_and value 0x00fe0000)
+
 -- THE ACCESS
 
 abbrev pub work_access : Work → World → Pipes → Access
@@ -100,6 +105,7 @@ work_access (work.Put tag at) w pipes = entry_access (entry_at w.blocks.tags tag
 work_access (work.Serve service) w pipes = service_access service w.taken.controller w.taken.layout w.taken.events
 work_access (work.Unit tag count service) w pipes = load_in (place_of w.taken.layout (OfTag tag StatusUnit)) count
 work_access (work.Port service) w pipes = read_at (port_register w.taken.controller w.taken.device.port.number)
+work_access (work.Changes value service) w pipes = write_at (port_register w.taken.controller w.taken.device.port.number) (changes_cleared value)
 work_access (work.Free removal at) w pipes = freeing_access w pipes removal at
 work_access (work.Context is_in) w pipes = load_in (context_of w.taken.layout DeviceContext 32 (data_endpoint pipes is_in)) 32
 work_access (work.Ring is_in tag) w pipes =

@@ -1,8 +1,14 @@
 -- A disk with many commands out: what comes after each step's access.
-use Rattle.std.specs.Prelude.{ℕ, ◌+◌, ◌/◌, ◌%◌, ◌^◌, ◌==◌, ◌||◌, min, nat_le, not, if◌then◌else◌, Bool, true, false, Option, None, Some, is_some, List, length, replicate, slice_index_or, slice_set}
+use Rattle.std.specs.Prelude.{ℕ, ◌+◌, ◌/◌, ◌%◌, ◌^◌, ◌==◌, ◌||◌, min, nat_le, not, if◌then◌else◌, Bool, true, false, Option, None, Some, is_some, List, length, slice_index_or, slice_set}
 use Rattle.byteorder.specs.Endian.{little_number}
 use Rattle.block_requests.specs.declared.outcomes.Outcome.{Outcome}
 use Rattle.block_requests.specs.declared.outcomes.Outcome.TheVariants as outcome
+use Rattle.bring_up.specs.declared.bring_up.Stage.{Stage}
+use Rattle.bring_up.specs.declared.bring_up.Stage.TheVariants as stage
+use Rattle.bring_up.specs.declared.commands.Asked.{Asked}
+use Rattle.bring_up.specs.declared.commands.Asked.TheVariants as asked
+use Rattle.bring_up.specs.declared.step.Step.{Step}
+use Rattle.bring_up.specs.declared.step.Step.TheVariants as step
 use Rattle.bring_up.specs.declared.commands.Completed.{Completed}
 use Rattle.bring_up.specs.declared.commands.Putting.{Putting}
 use Rattle.bring_up.specs.declared.commands.Putting.TheVariants as putting
@@ -48,19 +54,15 @@ use Rattle.block_driver.specs.declared.table.Loss.{Loss}
 use Rattle.block_driver.specs.declared.table.Loss.TheVariants as loss
 use Rattle.block_driver.specs.declared.table.Told.{Told}
 use Rattle.block_driver.specs.Events.{event_said, unit_outcome}
-use Rattle.block_driver.specs.Rings.{spots_at, thirds_after, thirds_begun}
+use Rattle.block_driver.specs.Rings.{spots_at, thirds_after, thirds_begun, thirds_from}
 use Rattle.block_driver.specs.Steps.{World, in_work, waiting, with_blocks, with_taken}
 use Rattle.block_driver.specs.Table.{all_lost, changed, entry_at, entry_moved, entry_next, entry_put, entry_told, first_of, has_late, next_of, wanted_at, way_of}
 
 -- A DISK GETS READY, and isn't used any more
 
--- the TDs of its questions were on tag 1, whose rings go on behind them
-abbrev pub first_thirds : Spots → Thirds
-first_thirds spots = record { data_in = spots.data_third; data_out = 0; status = spots.status_third }
-
 abbrev pub opened : Blocks → ReadyDisk → Spots → Blocks
 opened b disk spots = record b {
-  thirds = slice_set (replicate 256 thirds_begun) 1 (first_thirds spots);
+  thirds = thirds_from spots;
   pipe = spots.pipe;
   disk = Some disk;
   number = min (b.number + 1) (2 ^ 64 - 1);
@@ -69,15 +71,41 @@ opened b disk spots = record b {
   is_interrupted = false;
 }
 
--- what its commands came to isn't known any more
+-- its commands are lost once their TDs are given back
 abbrev pub commands_closed : Blocks → Loss → Blocks
 commands_closed b lost = record b {
-  tags = all_lost b.tags lost;
   disk = None;
   work = work.Idle;
   removal = None;
   is_interrupted = false;
+  loss = Some lost;
 }
+
+abbrev pub given_back_by : Option Loss → Blocks → Blocks
+given_back_by None b = b
+given_back_by (Some lost) b = record b { tags = all_lost b.tags lost; loss = None }
+
+abbrev pub given_back : Blocks → Blocks
+given_back b = given_back_by b.loss b
+
+-- TDs are the controller's until the slot was given back, or the controller was reset; a controller that is dead or gone is apart
+abbrev pub is_slot_asked : Asked → Bool
+is_slot_asked asked.EnableSlot = false
+is_slot_asked asked.AddressDevice = false
+is_slot_asked asked.ResetPort = true
+is_slot_asked (asked.Refuse why) = true
+
+abbrev pub is_step_back : Step → Bool
+is_step_back (step.Handoff at) = false
+is_step_back (step.Halt at) = false
+is_step_back (step.Reset at) = false
+is_step_back (step.Command asked at) = not (is_slot_asked asked)
+is_step_back (step.Serve asked came service) = not (is_slot_asked asked)
+is_step_back _ = true
+
+abbrev pub is_back : Stage → Bool
+is_back (stage.Taken t) = is_step_back t.step
+is_back _ = true
 
 -- the device is tried again; it is gone from its port; the controller is taken anew
 abbrev pub failed : World → Loss → World
@@ -306,8 +334,8 @@ unit_taken w tag service now bytes = unit_told (unit_outcome bytes tag (wanted_a
 abbrev pub is_inactive : ℕ → Bool
 is_inactive value = value / 2 ^ 5 % 16 == 6
 
-abbrev pub port_read : World → Service → ℕ → World
-port_read w service value =
+abbrev pub port_told : World → Service → ℕ → World
+port_told w service value =
     if not (is_set value 0) then pulled w
     else if not (is_set value 1) || is_inactive value then failed w loss.Disabled
     else served_with w service
@@ -319,7 +347,8 @@ work_advanced work.Idle w now value bytes = with_blocks w (idle_over w.blocks)
 work_advanced (work.Put tag at) w now value bytes = with_blocks w (put_over w.blocks tag at)
 work_advanced (work.Serve service) w now value bytes = served w service now value bytes
 work_advanced (work.Unit tag count service) w now value bytes = unit_taken w tag service now bytes
-work_advanced (work.Port service) w now value bytes = port_read w service value
+work_advanced (work.Port service) w now value bytes = with_blocks w (in_work w.blocks (work.Changes value service))
+work_advanced (work.Changes old service) w now value bytes = port_told w service old
 work_advanced (work.Free removal at) w now value bytes = with_blocks w (free_put w.blocks removal at now)
 work_advanced (work.Context is_in) w now value bytes = context_taken w is_in now (first_word bytes)
 work_advanced (work.Ring is_in tag) w now value bytes = with_blocks w (ring_after w.blocks is_in tag)

@@ -5,12 +5,13 @@ ghost use Rattle.bring_up.specs.Calls.{fits, layout_of};
 ghost use Rattle.disk_ready.specs.Calls.{begun_ready};
 ghost use Rattle.block_driver.specs.Calls.{answered, asked_access, begun_driver, driver_access, driver_advanced, driver_told, driver_woken, interrupted, is_asked, met, next_access, next_layout, next_state, own_access, own_answered};
 ghost use Rattle.block_driver.specs.Table.{marks};
+ghost use Rattle.block_driver.specs.Turns.{is_back, is_slot_asked, is_step_back};
 
 use crate::steps::Blocks;
 use crate::table::Loss;
 use crate::tags::Tags;
 use crate::{BlockDriver, NewFault};
-use bring_up::{Access, AnswerFault, Options, Stage, fits, is_gone, word_in};
+use bring_up::{Access, AnswerFault, Asked, Options, Stage, Step, fits, is_gone, word_in};
 use disk_ready::DiskReady;
 use std::alloc::Global;
 
@@ -52,12 +53,15 @@ impl BlockDriver {
         }
     }
 
-    /// A disk that got ready is used.
+    /// TDs that were given back end their commands; a disk that got ready is used.
     fn meet(&mut self)
         ensures is { self.new ≡ met self.old }
         ensures options { self.new.ready.device.driver.options ≡ self.old.ready.device.driver.options }
         ensures once { marks self.new.blocks.tags ≡ marks self.old.blocks.tags }
     {
+        if is_back(&self.ready.device.driver.stage) {
+            self.blocks.give_back();
+        }
         if let Some(disk) = self.ready.disk() {
             self.blocks.open(disk, self.ready.ready.spots);
             self.is_asked = false;
@@ -189,4 +193,36 @@ impl BlockDriver {
         self.ready.interrupted();
         self.blocks.is_interrupted = self.blocks.disk.is_some();
     }
+}
+
+/// Whether TDs that were put aren't the controller's any more: the slot was given back, or the controller was reset; one that is dead or gone is apart.
+fn is_back(stage: &Stage) -> bool
+    ensures { result ≡ is_back stage.now }
+{
+    match stage {
+        Stage::Taken(taken) => is_step_back(taken.step),
+        Stage::Surveying(_) | Stage::Wanting(_) | Stage::Refused(_) | Stage::Gone => true,
+    }
+}
+
+fn is_step_back(step: Step) -> bool
+    ensures { result ≡ is_step_back step }
+{
+    match step {
+        Step::Handoff(_) | Step::Halt(_) | Step::Reset(_) => false,
+        Step::Command { asked, .. } | Step::Serve { asked, .. } => !is_slot_asked(asked),
+        Step::Program(_)
+        | Step::Run(_)
+        | Step::Ports(_)
+        | Step::PortReset(_)
+        | Step::Addressing(_)
+        | Step::Watch(_)
+        | Step::Ended(_) => true,
+    }
+}
+
+fn is_slot_asked(asked: Asked) -> bool
+    ensures { result ≡ is_slot_asked asked }
+{
+    matches!(asked, Asked::ResetPort | Asked::Refuse(_))
 }

@@ -17,6 +17,8 @@
 //! | a TD fails, another tag's unit, a command's time is over, the port disabled | all are lost, and the device is tried again |
 //! | the disk is gone from its port; the controller had an error | all are lost; another device is looked for; the controller is taken anew |
 //!
+//! Commands are lost once their TDs aren't the controller's any more: behind Disable Slot, or the controller's reset.
+//!
 //! What is promised, for any answers, times and calls: what is told is the access of the table's row (`next_access`), and the next state is that of
 //! the row too (`next_state`, `answered`, in specs/Calls, Steps, Turns, Events). No access is outside the registers or the memory that was lent
 //! (`inside`). Each command has one reply (`once`): [`BlockDriver::submit`] gives a free tag to it, [`BlockDriver::take_reply`] frees the tag of a reply, and no

@@ -1,6 +1,6 @@
 //! Where the next TDs of each tag stand: the thirds of its rings.
 ghost use Rattle.std.specs.Prelude.{◌≡◌};
-ghost use Rattle.block_driver.specs.Rings.{ring_on, spots_at, thirds_after, third_on, thirds_begun};
+ghost use Rattle.block_driver.specs.Rings.{ring_on, spots_at, thirds_after, third_on, thirds_begun, thirds_from};
 
 use disk_ready::{PipeRing, Spots, Way};
 use disk_up::next_third;
@@ -65,6 +65,20 @@ impl Thirds {
             },
         }
     }
+}
+
+/// The thirds of all tags once a disk got ready: its questions' TDs were on tag 1.
+#[tactic(auto, unfolding(crate::specs::Rings::thirds_from))]
+pub(crate) fn thirds_from(spots: Spots) -> [Thirds; 256]
+    ensures { result ≡ thirds_from spots }
+{
+    let mut thirds = [Thirds::begun(); 256];
+    thirds[1] = Thirds {
+        data_in: spots.data_third,
+        data_out: 0,
+        status: spots.status_third,
+    };
+    thirds
 }
 
 /// The ring of a tag's data.

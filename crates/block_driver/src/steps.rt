@@ -1,12 +1,12 @@
 //! A disk with many commands out: the steps, what each tells, and what comes after it.
 ghost use Rattle.std.specs.Prelude.{◌≡◌, ◌<◌, ◌^◌};
-ghost use Rattle.block_driver.specs.Steps.{World, begun_blocks, blocks_access, found_access, idle_until, waiting};
-ghost use Rattle.block_driver.specs.Turns.{blocks_advanced, closed, closed_by, commands_closed, event_came, failed, found_advanced, idle_or_late, idle_over, is_inactive, is_looked_on, moved_on, opened, port_read, pulled, put_begun, put_over, restarted_all, said_taken, served, served_on, told_taken, told_until, tries_after, unit_taken, went};
+ghost use Rattle.block_driver.specs.Steps.{World, begun_blocks, blocks_access, changes_cleared, found_access, idle_until, waiting};
+ghost use Rattle.block_driver.specs.Turns.{blocks_advanced, closed, closed_by, commands_closed, event_came, failed, found_advanced, given_back, idle_or_late, idle_over, is_inactive, is_looked_on, moved_on, opened, port_told, pulled, put_begun, put_over, restarted_all, said_taken, served, served_on, told_taken, told_until, tries_after, unit_taken, went};
 ghost use Rattle.block_driver.specs.Table.{marks};
 
 use crate::events::{STATUS_BYTES, Said};
 use crate::freeing::{Removal, data_endpoint, removal_limit};
-use crate::rings::Thirds;
+use crate::rings::{Thirds, thirds_from};
 use crate::table::{Kind, Loss, Told};
 use crate::tags::Tags;
 use block_requests::Outcome;
@@ -37,8 +37,12 @@ pub enum Work {
         count: u32,
         service: Service,
     },
-    /// PORTSC of the disk's port is read, between two events.
+    /// PORTSC of the disk's port is read, between two events; then its changes are cleared, in this value.
     Port(Service),
+    Changes {
+        value: u32,
+        service: Service,
+    },
     /// A command that takes data off is put.
     Free {
         removal: Removal,
@@ -69,12 +73,18 @@ pub struct Blocks {
     pub removal: Option<Removal>,
     /// An interrupt came, and events weren't looked for since.
     pub is_interrupted: bool,
+    /// Why the disk isn't used any more, until its commands' TDs are given back.
+    pub loss: Option<Loss>,
 }
 
 /// The bits of PORTSC: a device is there, and the port is enabled (5.4.8).
 const CONNECTED: u32 = 0;
 
 const ENABLED: u32 = 1;
+
+const NEUTRAL: u32 = 0x0e00_c3e0;
+
+const CHANGES: u32 = 0x00fe_0000;
 
 /// ms that data may come behind a status GOOD.
 const GRACE: u64 = 1_000;
@@ -98,6 +108,7 @@ impl Blocks {
             work: Work::Idle,
             removal: None,
             is_interrupted: false,
+            loss: None,
         }
     }
 
@@ -106,12 +117,7 @@ impl Blocks {
         ensures is { self.new ≡ opened self.old disk spots }
         ensures once { marks self.new.tags ≡ marks self.old.tags }
     {
-        self.thirds = [Thirds::begun(); 256];
-        self.thirds[1] = Thirds {
-            data_in: spots.data_third,
-            data_out: 0,
-            status: spots.status_third,
-        };
+        self.thirds = thirds_from(spots);
         self.pipe = spots.pipe;
         self.disk = Some(disk);
         self.number = self.number.saturating_add(1);
@@ -120,16 +126,27 @@ impl Blocks {
         self.is_interrupted = false;
     }
 
-    /// The disk isn't used any more.
+    /// The disk isn't used any more. Its commands are lost once their TDs are given back.
     pub(crate) fn close(&mut self, loss: Loss)
         ensures is { self.new ≡ commands_closed self.old loss }
         ensures once { marks self.new.tags ≡ marks self.old.tags }
     {
-        self.tags.lose(loss);
         self.disk = None;
         self.work = Work::Idle;
         self.removal = None;
         self.is_interrupted = false;
+        self.loss = Some(loss);
+    }
+
+    /// The TDs of a disk that isn't used any more are given back.
+    pub(crate) fn give_back(&mut self)
+        ensures is { self.new ≡ given_back self.old }
+        ensures once { marks self.new.tags ≡ marks self.old.tags }
+    {
+        if let Some(loss) = self.loss {
+            self.tags.lose(loss);
+            self.loss = None;
+        }
     }
 
     /// The access of a device with these pipes; none of one whose pipes aren't known.
@@ -167,6 +184,10 @@ impl Blocks {
                 count,
             ),
             Work::Port(_) => read_at(c.port_register(taken.device.port.number)),
+            Work::Changes { value, .. } => write_at(
+                c.port_register(taken.device.port.number),
+                changes_cleared(value),
+            ),
             Work::Free { removal, at } => self.freeing_access(taken, pipes, removal, at),
             Work::Context { is_in } => load_in(
                 layout.device_context(data_endpoint(pipes, is_in)),
@@ -226,7 +247,8 @@ impl Blocks {
             Work::Put { tag, at } => self.put_over(tag, at),
             Work::Serve(service) => self.serve(taken, service, now, value, bytes),
             Work::Unit { tag, service, .. } => self.unit_taken(taken, tag, service, now, bytes),
-            Work::Port(service) => self.port_read(taken, service, value),
+            Work::Port(service) => self.work = Work::Changes { value, service },
+            Work::Changes { value, service } => self.port_told(taken, service, value),
             Work::Free { removal, at } => self.free_put(removal, at, now),
             Work::Context { is_in } => self.context_taken(taken, is_in, now, bytes),
             Work::Ring { is_in, tag } => self.ring_after(is_in, tag),
@@ -415,8 +437,8 @@ impl Blocks {
     }
 
     /// The disk's port was read.
-    fn port_read(&mut self, taken: &mut Taken, service: Service, value: u32)
-        ensures is { record { blocks = self.new; taken = taken.new } ≡ port_read (record { blocks = self.old; taken = taken.old }) service value }
+    fn port_told(&mut self, taken: &mut Taken, service: Service, value: u32)
+        ensures is { record { blocks = self.new; taken = taken.new } ≡ port_told (record { blocks = self.old; taken = taken.old }) service value }
         ensures once { marks self.new.tags ≡ marks self.old.tags }
     {
         if !is_set(value, CONNECTED) {
@@ -478,6 +500,13 @@ fn tries_after(outcome: &Outcome, tries: Tries) -> Tries
         },
         _ => tries,
     }
+}
+
+/// PORTSC as it is written to clear its changes: Port Enabled written 1 would disable the port.
+fn changes_cleared(value: u32) -> u32
+    ensures { result ≡ changes_cleared value }
+{
+    (value & NEUTRAL) | (value & CHANGES)
 }
 
 /// Whether a link hangs: PLS is Inactive.

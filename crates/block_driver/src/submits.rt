@@ -1,8 +1,8 @@
 //! Which commands are taken, and what is put for one.
-ghost use Rattle.std.specs.Prelude.{◌≡◌, ◌<◌, ◌^◌, ◌-◌, None, Some, IfErr, IfOk, OnErr, slice_set};
+ghost use Rattle.std.specs.Prelude.{◌≡◌, ◌<◌, ◌^◌, ◌-◌, None, Some, IfErr, IfOk, IfSome, OnErr, slice_set};
 ghost use Rattle.arrayvec.specs.ArrayVec.{ArrayVec};
-ghost use Rattle.block_driver.specs.Submits.{Open, command_of, data_begun, free_tag, open_disk, open_in, pieces_with, reach_of, submit_refusal, submitted_on, total_in};
-ghost use Rattle.block_driver.specs.Table.{mark_of, entry_at, marks};
+ghost use Rattle.block_driver.specs.Submits.{command_of, data_begun, free_tag, open_disk, open_in, pieces_with, reach_of, submit_refusal, submitted_on, total_in};
+ghost use Rattle.block_driver.specs.Table.{entry_at, mark_of, marks, place_in};
 
 use crate::steps::Blocks;
 use crate::table::{DataState, Kind, Outstanding};
@@ -109,7 +109,9 @@ fn command_of(tag: u8, made: Submission, at: Option<u64>, mark: u64, limit: u64)
 impl Blocks {
     /// The lowest tag that is free; the last of all is for task management.
     fn free_tag(&self, tags: u8) -> Option<u8>
-        ensures { result ≡ free_tag self.now.tags tags }
+        ensures is { result ≡ free_tag self.now.tags tags }
+        ensures there { IfSome result (λ tag. place_in self.now.tags tag ≡ Some (tag - 1)) }
+        ensures free { IfSome result (λ tag. mark_of (entry_at self.now.tags tag) ≡ None) }
     {
         match self.tags.first(Kind::Free) {
             Some(tag) if tag < tags => Some(tag),

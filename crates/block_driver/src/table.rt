@@ -1,5 +1,5 @@
 //! What a tag has: a command from its submission on, until its reply is taken.
-ghost use Rattle.std.specs.Prelude.{◌≡◌, ◌<◌, ◌^◌};
+ghost use Rattle.std.specs.Prelude.{◌≡◌};
 ghost use Rattle.block_driver.specs.Table.{command_access, command_limit, command_next, data_moved_in, ended_with, entry_access, entry_limit, entry_lost, entry_moved, entry_next, entry_put, entry_taken, entry_told, is_command, is_kind, is_late, is_moving, is_stuck, is_way, is_pending, mark_of, moved_count, reply_in, settled, settled_command, wanted_at, way_of};
 
 use arrayvec::ArrayVec;
@@ -196,8 +196,7 @@ impl Outstanding {
 
     /// When its time is over; that of its data is where its status came without them.
     fn limit(&self) -> u64
-        ensures is { result ≡ command_limit self.now }
-        ensures fits { result < 2 ^ 64 }
+        ensures { result ≡ command_limit self.now }
     {
         match &self.status {
             Some(told) => self.limit.min(told.until),
@@ -283,8 +282,7 @@ impl Entry {
 
     /// When its time is over.
     pub(crate) fn limit(&self) -> u64
-        ensures is { result ≡ entry_limit self.now }
-        ensures fits { result < 2 ^ 64 }
+        ensures { result ≡ entry_limit self.now }
     {
         match self {
             Entry::Outstanding(command) => command.limit(),

@@ -1,6 +1,7 @@
 //! The tags of a disk: what each has.
-ghost use Rattle.std.specs.Prelude.{◌≡◌, ◌<◌, ◌≤◌, ◌^◌, None, Some, IfOk, IfSome, length, map, replicate, slice_set};
-ghost use Rattle.block_driver.specs.Table.{all_lost, changed, entry_at, entry_access, entry_lost, entry_moved, entry_next, entry_put, entry_taken, entry_told, first_of, has_late, least_limit, mark_of, marks, next_of, place_in, reply_in, wanted_at, way_of};
+ghost use Rattle.std.specs.Prelude.{◌≡◌, ◌<◌, ◌≤◌, ◌^◌, ◌-◌, None, Some, true, IfOk, IfSome, length, map, replicate, slice_set};
+ghost use Rattle.std.specs.List.{position};
+ghost use Rattle.block_driver.specs.Table.{all_lost, changed, entry_at, entry_access, entry_lost, entry_moved, entry_next, entry_put, entry_taken, entry_told, first_of, has_late, is_kind, least_limit, mark_of, marks, next_of, place_in, reply_in, wanted_at, way_of};
 ghost use Rattle.block_driver.specs.Events.{data_said, status_said};
 ghost use Rattle.block_driver.specs.declared.table.Entry.{Entry};
 
@@ -54,9 +55,11 @@ impl Tags {
 
     /// The lowest tag of a kind.
     pub(crate) fn first(&self, kind: Kind) -> Option<u8>
-        ensures { result ≡ first_of kind self.now }
+        ensures is { result ≡ first_of kind self.now }
+        ensures there { IfSome result (λ tag. place_in self.now tag ≡ Some (tag - 1)) }
+        ensures of { IfSome result (λ tag. is_kind kind (entry_at self.now tag) ≡ true) }
     {
-        match self.entries.iter().position(|entry| entry.is(kind)) {
+        match first_in(&self.entries, kind) {
             Some(place) => Some((place + 1) as u8),
             None => None,
         }
@@ -70,10 +73,7 @@ impl Tags {
         if before >= self.entries.len() {
             return None;
         }
-        match self.entries[before..]
-            .iter()
-            .position(|entry| entry.is(kind))
-        {
+        match first_in(&self.entries[before..], kind) {
             Some(place) => Some((before + place + 1) as u8),
             None => None,
         }
@@ -174,7 +174,8 @@ impl Tags {
 
     /// A command is submitted on a tag.
     pub(crate) fn submit(&mut self, tag: u8, command: Outstanding)
-        ensures { self.new ≡ changed (λ before. Entry.Outstanding command) self.old tag }
+        ensures is { self.new ≡ changed (λ before. Entry.Outstanding command) self.old tag }
+        ensures once { IfSome (place_in self.old tag) (λ place. marks self.new ≡ slice_set (marks self.old) place (Some command.mark)) }
     {
         if let Some(place) = self.place(tag) {
             self.entries[place] = Entry::Outstanding(command);
@@ -232,6 +233,14 @@ impl Tags {
     {
         lose_all(&mut self.entries, loss);
     }
+}
+
+/// The first entry of a kind.
+fn first_in(entries: &[Entry], kind: Kind) -> Option<usize>
+    ensures is { result ≡ position (λ entry. is_kind kind entry) entries.now }
+    ensures there { IfSome result (λ place. place < length entries.now) }
+{
+    entries.iter().position(|entry| entry.is(kind))
 }
 
 fn lose_all(entries: &mut [Entry], loss: Loss)

@@ -1,5 +1,5 @@
 -- A disk with many commands out: what each step tells.
-use Rattle.std.specs.Prelude.{ℕ, ◌+◌, ◌*◌, ◌-◌, ◌^◌, ◌||◌, min, not, if◌then◌else◌, Bool, Option, None, Some, is_some, List, bit_and, bit_or, replicate, slice_index_or}
+use Rattle.std.specs.Prelude.{ℕ, ◌+◌, ◌*◌, ◌-◌, ◌^◌, ◌||◌, min, not, if◌then◌else◌, Bool, Option, None, Some, is_some, List, false, bit_and, bit_or, replicate, slice_index_or}
 use Rattle.bring_up.specs.declared.access.Access.{Access}
 use Rattle.bring_up.specs.declared.access.Access.TheVariants.{Rest}
 use Rattle.bring_up.specs.declared.commands.Putting.{Putting}

@@ -1,5 +1,5 @@
 -- A disk with many commands out: what comes after each step's access.
-use Rattle.std.specs.Prelude.{ℕ, ◌+◌, ◌/◌, ◌%◌, ◌^◌, ◌==◌, ◌||◌, min, nat_le, not, if◌then◌else◌, Bool, true, false, Option, None, Some, is_some, List, length, slice_index_or, slice_set}
+use Rattle.std.specs.Prelude.{ℕ, ◌+◌, ◌-◌, ◌/◌, ◌%◌, ◌^◌, ◌==◌, ◌||◌, min, nat_le, not, if◌then◌else◌, Bool, true, false, Option, None, Some, is_some, List, length, slice_index_or, slice_set}
 use Rattle.byteorder.specs.Endian.{little_number}
 use Rattle.block_requests.specs.declared.outcomes.Outcome.{Outcome}
 use Rattle.block_requests.specs.declared.outcomes.Outcome.TheVariants as outcome

@@ -1,8 +1,9 @@
 //! A disk with many commands out: the steps, what each tells, and what comes after it.
 ghost use Rattle.std.specs.Prelude.{◌≡◌, ◌<◌, ◌^◌};
 ghost use Rattle.block_driver.specs.Steps.{World, begun_blocks, blocks_access, changes_cleared, found_access, idle_until, waiting};
-ghost use Rattle.block_driver.specs.Turns.{blocks_advanced, closed, closed_by, commands_closed, event_came, failed, found_advanced, given_back, idle_or_late, idle_over, is_inactive, is_looked_on, moved_on, opened, port_told, pulled, put_begun, put_over, restarted_all, said_taken, served, served_on, told_taken, told_until, tries_after, unit_taken, went};
-ghost use Rattle.block_driver.specs.Table.{marks};
+ghost use Rattle.block_driver.specs.Turns.{blocks_advanced, closed, closed_by, commands_closed, event_came, failed, found_advanced, given_back, idle_or_late, idle_over, is_inactive, is_looked_on, moved_on, opened, port_told, pulled, put_begun, put_over, restarted_all, said_taken, served, served_on, stuck_or_late, told_taken, told_until, tries_after, unit_taken, went};
+ghost use Rattle.block_driver.specs.Table.{first_of, marks};
+ghost use Rattle.block_driver.specs.declared.table.Kind.{Kind};
 
 use crate::events::{STATUS_BYTES, Said};
 use crate::freeing::{Removal, data_endpoint, removal_limit};
@@ -390,10 +391,19 @@ impl Blocks {
         ensures is { record { blocks = self.new; taken = taken.new } ≡ closed_by self.old.removal (record { blocks = self.old; taken = taken.old }) now }
         ensures once { marks self.new.tags ≡ marks self.old.tags }
     {
-        match (self.removal, self.tags.first(Kind::Stuck(now))) {
-            (Some(removal), _) => self.free_closed(taken, removal, now),
-            (None, Some(tag)) => self.free_begin(taken, tag, now),
-            (None, None) => self.idle_or_late(taken, now),
+        match self.removal {
+            Some(removal) => self.free_closed(taken, removal, now),
+            None => self.stuck_or_late(taken, now),
+        }
+    }
+
+    fn stuck_or_late(&mut self, taken: &mut Taken, now: u64)
+        ensures is { record { blocks = self.new; taken = taken.new } ≡ stuck_or_late (first_of (Kind.Stuck now) self.old.tags) (record { blocks = self.old; taken = taken.old }) now }
+        ensures once { marks self.new.tags ≡ marks self.old.tags }
+    {
+        match self.tags.first(Kind::Stuck(now)) {
+            Some(tag) => self.free_begin(taken, tag, now),
+            None => self.idle_or_late(taken, now),
         }
     }
 

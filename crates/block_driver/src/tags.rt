@@ -231,6 +231,12 @@ impl Tags {
         ensures is { self.new ≡ all_lost self.old loss }
         ensures once { marks self.new ≡ marks self.old }
     {
+        self.lose_each(loss);
+    }
+
+    fn lose_each(&mut self, loss: Loss)
+        ensures { self.new ≡ all_lost self.old loss }
+    {
         lose_all(&mut self.entries, loss);
     }
 }

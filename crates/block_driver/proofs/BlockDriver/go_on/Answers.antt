@@ -5,7 +5,7 @@ use Rattle.bring_up.specs.Calls.{layout_of}
 use Rattle.bring_up.specs.declared.options.Options.{Options}
 use Rattle.block_driver.specs.Calls.{driver_woken}
 use Rattle.block_driver.specs.declared.BlockDriver.{BlockDriver}
-use Rattle.block_driver.proofs.calls.BlockDriver.go_on.Goals as goal
+use Rattle.block_driver.proofs.BlockDriver.go_on.Goals as goal
 
 pub returns-clause-inside : goal.returns-clause-inside
 returns-clause-inside c =

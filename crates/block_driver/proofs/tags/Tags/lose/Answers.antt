@@ -4,4 +4,4 @@ use Rattle.block_driver.proofs.Marks.{marks_lost}
 use Rattle.block_driver.proofs.tags.Tags.lose.Goals as goal
 
 pub returns-clause-once : goal.returns-clause-once
-returns-clause-once c = ap marks c.lose_all.ensures ∙ marks_lost c.self.inside.entries.items c.args.loss ∙ ap marks c.self.view_is
+returns-clause-once c = ap marks c.lose_each.ensures ∙ marks_lost c.args.self.now c.args.loss

@@ -1,0 +1,253 @@
+-- What a tag has, and what becomes of it: Free, Outstanding from the submission on, Replied until the reply is taken.
+use Rattle.std.specs.Prelude.{ℕ, ◌+◌, ◌-◌, ◌^◌, drop, fold, length, ◌==◌, ◌||◌, ◌&&◌, suc, min, nat_le, nat_lt, not, if◌then◌else◌, Bool, true, false, Option, None, Some, is_none, is_some, option_map, List, map, slice_index_or, slice_set}
+use Rattle.std.specs.List.{list_any, position}
+use Rattle.block_requests.specs.declared.outcomes.Outcome.{Outcome}
+use Rattle.block_requests.specs.declared.outcomes.Outcome.TheVariants as outcome
+use Rattle.bring_up.specs.declared.access.Access.{Access}
+use Rattle.bring_up.specs.declared.access.Access.TheVariants.{Rest}
+use Rattle.bring_up.specs.declared.controller.Controller.{Controller}
+use Rattle.disk_ready.specs.declared.puts.Put.{Put}
+use Rattle.disk_ready.specs.declared.puts.Spots.{Spots}
+use Rattle.disk_ready.specs.declared.puts.Target.{Target}
+use Rattle.disk_ready.specs.declared.puts.Way.{Way}
+use Rattle.disk_ready.specs.declared.puts.Way.TheVariants as way
+use Rattle.disk_ready.specs.Puts.{put_access, put_after}
+use Rattle.host_layout.specs.declared.layout.Layout.{Layout}
+use Rattle.block_driver.specs.declared.table.DataState.{DataState}
+use Rattle.block_driver.specs.declared.table.DataState.TheVariants as data_state
+use Rattle.block_driver.specs.declared.table.Ending.TheVariants as ending
+use Rattle.block_driver.specs.declared.table.Entry.{Entry}
+use Rattle.block_driver.specs.declared.table.Entry.TheVariants as entry
+use Rattle.block_driver.specs.declared.table.Kind.{Kind}
+use Rattle.block_driver.specs.declared.table.Kind.TheVariants as kind
+use Rattle.block_driver.specs.declared.table.Loss.{Loss}
+use Rattle.block_driver.specs.declared.table.Outstanding.{Outstanding}
+use Rattle.block_driver.specs.declared.table.Reply.{Reply}
+use Rattle.block_driver.specs.declared.table.Told.{Told}
+
+-- ONE TAG
+
+-- the mark of the command that it has
+abbrev pub mark_of : Entry → Option ℕ
+mark_of entry.Free = None
+mark_of (entry.Outstanding command) = Some command.mark
+mark_of (entry.Replied reply) = Some reply.mark
+
+abbrev pub is_pending : DataState → Bool
+is_pending data_state.Nothing = false
+is_pending data_state.Pending = true
+is_pending (data_state.Moved count) = false
+
+abbrev pub is_way : Way → Bool → Bool
+is_way way.Nothing is_in = false
+is_way way.In is_in = is_in
+is_way way.Out is_in = not is_in
+
+-- its status came, and its data don't at this time
+abbrev pub stuck_with : Option Told → Outstanding → ℕ → Bool
+stuck_with None command now = false
+stuck_with (Some told) command now = is_pending command.data_state && nat_le told.until now
+
+abbrev pub is_stuck : Outstanding → ℕ → Bool
+is_stuck command now = stuck_with command.status command now
+
+-- its data are under way
+abbrev pub is_moving : Outstanding → Bool → Bool
+is_moving command is_in = is_some command.spots && is_pending command.data_state && is_way command.sent.way is_in
+
+-- a command waits until its TDs have places
+abbrev pub is_command : Kind → Outstanding → Bool
+is_command kind.Free command = false
+is_command kind.Waiting command = is_none command.spots
+is_command kind.Replied command = false
+is_command (kind.Stuck now) command = is_stuck command now
+is_command (kind.StuckOn is_in now) command = is_stuck command now && is_way command.sent.way is_in
+is_command (kind.Moving is_in) command = is_moving command is_in
+
+abbrev pub is_free_kind : Kind → Bool
+is_free_kind kind.Free = true
+is_free_kind _ = false
+
+abbrev pub is_replied_kind : Kind → Bool
+is_replied_kind kind.Replied = true
+is_replied_kind _ = false
+
+abbrev pub is_kind : Kind → Entry → Bool
+is_kind which entry.Free = is_free_kind which
+is_kind which (entry.Outstanding command) = is_command which command
+is_kind which (entry.Replied reply) = is_replied_kind which
+
+-- the way of its data
+abbrev pub way_of : Entry → Way
+way_of entry.Free = way.Nothing
+way_of (entry.Outstanding command) = command.sent.way
+way_of (entry.Replied reply) = way.Nothing
+
+-- the bytes of its data
+abbrev pub wanted_at : Entry → ℕ
+wanted_at entry.Free = 0
+wanted_at (entry.Outstanding command) = command.wanted
+wanted_at (entry.Replied reply) = 0
+
+-- its put
+abbrev pub access_at : Option Spots → Outstanding → Put → Controller → Layout → Target → Access
+access_at None command at c layout target = Rest 0
+access_at (Some spots) command at c layout target = put_access at c layout target command.sent spots command.pieces.items
+
+abbrev pub command_access : Outstanding → Put → Controller → Layout → Target → Access
+command_access command at c layout target = access_at command.spots command at c layout target
+
+abbrev pub entry_access : Entry → Put → Controller → Layout → Target → Access
+entry_access entry.Free at c layout target = Rest 0
+entry_access (entry.Outstanding command) at c layout target = command_access command at c layout target
+entry_access (entry.Replied reply) at c layout target = Rest 0
+
+abbrev pub next_at : Option Spots → Outstanding → Put → Option Put
+next_at None command at = None
+next_at (Some spots) command at = put_after at command.sent spots command.pieces.items
+
+abbrev pub command_next : Outstanding → Put → Option Put
+command_next command at = next_at command.spots command at
+
+abbrev pub entry_next : Entry → Put → Option Put
+entry_next entry.Free at = None
+entry_next (entry.Outstanding command) at = command_next command at
+entry_next (entry.Replied reply) at = None
+
+abbrev pub entry_put : Spots → Entry → Entry
+entry_put spots entry.Free = entry.Free
+entry_put spots (entry.Outstanding command) = entry.Outstanding (record command { spots = Some spots })
+entry_put spots (entry.Replied reply) = entry.Replied reply
+
+-- when its time is over; that of its data is where its status came without them
+abbrev pub limit_with : Option Told → ℕ → ℕ
+limit_with None limit = limit
+limit_with (Some told) limit = min limit told.until
+
+abbrev pub command_limit : Outstanding → ℕ
+command_limit command = limit_with command.status command.limit
+
+abbrev pub entry_limit : Entry → ℕ
+entry_limit entry.Free = 2 ^ 64 - 1
+entry_limit (entry.Outstanding command) = command_limit command
+entry_limit (entry.Replied reply) = 2 ^ 64 - 1
+
+abbrev pub is_late : ℕ → Entry → Bool
+is_late now entry.Free = false
+is_late now (entry.Outstanding command) = nat_le command.limit now
+is_late now (entry.Replied reply) = false
+
+-- ITS END: a reply waits for the data and the status
+
+abbrev pub moved_count : DataState → Option ℕ
+moved_count data_state.Nothing = Some 0
+moved_count data_state.Pending = None
+moved_count (data_state.Moved count) = Some count
+
+-- a TD ends once
+abbrev pub data_moved_in : DataState → ℕ → DataState
+data_moved_in data_state.Nothing count = data_state.Nothing
+data_moved_in data_state.Pending count = data_state.Moved count
+data_moved_in (data_state.Moved before) count = data_state.Moved before
+
+-- GOOD is short where fewer bytes were moved than were wanted
+abbrev pub ended_with : Outcome → ℕ → ℕ → Outcome
+ended_with outcome.Good moved wanted = if moved == wanted then outcome.Good else outcome.Short
+ended_with other moved wanted = other
+
+abbrev pub told_reply : Outstanding → ℕ → Told → Reply
+told_reply command moved told = record {
+  tag = command.sent.tag;
+  mark = command.mark;
+  moved = moved;
+  ending = ending.Told (ended_with told.outcome moved command.wanted);
+}
+
+abbrev pub settled_told : Option Told → Outstanding → ℕ → Entry
+settled_told None command moved = entry.Outstanding command
+settled_told (Some told) command moved = entry.Replied (told_reply command moved told)
+
+abbrev pub settled_by : Option ℕ → Outstanding → Entry
+settled_by None command = entry.Outstanding command
+settled_by (Some moved) command = settled_told command.status command moved
+
+abbrev pub settled_command : Outstanding → Entry
+settled_command command = settled_by (moved_count command.data_state) command
+
+abbrev pub settled : Entry → Entry
+settled entry.Free = entry.Free
+settled (entry.Outstanding command) = settled_command command
+settled (entry.Replied reply) = entry.Replied reply
+
+abbrev pub entry_moved : ℕ → Entry → Entry
+entry_moved count entry.Free = entry.Free
+entry_moved count (entry.Outstanding command) = settled_command (record command { data_state = data_moved_in command.data_state count })
+entry_moved count (entry.Replied reply) = entry.Replied reply
+
+abbrev pub entry_told : Told → Entry → Entry
+entry_told told entry.Free = entry.Free
+entry_told told (entry.Outstanding command) = settled_command (record command { status = Some told })
+entry_told told (entry.Replied reply) = entry.Replied reply
+
+-- what an outstanding command came to isn't known any more
+abbrev pub lost_reply : Outstanding → Loss → Reply
+lost_reply command loss = record { tag = command.sent.tag; mark = command.mark; moved = 0; ending = ending.Lost loss }
+
+abbrev pub entry_lost : Loss → Entry → Entry
+entry_lost loss entry.Free = entry.Free
+entry_lost loss (entry.Outstanding command) = entry.Replied (lost_reply command loss)
+entry_lost loss (entry.Replied reply) = entry.Replied reply
+
+-- a reply that is taken leaves the tag free
+abbrev pub reply_in : Entry → Option Reply
+reply_in entry.Free = None
+reply_in (entry.Outstanding command) = None
+reply_in (entry.Replied reply) = Some reply
+
+abbrev pub entry_taken : Entry → Entry
+entry_taken entry.Free = entry.Free
+entry_taken (entry.Outstanding command) = entry.Outstanding command
+entry_taken (entry.Replied reply) = entry.Free
+
+-- ALL TAGS, tag 1 first
+
+abbrev pub place_in : List Entry → ℕ → Option ℕ
+place_in tags tag = if (tag == 0) || nat_lt (length tags) tag then None else Some (tag - 1)
+
+-- a tag that isn't there has nothing
+abbrev pub entry_under : Option ℕ → List Entry → Entry
+entry_under None tags = entry.Free
+entry_under (Some place) tags = slice_index_or tags place entry.Free
+
+abbrev pub entry_at : List Entry → ℕ → Entry
+entry_at tags tag = entry_under (place_in tags tag) tags
+
+-- a tag has what this makes of what it had
+abbrev pub changed_under : Option ℕ → (Entry → Entry) → List Entry → List Entry
+changed_under None change tags = tags
+changed_under (Some place) change tags = slice_set tags place (change (slice_index_or tags place entry.Free))
+
+abbrev pub changed : (Entry → Entry) → List Entry → ℕ → List Entry
+changed change tags tag = changed_under (place_in tags tag) change tags
+
+-- the marks of all tags' commands: what a call may change of them is told of each
+abbrev pub marks : List Entry → List (Option ℕ)
+marks tags = map mark_of tags
+
+-- the lowest tag of a kind
+abbrev pub first_of : Kind → List Entry → Option ℕ
+first_of which tags = option_map suc (position (is_kind which) tags)
+
+-- the lowest above a tag
+abbrev pub next_of : Kind → List Entry → ℕ → Option ℕ
+next_of which tags tag = option_map (λ place. tag + place + 1) (position (is_kind which) (drop tag tags))
+
+-- the time at which the first of all is over
+abbrev pub least_limit : List Entry → ℕ
+least_limit tags = fold (λ least one. min least (entry_limit one)) (2 ^ 64 - 1) tags
+
+abbrev pub has_late : List Entry → ℕ → Bool
+has_late tags now = list_any (is_late now) tags
+
+abbrev pub all_lost : List Entry → Loss → List Entry
+all_lost tags loss = map (entry_lost loss) tags

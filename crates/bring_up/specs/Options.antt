@@ -20,6 +20,10 @@ is_narrow vendor device = (vendor == 0x1b21) && (device == 0x1142 || device == 0
 abbrev pub has_36_bits : ℕ → ℕ → Bool
 has_36_bits vendor device = (vendor == 0x1106) && (device == 0x3483)
 
+-- Cadence's: bytes 8 to 15 of a stream's context stay as they are at Set TR Dequeue Pointer
+abbrev pub has_stale_streams : ℕ → ℕ → Bool
+has_stale_streams vendor device = (vendor == 0x17cd) && (device == 0x0200)
+
 -- by PCI vendor and device
 abbrev pub quirks_of : ℕ → ℕ → Quirks
 quirks_of vendor device = record {
@@ -27,4 +31,5 @@ quirks_of vendor device = record {
   is_narrow = is_narrow vendor device;
   has_36_bits = has_36_bits vendor device;
   takes_low_last = false;
+  has_stale_streams = has_stale_streams vendor device;
 }

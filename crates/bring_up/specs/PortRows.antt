@@ -14,7 +14,7 @@ use Rattle.bring_up.specs.declared.step.Step.{Step}
 use Rattle.bring_up.specs.declared.step.Step.TheVariants as step
 use Rattle.bring_up.specs.Accesses.{later, read_at, write_at}
 use Rattle.bring_up.specs.Registers.{first_place, is_set, next_place, port_at, port_register}
-use Rattle.bring_up.specs.Services.{idle}
+use Rattle.bring_up.specs.Services.{watch_begun}
 use Rattle.bring_up.specs.Waits.{wait_access}
 
 -- PORTSC with its wake bits, indicators, power and link state: Port Enabled written 1 disables the port, and a change bit written 1 is cleared
@@ -79,7 +79,7 @@ abbrev pub looked_on : Controller → ℕ → PortPlace → ℕ → Bool → Ste
 looked_on c now place limit warmed =
     if is_some (port_at c (next_place c place)) then step.Ports (Look (next_place c place) limit warmed)
     else if nat_lt now limit then step.Ports (Pause (later now 10) limit warmed)
-    else if warmed then step.Watch idle
+    else if warmed then step.Watch watch_begun
     else step.Ports (Warm first_place)
 
 abbrev pub ports_after : Ports → Controller → ℕ → ℕ → Step

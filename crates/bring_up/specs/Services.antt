@@ -51,6 +51,10 @@ service_begun now ms = record { limit = later now ms; seen = 0; at = Status }
 abbrev pub idle : Service
 idle = record { limit = 2 ^ 64 - 1; seen = 0; at = Rest (2 ^ 64 - 1) }
 
+-- events that came while none were looked for are read first: their interrupt is over
+abbrev pub watch_begun : Service
+watch_begun = served_at idle Status
+
 abbrev pub woken_at : Service → Serving → Service
 woken_at service (Rest until) = served_at service Status
 woken_at service Status = service

@@ -12,7 +12,7 @@
 //! | reset | Host Controller Reset; 1 ms without an access | 10,000: `Dead` |
 //! | program | zeros; scratchpads, segment table; registers (4.2) | |
 //! | run | Run/Stop on | 100: `Dead` |
-//! | ports | power; a device that was there for 100 ms (4.19) | 2,000: links that hang are reset, once; `NoDevice` |
+//! | ports | power; change bits cleared; a device that was there for 100 ms (4.19) | 2,000: links that hang are reset, once; `NoDevice` |
 //! | port reset | the port is enabled; SuperSpeed at least | 800, five times: `NoReset`, `NotSuperSpeed` |
 //! | Enable Slot | zeroed contexts; a slot (4.6.3) | 5,000: the controller is taken anew |
 //! | Address Device | contexts; the address (4.6.5); 10 ms | 5,000: likewise; code 4, twice more; `NoAddress` |

@@ -1,6 +1,6 @@
 //! What a caller asks for, and what is known of some controllers.
 ghost use Rattle.std.specs.Prelude.{◌≡◌};
-ghost use Rattle.bring_up.specs.Options.{can_ask, has_36_bits, has_broken_streams, is_narrow, quirks_of};
+ghost use Rattle.bring_up.specs.Options.{can_ask, has_36_bits, has_broken_streams, has_stale_streams, is_narrow, quirks_of};
 
 use host_layout::Pieces;
 
@@ -29,6 +29,8 @@ pub struct Quirks {
     pub has_36_bits: bool,
     /// ERSTBA is taken at its low half's write, and so written last.
     pub takes_low_last: bool,
+    /// Bytes 8 to 15 of a stream's context stay as they are at Set TR Dequeue Pointer: they are zeroed behind it.
+    pub has_stale_streams: bool,
 }
 
 impl Options {
@@ -49,6 +51,7 @@ pub fn quirks_of(vendor: u16, device: u16) -> Quirks
         is_narrow: is_narrow(vendor, device),
         has_36_bits: has_36_bits(vendor, device),
         takes_low_last: false,
+        has_stale_streams: has_stale_streams(vendor, device),
     }
 }
 
@@ -68,6 +71,12 @@ fn is_narrow(vendor: u16, device: u16) -> bool
         (vendor, device),
         (0x1b21, 0x1142 | 0x1242 | 0x2142 | 0x3242)
     )
+}
+
+fn has_stale_streams(vendor: u16, device: u16) -> bool
+    ensures { result ≡ has_stale_streams vendor device }
+{
+    matches!((vendor, device), (0x17cd, 0x0200))
 }
 
 fn has_36_bits(vendor: u16, device: u16) -> bool

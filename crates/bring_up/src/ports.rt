@@ -227,7 +227,7 @@ pub(crate) fn looked_on(
             is_warmed,
         })
     } else if is_warmed {
-        Step::Watch(Service::idle())
+        Step::Watch(Service::watching())
     } else {
         Step::Ports(Ports::Warm(PortPlace::first()))
     }

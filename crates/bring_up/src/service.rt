@@ -3,7 +3,7 @@
 ghost use Rattle.std.specs.Prelude.{◌≡◌, ◌<◌, ◌^◌, ◌≤◌, bit_and, bit_or, length};
 ghost use Rattle.host_trbs.specs.Events.{event_in};
 ghost use Rattle.host_trbs.specs.Words.{words_in};
-ghost use Rattle.bring_up.specs.Services.{behind_word, closing, event_address, event_bytes, events_begun, idle, is_cycle, next_event, passed, rested, served_at, service_access, service_after, service_begun, status_read, taken_event, woken};
+ghost use Rattle.bring_up.specs.Services.{behind_word, closing, event_address, event_bytes, events_begun, idle, is_cycle, next_event, passed, rested, served_at, service_access, service_after, service_begun, status_read, taken_event, watch_begun, woken};
 
 use crate::access::{Access, later, load_in, read_at, write_at};
 use crate::controller::{Controller, is_set};
@@ -150,6 +150,13 @@ impl Service {
             seen: 0,
             at: Serving::Rest(u64::MAX),
         }
+    }
+
+    /// A watch begins with the events that came while none were looked for: their interrupt is over.
+    pub(crate) fn watching() -> Service
+        ensures { result ≡ watch_begun }
+    {
+        Service::idle().with(Serving::Status)
     }
 
     /// An interrupt ends a rest.

@@ -14,7 +14,7 @@ use Rattle.host_layout.specs.declared.layout.Layout.{Layout}
 use Rattle.disk_ready.specs.declared.DiskReady.{DiskReady}
 use Rattle.disk_ready.specs.declared.shapes.ReadyDisk.{ReadyDisk}
 use Rattle.disk_ready.specs.declared.steps.ReadyStep.{ReadyStep}
-use Rattle.disk_ready.specs.declared.steps.ReadyStep.TheVariants.{Begin, Sending, Serve, Status, Free, ServeFree, Context, Take, Pause, Ready}
+use Rattle.disk_ready.specs.declared.steps.ReadyStep.TheVariants.{Begin, Sending, Serve, Status, Free, ServeFree, Context, Mend, Take, Pause, Ready}
 use Rattle.disk_ready.specs.Shapes.{disk_of}
 use Rattle.disk_ready.specs.Steps.{World, begun_readying, found_access}
 use Rattle.disk_ready.specs.Table.{found_advanced, ready_interrupted}
@@ -127,6 +127,7 @@ step_ready (Status awaited count) = false
 step_ready (Free verdict freeing at) = false
 step_ready (ServeFree removal) = false
 step_ready (Context verdict) = false
+step_ready (Mend verdict) = false
 step_ready (Take verdict count) = false
 step_ready (Pause question until) = false
 step_ready Ready = true

@@ -10,6 +10,7 @@ use Rattle.bring_up.specs.PortChecks.{look_access}
 use Rattle.disk_requests.specs.Commands.{asking_cdb}
 use Rattle.disk_requests.specs.Units.{command_text}
 use Rattle.disk_up.specs.Controls.{at_or_zero, next_third}
+use Rattle.disk_up.specs.PipeRows.{stream_mended}
 use Rattle.host_layout.specs.declared.layout.Area.TheVariants.{At, OfTag}
 use Rattle.host_layout.specs.declared.layout.Fixed.TheVariants.{Buffer, DeviceContext}
 use Rattle.host_layout.specs.declared.layout.Layout.{Layout}
@@ -20,6 +21,7 @@ use Rattle.host_layout.specs.Places.{address_of, context_of, place_of}
 use Rattle.host_trbs.specs.declared.commands.Command.{Command}
 use Rattle.host_trbs.specs.declared.commands.Command.TheVariants.{StopEndpoint, SetDequeue}
 use Rattle.host_trbs.specs.Commands.{command_words}
+use Rattle.uas_profile.specs.declared.Pipe.TheVariants.{DataIn as PipeIn}
 use Rattle.usb_descriptors.specs.declared.Pipes.{Pipes}
 use Rattle.usb_descriptors.specs.declared.UasFunction.{UasFunction}
 use Rattle.usb_descriptors.specs.declared.stream_tags.Streams.{Streams}
@@ -94,6 +96,7 @@ step_access (step.Status awaited count) w pipes = load_in (place_of w.taken.layo
 step_access (step.Free verdict freeing at) w pipes = freeing_access w pipes freeing at
 step_access (step.ServeFree removal) w pipes = look_access w.taken.check w.taken removal.service
 step_access (step.Context verdict) w pipes = load_in (context_of w.taken.layout DeviceContext 32 (context_index pipes.data_in)) 32
+step_access (step.Mend verdict) w pipes = stream_mended w.taken.layout PipeIn 1
 step_access (step.Take verdict count) w pipes = load_in (Some (address_of w.taken.layout (At Buffer))) count
 step_access (step.Pause question until) w pipes = Rest until
 step_access step.Ready w pipes = Rest (2 ^ 64 - 1)

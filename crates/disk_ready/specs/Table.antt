@@ -213,8 +213,13 @@ stop_ended Success w verdict since now = moving w verdict
 stop_ended ContextState w verdict since now = stop_again w verdict since now
 stop_ended _ w verdict since now = with_taken w (restarted w.taken now)
 
+-- the stream's context is mended, where it has to be
+abbrev pub moved : World → Verdict → ℕ → World
+moved w verdict now =
+    if w.taken.quirks.has_stale_streams then with_ready w (in_step w.ready (step.Mend verdict)) else concluded w verdict [] now
+
 abbrev pub move_ended : Completion → World → Verdict → ℕ → World
-move_ended Success w verdict now = concluded w verdict [] now
+move_ended Success w verdict now = moved w verdict now
 move_ended _ w verdict now = with_taken w (restarted w.taken now)
 
 abbrev pub freed_by : Freeing → World → Verdict → Completion → ℕ → World
@@ -294,6 +299,7 @@ step_advanced (step.Status awaited count) w pipes now value bytes = status_taken
 step_advanced (step.Free verdict freeing at) w pipes now value bytes = with_ready w (freeing_put w.ready verdict freeing at now)
 step_advanced (step.ServeFree removal) w pipes now value bytes = free_served w.taken.check w removal now value bytes
 step_advanced (step.Context verdict) w pipes now value bytes = context_taken w verdict (first_word bytes)
+step_advanced (step.Mend verdict) w pipes now value bytes = concluded w verdict [] now
 step_advanced (step.Take verdict count) w pipes now value bytes = concluded w verdict bytes now
 step_advanced (step.Pause question until) w pipes now value bytes = pause_over w question now
 step_advanced step.Ready w pipes now value bytes = w

@@ -2,7 +2,7 @@
 ghost use Rattle.std.specs.Prelude.{◌≡◌};
 ghost use Rattle.byteorder.specs.Endian.{little_number};
 ghost use Rattle.disk_ready.specs.Steps.{World};
-ghost use Rattle.disk_ready.specs.Table.{context_taken, first_word, free_begun, free_closed, free_event, free_passed, free_served, free_went, freed_by, freeing_put, move_ended, moving, stop_again, stop_ended};
+ghost use Rattle.disk_ready.specs.Table.{context_taken, first_word, free_begun, free_closed, free_event, free_passed, free_served, free_went, freed_by, freeing_put, move_ended, moved, moving, stop_again, stop_ended};
 
 use crate::steps::{Freeing, ReadyStep, Readying, Removal, Verdict};
 use bring_up::{Completed, Putting, Served, Service, Serving, Taken, later, taken_event};
@@ -184,8 +184,19 @@ impl Readying {
         ensures { record { ready = self.new; taken = taken.new } ≡ move_ended completion (record { ready = self.old; taken = taken.old }) verdict now }
     {
         match completion {
-            Completion::Success => self.conclude(taken, verdict, &[], now),
+            Completion::Success => self.moved(taken, verdict, now),
             _ => taken.restart(now),
+        }
+    }
+
+    /// The stream is at its next third.
+    fn moved(&mut self, taken: &mut Taken, verdict: Verdict, now: u64)
+        ensures { record { ready = self.new; taken = taken.new } ≡ moved (record { ready = self.old; taken = taken.old }) verdict now }
+    {
+        if taken.quirks.has_stale_streams {
+            self.step = ReadyStep::Mend(verdict);
+        } else {
+            self.conclude(taken, verdict, &[], now);
         }
     }
 

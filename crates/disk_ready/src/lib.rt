@@ -22,7 +22,7 @@
 //! What the disk can be asked is `ready_disk`. No call takes memory. That a disk gets ready is tried, in front of the controller of `xhci_machine`
 //! (tests/crates/driver).
 //!
-//! It stands on `disk_up`, `bring_up`, `disk_requests`, `usb_descriptors`, `host_layout`, `host_trbs` and `byteorder`.
+//! It stands on `disk_up`, `bring_up`, `disk_requests`, `usb_descriptors`, `uas_profile`, `host_layout`, `host_trbs` and `byteorder`.
 #![tactic(auto)]
 
 ghost use Rattle.std.specs.Prelude.{◌≡◌, ◌↔◌, true, false};

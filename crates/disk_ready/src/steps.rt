@@ -10,9 +10,10 @@ use crate::serving::late;
 use crate::stores::place_in;
 use bring_up::{Access, Completed, Putting, Service, Serving, Taken, later, load_in};
 use disk_requests::{Readiness, asking_cdb, command_unit};
-use disk_up::next_third;
+use disk_up::{next_third, stream_mended};
 use host_layout::{Fixed, Layout, Piece, Ring, TagArea};
 use host_trbs::Command;
+use uas_profile::Pipe;
 use usb_descriptors::{Pipes, Streams, UasFunction};
 
 /// What a status unit says, and until when data may still come.
@@ -80,6 +81,8 @@ pub enum ReadyStep {
     },
     ServeFree(Removal),
     Context(Verdict),
+    /// The stream's context is mended.
+    Mend(Verdict),
     /// So many bytes of data are loaded.
     Take {
         verdict: Verdict,
@@ -201,6 +204,7 @@ impl Readying {
                 layout.device_context(pipes.data_in.context_index()),
                 CONTEXT_BYTES,
             ),
+            ReadyStep::Mend(_) => stream_mended(layout, Pipe::DataIn, TAG),
             ReadyStep::Take { count, .. } => load_in(Some(layout.fixed(Fixed::Buffer)), count),
             ReadyStep::Pause { until, .. } => Access::Rest(until),
             ReadyStep::Ready => Access::Rest(u64::MAX),
@@ -276,6 +280,7 @@ impl Readying {
             } => self.free_put(verdict, freeing, at, now),
             ReadyStep::ServeFree(removal) => self.serve_free(taken, removal, now, value, bytes),
             ReadyStep::Context(verdict) => self.context_taken(taken, verdict, bytes),
+            ReadyStep::Mend(verdict) => self.conclude(taken, verdict, &[], now),
             ReadyStep::Take { verdict, .. } => self.conclude(taken, verdict, bytes, now),
             ReadyStep::Pause { question, .. } => self.pause_over(taken, question, now),
             ReadyStep::Ready => {}

@@ -92,6 +92,10 @@ stream_at None layout pipe tag = Rest 0
 abbrev pub stream_put : Layout → Pipe → ℕ → Access
 stream_put layout pipe tag = stream_at (ring_of layout pipe tag) layout pipe tag
 
+-- 6.2.4.1: bytes 8 to 15 of a stream context are zeroed
+abbrev pub stream_mended : Layout → Pipe → ℕ → Access
+stream_mended layout pipe tag = store_in (Some (later (array_of layout pipe) (16 * tag + 8))) (Zeros 8)
+
 abbrev pub context_put : Layout → ℕ → List ℕ → Access
 context_put layout index context = store_in (context_of layout InputContext 33 index) (ThirtyTwo context)
 

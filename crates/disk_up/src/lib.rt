@@ -37,7 +37,7 @@ use bring_up::{Access, AnswerFault, BringUp, Options, Stage, fits, is_gone, word
 pub use control::{Seen, Sending, is_at, next_third};
 pub use finding::{Clearing, Ending, FindStep, Finding};
 pub use laws::{contexts_are_added, pipes_are_stored, streams_are_stored, waits_end};
-pub use pipes::Piping;
+pub use pipes::{Piping, stream_mended};
 pub use requests::{Found, Known, Request};
 
 /// A controller that is brought up, and the disk behind it.

@@ -1,6 +1,6 @@
 //! Row 14: the four pipes are configured at once (xHCI 1.2, 4.6.6 and 6.2.3).
 ghost use Rattle.std.specs.Prelude.{◌≡◌, ◌<◌, bit_or};
-ghost use Rattle.disk_up.specs.PipeRows.{added_contexts, array_of, context_count, context_put, dequeue_of, endpoint_of, flag, kind_of, next_page, pipe_after, pipe_endpoint, pipes_access, pipes_after, pipes_slot, ring_of, stream_after, stream_put, zero_after};
+ghost use Rattle.disk_up.specs.PipeRows.{added_contexts, array_of, context_count, context_put, dequeue_of, endpoint_of, flag, kind_of, next_page, pipe_after, pipe_endpoint, pipes_access, pipes_after, pipes_slot, ring_of, stream_after, stream_mended, stream_put, zero_after};
 
 use bring_up::{Access, Device, Stored, later, store_in};
 use host_layout::{Fixed, Layout, TagArea};
@@ -135,6 +135,16 @@ fn dequeue_of(at: u64, streams: Streams, pipe: Pipe) -> Dequeue
             max_primary: streams.max_primary_streams,
         },
     }
+}
+
+/// Zeroes what a controller with stale streams leaves in the context of a tag's stream behind Set TR Dequeue Pointer.
+pub fn stream_mended(layout: &Layout, pipe: Pipe, tag: u8) -> Access
+    ensures { result ≡ stream_mended layout.now pipe tag }
+{
+    store_in(
+        Some(later(array_of(layout, pipe), 16 * u64::from(tag) + 8)),
+        Stored::Zeros(8),
+    )
 }
 
 /// A context of the input context.

@@ -22,9 +22,10 @@ use Rattle.block_driver.specs.declared.steps.Blocks.{Blocks}
 use Rattle.block_driver.specs.declared.table.Entry.TheVariants as entry
 use Rattle.block_driver.specs.declared.table.Kind.TheVariants.{Replied}
 use Rattle.block_driver.specs.declared.table.Loss.TheVariants.{Gone}
-use Rattle.block_driver.specs.declared.table.Reply.{Reply}
+use Rattle.block_driver.specs.declared.replies.Reply.{Reply}
+use Rattle.block_driver.specs.declared.table.Came.{Came}
 use Rattle.block_driver.specs.Steps.{World, begun_blocks, found_access}
-use Rattle.block_driver.specs.Table.{changed, entry_at, entry_taken, first_of, reply_in}
+use Rattle.block_driver.specs.Table.{changed, entry_at, entry_taken, first_of, came_in}
 use Rattle.block_driver.specs.Turns.{commands_closed, found_advanced, given_back, is_back, opened}
 
 abbrev pub begun_with : Option DiskReady → Options → Option BlockDriver
@@ -141,9 +142,13 @@ interrupted d = record d { ready = ready_interrupted d.ready; blocks = record d.
 
 -- REPLIES: that of the lowest tag, which is free then
 
+abbrev pub reply_on : ℕ → Option Came → Option Reply
+reply_on tag None = None
+reply_on tag (Some came) = Some (record { tag = tag; mark = came.mark; moved = came.moved; ending = came.ending })
+
 abbrev pub reply_under : Option ℕ → BlockDriver → Option Reply
 reply_under None d = None
-reply_under (Some tag) d = reply_in (entry_at d.blocks.tags tag)
+reply_under (Some tag) d = reply_on tag (came_in (entry_at d.blocks.tags tag))
 
 abbrev pub reply_of : BlockDriver → Option Reply
 reply_of d = reply_under (first_of Replied d.blocks.tags) d

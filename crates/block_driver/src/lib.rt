@@ -42,11 +42,11 @@ mod tags;
 use block_requests::SubmitFault;
 use disk_ready::DiskReady;
 pub use freeing::{Freeing, Removal};
-pub use replies::State;
+pub use replies::{Reply, State};
 pub use rings::Thirds;
 pub use steps::{Blocks, Work};
 pub use submits::Open;
-pub use table::{DataState, Ending, Entry, Loss, Outstanding, Reply, Told};
+pub use table::{Came, DataState, Ending, Entry, Loss, Outstanding, Told};
 pub use tags::Tags;
 use thiserror::Error;
 

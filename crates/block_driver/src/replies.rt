@@ -1,11 +1,12 @@
 //! Replies, and where a driver is.
-ghost use Rattle.std.specs.Prelude.{◌≡◌, ◌≢◌, ◌↔◌, ◌%◌, ℕ, true, false, None, Some, OnErr, OnOk, slice_set};
+ghost use Rattle.std.specs.Prelude.{◌≡◌, ◌≢◌, ◌↔◌, ◌%◌, ◌-◌, ℕ, true, false, None, Some, IfSome, OnErr, slice_set};
 ghost use Rattle.bring_up.specs.Lending.{IsShapeFor, WantsBytes, has_reach, is_wanting, lent};
 ghost use Rattle.host_layout.specs.Shapes.{bytes_of};
 ghost use Rattle.block_driver.specs.Calls.{reply_of, reply_taken, state_below, state_of};
+ghost use Rattle.block_driver.specs.Table.{entry_at, mark_of, marks};
 
 use crate::BlockDriver;
-use crate::table::{Kind, Reply};
+use crate::table::{Ending, Kind};
 use bring_up::{LendFault, Row, State as Below, Why};
 use disk_ready::ReadyDisk;
 
@@ -27,6 +28,15 @@ pub enum State {
     Gone,
     /// It can't be used until it is reset from outside; the memory is the controller's until its bus mastering is off.
     Dead,
+}
+
+/// What the command on a tag came to: so many bytes of its data were moved, none of those that were taken off.
+#[derive(Debug, PartialEq, Eq, Drop)]
+pub struct Reply {
+    pub tag: u16,
+    pub mark: u64,
+    pub moved: u32,
+    pub ending: Ending,
 }
 
 fn state_below(below: Below) -> State
@@ -63,9 +73,19 @@ impl BlockDriver {
     pub fn take_reply(&mut self) -> Option<Reply>
         ensures reply { result ≡ reply_of self.old }
         ensures state { self.new ≡ reply_taken self.old }
+        ensures once { IfSome result (λ reply. marks self.new.blocks.tags ≡ slice_set (marks self.old.blocks.tags) (reply.tag - 1) None) }
+        ensures mark { IfSome result (λ reply. mark_of (entry_at self.old.blocks.tags reply.tag) ≡ Some reply.mark) }
     {
-        match self.blocks.tags.first(Kind::Replied) {
-            Some(tag) => self.blocks.tags.take(tag),
+        let Some(tag) = self.blocks.tags.first(Kind::Replied) else {
+            return None;
+        };
+        match self.blocks.tags.take(tag) {
+            Some(came) => Some(Reply {
+                tag: u16::from(tag),
+                mark: came.mark,
+                moved: came.moved,
+                ending: came.ending,
+            }),
             None => None,
         }
     }

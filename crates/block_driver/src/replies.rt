@@ -1,13 +1,17 @@
 //! Replies, and where a driver is.
-ghost use Rattle.std.specs.Prelude.{◌≡◌, ◌≢◌, ◌↔◌, ◌%◌, ◌-◌, ℕ, true, false, None, Some, IfSome, OnErr, slice_set};
+ghost use Rattle.std.specs.Prelude.{◌≡◌, ◌≢◌, ◌↔◌, ◌%◌, ◌-◌, ℕ, true, false, None, Some, IfErr, IfSome, OnErr, OnOk, is_err, is_none, slice_set};
 ghost use Rattle.bring_up.specs.Lending.{IsShapeFor, WantsBytes, has_reach, is_wanting, lent};
 ghost use Rattle.host_layout.specs.Shapes.{bytes_of};
-ghost use Rattle.block_driver.specs.Calls.{reply_of, reply_taken, state_below, state_of};
+ghost use Rattle.block_driver.specs.Calls.{reply_of, reply_taken, restarted_driver, state_below, state_of, with_driver};
+ghost use Rattle.block_driver.specs.Submits.{open_disk};
+ghost use Rattle.bring_up.specs.declared.bring_up.Stage.{Stage};
+ghost use Rattle.bring_up.specs.declared.controller.Controller.{Controller};
+ghost use Rattle.host_layout.specs.declared.layout.Layout.{Layout};
 ghost use Rattle.block_driver.specs.Table.{entry_at, mark_of, marks};
 
-use crate::BlockDriver;
-use crate::table::{Ending, Kind};
-use bring_up::{LendFault, Row, State as Below, Why};
+use crate::table::{Ending, Kind, Loss};
+use crate::{BlockDriver, Fault};
+use bring_up::{LendFault, Row, Stage, State as Below, Why};
 use disk_ready::ReadyDisk;
 
 /// Where a driver is.
@@ -90,12 +94,31 @@ impl BlockDriver {
         }
     }
 
+    /// Tries the device again, from its port's reset on; its commands are lost. `NotReady` while no disk is used, which changes nothing.
+    pub fn restart(&mut self) -> Result<(), Fault>
+        ensures state { self.new ≡ restarted_driver self.old }
+        ensures refused { is_err result ≡ is_none (open_disk self.old) }
+        ensures fault { IfErr result (λ fault. fault ≡ Fault.NotReady) }
+        ensures once { marks self.new.blocks.tags ≡ marks self.old.blocks.tags }
+    {
+        let is_open = self.blocks.disk.is_some();
+        match &mut self.ready.device.driver.stage {
+            Stage::Taken(taken) if is_open => {
+                self.blocks.fail(taken, Loss::Restarted);
+                Ok(())
+            }
+            _ => Err(Fault::NotReady),
+        }
+    }
+
     /// Lends memory from an address on, in state `WantsMemory`. `Alignment` for no multiple of 65,536; `Reach` above the options' `address_bits`, where
     /// the controller doesn't reach it, and across a multiple of 2^32. A refusal changes nothing.
     pub fn lend(&mut self, base: u64) -> Result<(), LendFault>
         ensures not_asked { (result ≡ Err LendFault.NotAsked) ↔ (is_wanting self.old.ready.device.driver.stage ≡ false) }
         ensures alignment { (result ≡ Err LendFault.Alignment) ↔ ((is_wanting self.old.ready.device.driver.stage ≡ true) × (base % 65536 ≢ 0)) }
         ensures kept { OnErr result (self.new ≡ self.old) }
+        ensures taken { OnOk result ((c : Controller) × (layout : Layout) × (self.old.ready.device.driver.stage ≡ Stage.Wanting c) × (layout.base ≡ base) × IsShapeFor self.old.ready.device.driver.options c layout.shape × (has_reach self.old.ready.device.driver.options c base (bytes_of layout.shape) ≡ true) × (self.new.ready.device.driver ≡ lent self.old.ready.device.driver c layout)) }
+        ensures rest { self.new ≡ with_driver self.old self.new.ready.device.driver }
     {
         self.ready.device.driver.lend(base)
     }

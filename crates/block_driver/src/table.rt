@@ -26,6 +26,8 @@ pub enum Loss {
     Broken,
     /// The controller is gone.
     Gone,
+    /// The driver's user had the device tried again.
+    Restarted,
 }
 
 /// How a command ended.

@@ -1,6 +1,6 @@
 -- The lowest tag of a kind is there, and is of that kind.
-use Rattle.std.proofs.Common.{◌≡◌, ℕ, suc, ◌-◌, ◌≤◌, List, length, Option, None, Some, true, false, refl, ap, ◌∙◌, arith}
-use Rattle.std.specs.Prelude.{◌==◌, option_map, slice_index_or}
+use Rattle.std.proofs.Common.{◌≡◌, Bool, sym, ℕ, suc, ◌-◌, ◌≤◌, List, length, Option, None, Some, true, false, refl, ap, ◌∙◌, arith}
+use Rattle.std.specs.Prelude.{◌==◌, ◌||◌, nat_lt, if◌then◌else◌, option_map, slice_index_or}
 use Rattle.std.specs.List.{position}
 use Rattle.std.proofs.lemmas.Bool.{le-ltb, ne_eqb}
 use Rattle.std.proofs.lemmas.List.Quantifiers.{position-Some}
@@ -19,6 +19,13 @@ pub place_of : (tags : List Entry) (tag : ℕ) → 1 ≤ tag → tag ≤ length 
 place_of tags tag first last =
     let some : (tag == 0) ≡ false = ne_eqb tag 0 (λ e. omega (arith, e, first)) in
     rw (some, le-ltb (length tags) tag last) refl
+
+place_by : (is : Bool) (tag place : ℕ) → (if is then None else Some (tag - 1)) ≡ Some place → place ≡ tag - 1
+place_by true tag place at = absurd (cc at)
+place_by false tag place at = sym (same_Some _ _ at)
+
+pub place_is : (tags : List Entry) (tag place : ℕ) → place_in tags tag ≡ Some place → place ≡ tag - 1
+place_is tags tag place at = place_by ((tag == 0) || nat_lt (length tags) tag) tag place at
 
 pub first_there : (which : Kind) (tags : List Entry) (tag : ℕ) → first_of which tags ≡ Some tag → place_in tags tag ≡ Some (tag - 1)
 first_there which tags tag is =

@@ -1,7 +1,8 @@
 -- What a change of one tag makes of all marks.
-use Rattle.std.proofs.Common.{◌≡◌, ℕ, zero, suc, ◌≤◌, List, [], ◌∷◌, ◌++◌, length, map, take, drop, Option, refl, ap, ◌∙◌}
+use Rattle.std.proofs.Common.{◌≡◌, ℕ, zero, suc, ◌≤◌, List, [], ◌∷◌, ◌++◌, length, map, take, drop, refl, Option, None, Some, ap, ◌∙◌}
 use Rattle.std.proofs.lemmas.List.{take_all, drop_all, append-nil}
-use Rattle.std.specs.Prelude.{slice_index_or, slice_set}
+use Rattle.std.specs.Prelude.{IfSome, slice_index_or, slice_set}
+use Rattle.block_driver.specs.declared.table.Came.{Came}
 use Rattle.block_driver.specs.declared.table.Entry.{Entry}
 use Rattle.block_driver.specs.declared.table.Entry.TheVariants.{Free, Outstanding, Replied}
 use Rattle.block_driver.specs.declared.table.Loss.{Loss}
@@ -37,3 +38,11 @@ pub map_all : {T : Type 0} (f : T → T) (items now : List T) (many : ℕ) → n
 map_all f items now many is all =
     is ∙ ap (λ front. map f front ++ drop many items) (take_all many items all) ∙ ap (λ rest. map f items ++ rest) (drop_all many items all)
     ∙ append-nil (map f items)
+
+-- one tag has no mark any more, where something came of it
+pub marks_freed : (found : Option Came) (tags view : List Entry) (place at : ℕ) (now : Entry) → IfSome found (λ came. mark_of now ≡ None) →
+    tags ≡ view → place ≡ at → IfSome found (λ came. marks (slice_set tags place now) ≡ slice_set (marks view) at None)
+marks_freed None tags view place at now freed same there = tt
+marks_freed (Some came) tags view place at now freed same there =
+    marks_set tags place now ∙ ap (slice_set (marks tags) place) freed ∙ ap (λ held. slice_set (marks held) place None) same
+    ∙ ap (λ p. slice_set (marks view) p None) there

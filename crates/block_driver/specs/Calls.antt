@@ -4,6 +4,7 @@ use Rattle.bring_up.specs.declared.access.Access.{Access}
 use Rattle.bring_up.specs.declared.access.Access.TheVariants.{Read32, Load, Write32, Store, Rest}
 use Rattle.bring_up.specs.declared.bring_up.Stage.{Stage}
 use Rattle.bring_up.specs.declared.bring_up.Stage.TheVariants as stage
+use Rattle.bring_up.specs.declared.bring_up.BringUp.{BringUp}
 use Rattle.bring_up.specs.declared.options.Options.{Options}
 use Rattle.bring_up.specs.declared.state.State as bring_up
 use Rattle.bring_up.specs.declared.state.State.TheVariants as below
@@ -21,11 +22,12 @@ use Rattle.block_driver.specs.declared.replies.State.TheVariants as state
 use Rattle.block_driver.specs.declared.steps.Blocks.{Blocks}
 use Rattle.block_driver.specs.declared.table.Entry.TheVariants as entry
 use Rattle.block_driver.specs.declared.table.Kind.TheVariants.{Replied}
-use Rattle.block_driver.specs.declared.table.Loss.TheVariants.{Gone}
-use Rattle.block_driver.specs.declared.table.Reply.{Reply}
+use Rattle.block_driver.specs.declared.table.Loss.TheVariants.{Gone, Restarted}
+use Rattle.block_driver.specs.declared.replies.Reply.{Reply}
+use Rattle.block_driver.specs.declared.table.Came.{Came}
 use Rattle.block_driver.specs.Steps.{World, begun_blocks, found_access}
-use Rattle.block_driver.specs.Table.{changed, entry_at, entry_taken, first_of, reply_in}
-use Rattle.block_driver.specs.Turns.{commands_closed, found_advanced, given_back, is_back, opened}
+use Rattle.block_driver.specs.Table.{changed, entry_at, entry_taken, first_of, came_in}
+use Rattle.block_driver.specs.Turns.{commands_closed, failed, found_advanced, given_back, is_back, opened}
 
 abbrev pub begun_with : Option DiskReady → Options → Option BlockDriver
 begun_with None options = None
@@ -141,9 +143,13 @@ interrupted d = record d { ready = ready_interrupted d.ready; blocks = record d.
 
 -- REPLIES: that of the lowest tag, which is free then
 
+abbrev pub reply_on : ℕ → Option Came → Option Reply
+reply_on tag None = None
+reply_on tag (Some came) = Some (record { tag = tag; mark = came.mark; moved = came.moved; ending = came.ending })
+
 abbrev pub reply_under : Option ℕ → BlockDriver → Option Reply
 reply_under None d = None
-reply_under (Some tag) d = reply_in (entry_at d.blocks.tags tag)
+reply_under (Some tag) d = reply_on tag (came_in (entry_at d.blocks.tags tag))
 
 abbrev pub reply_of : BlockDriver → Option Reply
 reply_of d = reply_under (first_of Replied d.blocks.tags) d
@@ -154,6 +160,21 @@ taken_under (Some tag) d = record d { blocks = record d.blocks { tags = changed 
 
 abbrev pub reply_taken : BlockDriver → BlockDriver
 reply_taken d = taken_under (first_of Replied d.blocks.tags) d
+
+-- THE DEVICE IS TRIED AGAIN, while a disk is used; memory is lent
+
+abbrev pub restart_in : Stage → BlockDriver → BlockDriver
+restart_in (stage.Surveying s) d = d
+restart_in (stage.Wanting c) d = d
+restart_in (stage.Taken t) d = if is_open d then with_world d (failed (record { blocks = d.blocks; taken = t }) Restarted) else d
+restart_in (stage.Refused why) d = d
+restart_in stage.Gone d = d
+
+abbrev pub restarted_driver : BlockDriver → BlockDriver
+restarted_driver d = restart_in d.ready.device.driver.stage d
+
+abbrev pub with_driver : BlockDriver → BringUp → BlockDriver
+with_driver d driver = record d { ready = record d.ready { device = record d.ready.device { driver = driver } } }
 
 -- WHERE IT IS
 

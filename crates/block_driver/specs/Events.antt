@@ -1,5 +1,5 @@
 -- What an event says of the tags (xHCI 1.2, 6.4.2.1): it names a TRB by its address, and so a ring, a third and a place.
-use Rattle.std.specs.Prelude.{ℕ, ◌-◌, ◌==◌, ◌&&◌, not, if◌then◌else◌, Bool, true, false, Option, None, Some, is_none, List}
+use Rattle.std.specs.Prelude.{ℕ, ◌-◌, ◌==◌, ◌&&◌, if◌then◌else◌, Bool, true, false, Option, None, Some, is_none, List}
 use Rattle.block_requests.specs.declared.outcomes.DataEnd.{DataEnd}
 use Rattle.block_requests.specs.declared.outcomes.DataEnd.TheVariants as data_end
 use Rattle.block_requests.specs.declared.outcomes.Outcome.{Outcome}

@@ -5,3 +5,4 @@ pub mod Steps
 pub mod Turns
 pub mod Submits
 pub mod Calls
+pub mod Laws

@@ -1,6 +1,5 @@
 -- Which commands are taken, and what is put for one.
-use Rattle.std.specs.Prelude.{ℕ, ◌-◌, ◌^◌, ◌==◌, min, nat_le, nat_lt, not, if◌then◌else◌, Bool, true, false, Option, None, Some, List, [], ◌∷◌, length, slice_index_or}
-use Rattle.arrayvec.specs.ArrayVec.{ArrayVec}
+use Rattle.std.specs.Prelude.{ℕ, ◌-◌, ◌^◌, ◌==◌, nat_le, nat_lt, not, if◌then◌else◌, Option, None, Some, List, [], ◌∷◌}
 use Rattle.block_requests.specs.declared.Submission.{Submission}
 use Rattle.block_requests.specs.declared.SubmitFault.{SubmitFault}
 use Rattle.block_requests.specs.Submissions.{submission_of, submit_fault}
@@ -18,7 +17,7 @@ use Rattle.host_layout.specs.declared.layout.Area.TheVariants.{OfTag}
 use Rattle.host_layout.specs.declared.layout.TagArea.TheVariants.{UnmapList}
 use Rattle.host_layout.specs.declared.segments.Piece.{Piece}
 use Rattle.host_layout.specs.declared.segments.Segment.{Segment}
-use Rattle.host_layout.specs.Cutting.{no_piece, total_of}
+use Rattle.host_layout.specs.Cutting.{total_of}
 use Rattle.host_layout.specs.Places.{place_of}
 use Rattle.block_driver.specs.declared.BlockDriver.{BlockDriver}
 use Rattle.block_driver.specs.declared.Fault.{Fault}

@@ -22,7 +22,7 @@ use Rattle.block_driver.specs.declared.table.Kind.{Kind}
 use Rattle.block_driver.specs.declared.table.Kind.TheVariants as kind
 use Rattle.block_driver.specs.declared.table.Loss.{Loss}
 use Rattle.block_driver.specs.declared.table.Outstanding.{Outstanding}
-use Rattle.block_driver.specs.declared.table.Reply.{Reply}
+use Rattle.block_driver.specs.declared.table.Came.{Came}
 use Rattle.block_driver.specs.declared.table.Told.{Told}
 
 -- ONE TAG
@@ -31,7 +31,7 @@ use Rattle.block_driver.specs.declared.table.Told.{Told}
 abbrev pub mark_of : Entry → Option ℕ
 mark_of entry.Free = None
 mark_of (entry.Outstanding command) = Some command.mark
-mark_of (entry.Replied reply) = Some reply.mark
+mark_of (entry.Replied came) = Some came.mark
 
 abbrev pub is_pending : DataState → Bool
 is_pending data_state.Nothing = false
@@ -75,19 +75,19 @@ is_replied_kind _ = false
 abbrev pub is_kind : Kind → Entry → Bool
 is_kind which entry.Free = is_free_kind which
 is_kind which (entry.Outstanding command) = is_command which command
-is_kind which (entry.Replied reply) = is_replied_kind which
+is_kind which (entry.Replied came) = is_replied_kind which
 
 -- the way of its data
 abbrev pub way_of : Entry → Way
 way_of entry.Free = way.Nothing
 way_of (entry.Outstanding command) = command.sent.way
-way_of (entry.Replied reply) = way.Nothing
+way_of (entry.Replied came) = way.Nothing
 
 -- the bytes of its data
 abbrev pub wanted_at : Entry → ℕ
 wanted_at entry.Free = 0
 wanted_at (entry.Outstanding command) = command.wanted
-wanted_at (entry.Replied reply) = 0
+wanted_at (entry.Replied came) = 0
 
 -- its put
 abbrev pub access_at : Option Spots → Outstanding → Put → Controller → Layout → Target → Access
@@ -100,7 +100,7 @@ command_access command at c layout target = access_at command.spots command at c
 abbrev pub entry_access : Entry → Put → Controller → Layout → Target → Access
 entry_access entry.Free at c layout target = Rest 0
 entry_access (entry.Outstanding command) at c layout target = command_access command at c layout target
-entry_access (entry.Replied reply) at c layout target = Rest 0
+entry_access (entry.Replied came) at c layout target = Rest 0
 
 abbrev pub next_at : Option Spots → Outstanding → Put → Option Put
 next_at None command at = None
@@ -112,12 +112,12 @@ command_next command at = next_at command.spots command at
 abbrev pub entry_next : Entry → Put → Option Put
 entry_next entry.Free at = None
 entry_next (entry.Outstanding command) at = command_next command at
-entry_next (entry.Replied reply) at = None
+entry_next (entry.Replied came) at = None
 
 abbrev pub entry_put : Spots → Entry → Entry
 entry_put spots entry.Free = entry.Free
 entry_put spots (entry.Outstanding command) = entry.Outstanding (record command { spots = Some spots })
-entry_put spots (entry.Replied reply) = entry.Replied reply
+entry_put spots (entry.Replied came) = entry.Replied came
 
 -- when its time is over; that of its data is where its status came without them
 abbrev pub limit_with : Option Told → ℕ → ℕ
@@ -130,12 +130,12 @@ command_limit command = limit_with command.status command.limit
 abbrev pub entry_limit : Entry → ℕ
 entry_limit entry.Free = 2 ^ 64 - 1
 entry_limit (entry.Outstanding command) = command_limit command
-entry_limit (entry.Replied reply) = 2 ^ 64 - 1
+entry_limit (entry.Replied came) = 2 ^ 64 - 1
 
 abbrev pub is_late : ℕ → Entry → Bool
 is_late now entry.Free = false
 is_late now (entry.Outstanding command) = nat_le command.limit now
-is_late now (entry.Replied reply) = false
+is_late now (entry.Replied came) = false
 
 -- ITS END: a reply waits for the data and the status
 
@@ -155,9 +155,8 @@ abbrev pub ended_with : Outcome → ℕ → ℕ → Outcome
 ended_with outcome.Good moved wanted = if moved == wanted then outcome.Good else outcome.Short
 ended_with other moved wanted = other
 
-abbrev pub told_reply : Outstanding → ℕ → Told → Reply
-told_reply command moved told = record {
-  tag = command.sent.tag;
+abbrev pub told_came : Outstanding → ℕ → Told → Came
+told_came command moved told = record {
   mark = command.mark;
   moved = moved;
   ending = ending.Told (ended_with told.outcome moved command.wanted);
@@ -165,7 +164,7 @@ told_reply command moved told = record {
 
 abbrev pub settled_told : Option Told → Outstanding → ℕ → Entry
 settled_told None command moved = entry.Outstanding command
-settled_told (Some told) command moved = entry.Replied (told_reply command moved told)
+settled_told (Some told) command moved = entry.Replied (told_came command moved told)
 
 abbrev pub settled_by : Option ℕ → Outstanding → Entry
 settled_by None command = entry.Outstanding command
@@ -177,37 +176,37 @@ settled_command command = settled_by (moved_count command.data_state) command
 abbrev pub settled : Entry → Entry
 settled entry.Free = entry.Free
 settled (entry.Outstanding command) = settled_command command
-settled (entry.Replied reply) = entry.Replied reply
+settled (entry.Replied came) = entry.Replied came
 
 abbrev pub entry_moved : ℕ → Entry → Entry
 entry_moved count entry.Free = entry.Free
 entry_moved count (entry.Outstanding command) = settled_command (record command { data_state = data_moved_in command.data_state count })
-entry_moved count (entry.Replied reply) = entry.Replied reply
+entry_moved count (entry.Replied came) = entry.Replied came
 
 abbrev pub entry_told : Told → Entry → Entry
 entry_told told entry.Free = entry.Free
 entry_told told (entry.Outstanding command) = settled_command (record command { status = Some told })
-entry_told told (entry.Replied reply) = entry.Replied reply
+entry_told told (entry.Replied came) = entry.Replied came
 
 -- what an outstanding command came to isn't known any more
-abbrev pub lost_reply : Outstanding → Loss → Reply
-lost_reply command loss = record { tag = command.sent.tag; mark = command.mark; moved = 0; ending = ending.Lost loss }
+abbrev pub lost_came : Outstanding → Loss → Came
+lost_came command loss = record { mark = command.mark; moved = 0; ending = ending.Lost loss }
 
 abbrev pub entry_lost : Loss → Entry → Entry
 entry_lost loss entry.Free = entry.Free
-entry_lost loss (entry.Outstanding command) = entry.Replied (lost_reply command loss)
-entry_lost loss (entry.Replied reply) = entry.Replied reply
+entry_lost loss (entry.Outstanding command) = entry.Replied (lost_came command loss)
+entry_lost loss (entry.Replied came) = entry.Replied came
 
 -- a reply that is taken leaves the tag free
-abbrev pub reply_in : Entry → Option Reply
-reply_in entry.Free = None
-reply_in (entry.Outstanding command) = None
-reply_in (entry.Replied reply) = Some reply
+abbrev pub came_in : Entry → Option Came
+came_in entry.Free = None
+came_in (entry.Outstanding command) = None
+came_in (entry.Replied came) = Some came
 
 abbrev pub entry_taken : Entry → Entry
 entry_taken entry.Free = entry.Free
 entry_taken (entry.Outstanding command) = entry.Outstanding command
-entry_taken (entry.Replied reply) = entry.Free
+entry_taken (entry.Replied came) = entry.Free
 
 -- ALL TAGS, tag 1 first
 

@@ -1,5 +1,5 @@
 -- A disk with many commands out: what comes after each step's access.
-use Rattle.std.specs.Prelude.{ℕ, ◌+◌, ◌-◌, ◌/◌, ◌%◌, ◌^◌, ◌==◌, ◌||◌, min, nat_le, not, if◌then◌else◌, Bool, true, false, Option, None, Some, is_some, List, length, slice_index_or, slice_set}
+use Rattle.std.specs.Prelude.{ℕ, ◌+◌, ◌-◌, ◌/◌, ◌%◌, ◌^◌, ◌==◌, ◌||◌, min, nat_le, not, if◌then◌else◌, Bool, true, false, Option, None, Some, List, length, slice_index_or, slice_set}
 use Rattle.byteorder.specs.Endian.{little_number}
 use Rattle.block_requests.specs.declared.outcomes.Outcome.{Outcome}
 use Rattle.block_requests.specs.declared.outcomes.Outcome.TheVariants as outcome
@@ -28,7 +28,6 @@ use Rattle.disk_ready.specs.declared.puts.Put.{Put}
 use Rattle.disk_ready.specs.declared.puts.Put.TheVariants.{CommandUnit}
 use Rattle.disk_ready.specs.declared.puts.Spots.{Spots}
 use Rattle.disk_ready.specs.declared.puts.Way.{Way}
-use Rattle.disk_ready.specs.declared.puts.Way.TheVariants as way
 use Rattle.disk_ready.specs.declared.shapes.ReadyDisk.{ReadyDisk}
 use Rattle.disk_ready.specs.Puts.{is_in, next_pipe}
 use Rattle.host_trbs.specs.declared.events.Completion.{Completion}
@@ -52,7 +51,6 @@ use Rattle.block_driver.specs.declared.steps.Work.TheVariants as work
 use Rattle.block_driver.specs.declared.table.Kind.TheVariants as kind
 use Rattle.block_driver.specs.declared.table.Loss.{Loss}
 use Rattle.block_driver.specs.declared.table.Loss.TheVariants as loss
-use Rattle.block_driver.specs.declared.table.Told.{Told}
 use Rattle.block_driver.specs.Events.{event_said, unit_outcome}
 use Rattle.block_driver.specs.Rings.{spots_at, thirds_after, thirds_begun, thirds_from}
 use Rattle.block_driver.specs.Steps.{World, in_work, waiting, with_blocks, with_taken}

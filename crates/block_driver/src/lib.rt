@@ -17,12 +17,12 @@
 //! | a TD fails, another tag's unit, a command's time is over, the port disabled | all are lost, and the device is tried again |
 //! | the disk is gone from its port; the controller had an error | all are lost; another device is looked for; the controller is taken anew |
 //!
-//! Commands are lost once their TDs aren't the controller's any more: behind Disable Slot, or the controller's reset.
+//! [`BlockDriver::restart`] has the device tried again too. Commands are lost once their TDs aren't the controller's any more: behind Disable Slot, or the controller's reset.
 //!
 //! What is promised, for any answers, times and calls: what is told is the access of the table's row (`next_access`), and the next state is that of
 //! the row too (`next_state`, `answered`, in specs/Calls, Steps, Turns, Events). No access is outside the registers or the memory that was lent
 //! (`inside`). Each command has one reply (`once`): [`BlockDriver::submit`] gives a free tag to it, [`BlockDriver::take_reply`] frees the tag of a reply, and no
-//! other call changes which tags have commands, and with which marks. No call but [`BlockDriver::new`] takes memory. That commands end is tried, in
+//! other call changes which tags have commands, with which marks, or a reply ([`replies_stand`]). No call but [`BlockDriver::new`] takes memory. That commands end is tried, in
 //! front of the controller of `xhci_machine` (tests/crates/driver).
 //!
 //! It stands on `block_requests`, `disk_ready`, `disk_up`, `bring_up`, `disk_requests`, `usb_descriptors`, `host_layout`, `host_trbs`, `arrayvec`,
@@ -32,6 +32,7 @@
 mod calls;
 mod events;
 mod freeing;
+mod laws;
 mod replies;
 mod rings;
 mod steps;
@@ -42,11 +43,12 @@ mod tags;
 use block_requests::SubmitFault;
 use disk_ready::DiskReady;
 pub use freeing::{Freeing, Removal};
-pub use replies::State;
+pub use laws::replies_stand;
+pub use replies::{Reply, State};
 pub use rings::Thirds;
 pub use steps::{Blocks, Work};
 pub use submits::Open;
-pub use table::{DataState, Ending, Entry, Loss, Outstanding, Reply, Told};
+pub use table::{Came, DataState, Ending, Entry, Loss, Outstanding, Told};
 pub use tags::Tags;
 use thiserror::Error;
 

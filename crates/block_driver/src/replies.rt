@@ -1,12 +1,17 @@
 //! Replies, and where a driver is.
-ghost use Rattle.std.specs.Prelude.{◌≡◌, ◌≢◌, ◌↔◌, ◌%◌, ℕ, true, false, None, Some, OnErr, OnOk, slice_set};
+ghost use Rattle.std.specs.Prelude.{◌≡◌, ◌≢◌, ◌↔◌, ◌%◌, ◌-◌, ℕ, true, false, None, Some, IfErr, IfSome, OnErr, OnOk, is_err, is_none, slice_set};
 ghost use Rattle.bring_up.specs.Lending.{IsShapeFor, WantsBytes, has_reach, is_wanting, lent};
 ghost use Rattle.host_layout.specs.Shapes.{bytes_of};
-ghost use Rattle.block_driver.specs.Calls.{reply_of, reply_taken, state_below, state_of};
+ghost use Rattle.block_driver.specs.Calls.{reply_of, reply_taken, restarted_driver, state_below, state_of, with_driver};
+ghost use Rattle.block_driver.specs.Submits.{open_disk};
+ghost use Rattle.bring_up.specs.declared.bring_up.Stage.{Stage};
+ghost use Rattle.bring_up.specs.declared.controller.Controller.{Controller};
+ghost use Rattle.host_layout.specs.declared.layout.Layout.{Layout};
+ghost use Rattle.block_driver.specs.Table.{entry_at, mark_of, marks};
 
-use crate::BlockDriver;
-use crate::table::{Kind, Reply};
-use bring_up::{LendFault, Row, State as Below, Why};
+use crate::table::{Ending, Kind, Loss};
+use crate::{BlockDriver, Fault};
+use bring_up::{LendFault, Row, Stage, State as Below, Why};
 use disk_ready::ReadyDisk;
 
 /// Where a driver is.
@@ -27,6 +32,15 @@ pub enum State {
     Gone,
     /// It can't be used until it is reset from outside; the memory is the controller's until its bus mastering is off.
     Dead,
+}
+
+/// What the command on a tag came to: so many bytes of its data were moved, none of those that were taken off.
+#[derive(Debug, PartialEq, Eq, Drop)]
+pub struct Reply {
+    pub tag: u16,
+    pub mark: u64,
+    pub moved: u32,
+    pub ending: Ending,
 }
 
 fn state_below(below: Below) -> State
@@ -63,10 +77,37 @@ impl BlockDriver {
     pub fn take_reply(&mut self) -> Option<Reply>
         ensures reply { result ≡ reply_of self.old }
         ensures state { self.new ≡ reply_taken self.old }
+        ensures once { IfSome result (λ reply. marks self.new.blocks.tags ≡ slice_set (marks self.old.blocks.tags) (reply.tag - 1) None) }
+        ensures mark { IfSome result (λ reply. mark_of (entry_at self.old.blocks.tags reply.tag) ≡ Some reply.mark) }
     {
-        match self.blocks.tags.first(Kind::Replied) {
-            Some(tag) => self.blocks.tags.take(tag),
+        let Some(tag) = self.blocks.tags.first(Kind::Replied) else {
+            return None;
+        };
+        match self.blocks.tags.take(tag) {
+            Some(came) => Some(Reply {
+                tag: u16::from(tag),
+                mark: came.mark,
+                moved: came.moved,
+                ending: came.ending,
+            }),
             None => None,
+        }
+    }
+
+    /// Tries the device again, from its port's reset on; its commands are lost. `NotReady` while no disk is used, which changes nothing.
+    pub fn restart(&mut self) -> Result<(), Fault>
+        ensures state { self.new ≡ restarted_driver self.old }
+        ensures refused { is_err result ≡ is_none (open_disk self.old) }
+        ensures fault { IfErr result (λ fault. fault ≡ Fault.NotReady) }
+        ensures once { marks self.new.blocks.tags ≡ marks self.old.blocks.tags }
+    {
+        let is_open = self.blocks.disk.is_some();
+        match &mut self.ready.device.driver.stage {
+            Stage::Taken(taken) if is_open => {
+                self.blocks.fail(taken, Loss::Restarted);
+                Ok(())
+            }
+            _ => Err(Fault::NotReady),
         }
     }
 
@@ -76,6 +117,8 @@ impl BlockDriver {
         ensures not_asked { (result ≡ Err LendFault.NotAsked) ↔ (is_wanting self.old.ready.device.driver.stage ≡ false) }
         ensures alignment { (result ≡ Err LendFault.Alignment) ↔ ((is_wanting self.old.ready.device.driver.stage ≡ true) × (base % 65536 ≢ 0)) }
         ensures kept { OnErr result (self.new ≡ self.old) }
+        ensures taken { OnOk result ((c : Controller) × (layout : Layout) × (self.old.ready.device.driver.stage ≡ Stage.Wanting c) × (layout.base ≡ base) × IsShapeFor self.old.ready.device.driver.options c layout.shape × (has_reach self.old.ready.device.driver.options c base (bytes_of layout.shape) ≡ true) × (self.new.ready.device.driver ≡ lent self.old.ready.device.driver c layout)) }
+        ensures rest { self.new ≡ with_driver self.old self.new.ready.device.driver }
     {
         self.ready.device.driver.lend(base)
     }

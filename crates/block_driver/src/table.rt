@@ -1,6 +1,6 @@
 //! What a tag has: a command from its submission on, until its reply is taken.
-ghost use Rattle.std.specs.Prelude.{◌≡◌};
-ghost use Rattle.block_driver.specs.Table.{command_access, command_limit, command_next, data_moved_in, ended_with, entry_access, entry_limit, entry_lost, entry_moved, entry_next, entry_put, entry_taken, entry_told, is_command, is_kind, is_late, is_moving, is_stuck, is_way, is_pending, mark_of, moved_count, reply_in, settled, settled_command, wanted_at, way_of};
+ghost use Rattle.std.specs.Prelude.{◌≡◌, IfSome, None, Some};
+ghost use Rattle.block_driver.specs.Table.{came_in, command_access, command_limit, command_next, data_moved_in, ended_with, entry_access, entry_limit, entry_lost, entry_moved, entry_next, entry_put, entry_taken, entry_told, is_command, is_kind, is_late, is_moving, is_stuck, is_way, is_pending, mark_of, moved_count, settled, settled_command, wanted_at, way_of};
 
 use arrayvec::ArrayVec;
 use block_requests::Outcome;
@@ -26,6 +26,8 @@ pub enum Loss {
     Broken,
     /// The controller is gone.
     Gone,
+    /// The driver's user had the device tried again.
+    Restarted,
 }
 
 /// How a command ended.
@@ -35,10 +37,9 @@ pub enum Ending {
     Lost(Loss),
 }
 
-/// What a command came to: `moved` bytes of its data.
+/// What a command came to: so many bytes of its data were moved, none of those that were taken off.
 #[derive(Debug, PartialEq, Eq, Drop)]
-pub struct Reply {
-    pub tag: u16,
+pub struct Came {
     pub mark: u64,
     pub moved: u32,
     pub ending: Ending,
@@ -79,7 +80,7 @@ pub struct Outstanding {
 pub enum Entry {
     Free,
     Outstanding(Outstanding),
-    Replied(Reply),
+    Replied(Came),
 }
 
 /// Entries that are looked for.
@@ -212,8 +213,7 @@ impl Outstanding {
             return Entry::Outstanding(self);
         };
         match mem::replace(&mut self.status, None) {
-            Some(told) => Entry::Replied(Reply {
-                tag: u16::from(self.sent.tag),
+            Some(told) => Entry::Replied(Came {
                 mark: self.mark,
                 moved,
                 ending: Ending::Told(ended_with(told.outcome, moved, self.wanted)),
@@ -351,8 +351,7 @@ impl Entry {
         ensures once { mark_of self.new ≡ mark_of self.old }
     {
         if let Entry::Outstanding(command) = self {
-            *self = Entry::Replied(Reply {
-                tag: u16::from(command.sent.tag),
+            *self = Entry::Replied(Came {
                 mark: command.mark,
                 moved: 0,
                 ending: Ending::Lost(loss),
@@ -361,13 +360,15 @@ impl Entry {
     }
 
     /// Its reply, after which the tag is free.
-    pub(crate) fn take(&mut self) -> Option<Reply>
+    pub(crate) fn take(&mut self) -> Option<Came>
         ensures is { self.new ≡ entry_taken self.old }
-        ensures reply { result ≡ reply_in self.old }
+        ensures came { result ≡ came_in self.old }
+        ensures free { IfSome result (λ came. mark_of self.new ≡ None) }
+        ensures mark { IfSome result (λ came. mark_of self.old ≡ Some came.mark) }
     {
         let entry = mem::replace(self, Entry::Free);
         match entry {
-            Entry::Replied(reply) => Some(reply),
+            Entry::Replied(came) => Some(came),
             other => {
                 *self = other;
                 None

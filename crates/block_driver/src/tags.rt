@@ -1,12 +1,12 @@
 //! The tags of a disk: what each has.
 ghost use Rattle.std.specs.Prelude.{◌≡◌, ◌<◌, ◌≤◌, ◌^◌, ◌-◌, None, Some, true, IfOk, IfSome, length, map, replicate, slice_set};
 ghost use Rattle.std.specs.List.{position};
-ghost use Rattle.block_driver.specs.Table.{all_lost, changed, entry_at, entry_access, entry_lost, entry_moved, entry_next, entry_put, entry_taken, entry_told, first_of, has_late, is_kind, least_limit, mark_of, marks, next_of, place_in, reply_in, wanted_at, way_of};
+ghost use Rattle.block_driver.specs.Table.{all_lost, came_in, changed, entry_at, entry_access, entry_lost, entry_moved, entry_next, entry_put, entry_taken, entry_told, first_of, has_late, is_kind, least_limit, mark_of, marks, next_of, place_in, wanted_at, way_of};
 ghost use Rattle.block_driver.specs.Events.{data_said, status_said};
 ghost use Rattle.block_driver.specs.declared.table.Entry.{Entry};
 
 use crate::events::Said;
-use crate::table::{Entry, Kind, Loss, Outstanding, Reply, Told};
+use crate::table::{Came, Entry, Kind, Loss, Outstanding, Told};
 use bring_up::{Access, Controller};
 use disk_ready::{Put, Spots, Target, Way};
 use host_layout::{Layout, RingPlace};
@@ -213,9 +213,11 @@ impl Tags {
     }
 
     /// The reply of a tag is taken, and the tag is free.
-    pub(crate) fn take(&mut self, tag: u8) -> Option<Reply>
+    pub(crate) fn take(&mut self, tag: u8) -> Option<Came>
         ensures is { self.new ≡ changed entry_taken self.old tag }
-        ensures reply { result ≡ reply_in (entry_at self.old tag) }
+        ensures came { result ≡ came_in (entry_at self.old tag) }
+        ensures once { IfSome result (λ came. marks self.new ≡ slice_set (marks self.old) (tag - 1) None) }
+        ensures mark { IfSome result (λ came. mark_of (entry_at self.old tag) ≡ Some came.mark) }
     {
         match self.place(tag) {
             Some(place) => {

@@ -24,7 +24,7 @@ returns-then-is_some-clause-length c =
     let open_is : is_open d ≡ true = sym c.is_some.ensures ∙ c.if-is_some.true in
     let By : Bool → Type 0 =
     λ is. (c.own_answer.result ≡ Err Length) ↔ (((if is then d.is_asked else is_ready_asked d.ready) ≡ true)
-        × (fits (if is then driver_access d else ready_asked d.ready) bytes ≡ false)) in
+    × (fits (if is then driver_access d else ready_asked d.ready) bytes ≡ false)) in
     subst By (sym open_is) c.own_answer.ensures.length
 
 pub returns-else-is_some-clause-state : goal.returns-else-is_some-clause-state

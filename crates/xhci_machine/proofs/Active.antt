@@ -22,7 +22,7 @@ use Rattle.xhci_machine.specs.declared.Machine.{Machine}
 use Rattle.xhci_machine.specs.declared.work.Worked.{Worked}
 use Rattle.xhci_machine.specs.Bus.{fault_in, is_silent, transaction_error}
 use Rattle.xhci_machine.specs.Contexts.{is_due}
-use Rattle.xhci_machine.specs.Laws.{IsFailed, IsLeftIdle, IsTaskIdle, come_to}
+use Rattle.xhci_machine.specs.Laws.{AllTasksAreIdle, IsFailed, IsLeftIdle, IsTaskIdle, come_to}
 use Rattle.xhci_machine.specs.Rounds.{Turning, command_of, command_pipe_stepped, control_stepped, control_world, data_due, data_of, front_turned, is_stray, stray_of, stray_stepped, noted_in, pipes_turned, port_in, restarted, ring_on, served, settled_in, status_due, status_of, then_commands, then_control, then_stray, then_pipes, then_port, transfers_world, turned, with_control, with_stray, with_transfers}
 use Rattle.xhci_machine.specs.Steps.{commands_stepped}
 use Rattle.xhci_machine.specs.Turns.{World, detected, full_posted, has_full, interrupted, noted, port_posted, port_turned, settled, tells_port, told_of_port}
@@ -248,20 +248,15 @@ task_idle kept at tag below active idle =
 
 over_by : (kept : KeptByAll TasksAreActive) (budget : ℕ) (w after : World) (rounds : ℕ) (at : World × ℕ) (more : Bool)
     → RoundsTurned rounds (w, budget) at → IsOver at after more → more ≡ false → TasksAreActive w.machine.device
-    → IsFailed after ⊎ ((last : World × ℕ) × ((tag : ℕ) → tag < 241 → IsTaskIdle last tag))
+    → IsFailed after ⊎ AllTasksAreIdle at
 over_by kept budget w after rounds at true done over is active = absurd (false≢true (sym is))
 over_by kept budget w after rounds at false done over is active = elim over.1 [
-  | inl last ↦ inr (
-    at,
-    λ tag below.
-        task_idle kept at tag below (rounds_kept TasksAreActive kept rounds (w, budget) at done active)
-        (nothing_of at (after, last.0) tag over.0 last.1 below (sym last.2)),
-  )
+  | inl last ↦ inr (λ tag below.
+      task_idle kept at tag below (rounds_kept TasksAreActive kept rounds (w, budget) at done active)
+      (nothing_of at (after, last.0) tag over.0 last.1 below (sym last.2)))
   | inr last ↦ inl (last.0.0, last.2)
 ]
 
-pub no_task_left : (kept : KeptByAll TasksAreActive) (budget : ℕ) (w after : World) (worked : Worked) → RoundsWorked budget w after worked
-    → worked.more ≡ false → TasksAreActive w.machine.device
-    → IsFailed after ⊎ ((last : World × ℕ) × ((tag : ℕ) → tag < 241 → IsTaskIdle last tag))
-no_task_left kept budget w after worked rounds is active =
-    over_by kept budget w after rounds.rounds rounds.at worked.more rounds.turned rounds.over is active
+pub no_task_left : (kept : KeptByAll TasksAreActive) (budget : ℕ) (w after : World) (worked : Worked) (it : RoundsWorked budget w after worked)
+    → worked.more ≡ false → TasksAreActive w.machine.device → IsFailed after ⊎ AllTasksAreIdle it.at
+no_task_left kept budget w after worked it is active = over_by kept budget w after it.rounds it.at worked.more it.turned it.over is active

@@ -17,8 +17,7 @@
  * message or the pin itself, and time.
  *
  * The duties of a caller are those of uas.h, for a uas_xhci pointer as for its others; but a call finds 8 KiB of stack. Memory is taken by
- * uas_xhci_new alone. Sections are
- * those of xHCI 1.2. */
+ * uas_xhci_new and uas_xhci_new_disks alone. Sections are those of xHCI 1.2. */
 #ifndef UAS_XHCI_H
 #define UAS_XHCI_H
 
@@ -44,7 +43,8 @@ enum {
  *
  * What is proved of a call is so where nobody else writes these bytes meanwhile. A guest's processors may: a read then has bytes of one moment
  * or of two. So the sources read each TRB, context and information unit once into a copy and decide on that. That the compiler keeps to one read
- * isn't proved; what was tried of it is in docs/LIBRARY.md. */
+ * isn't proved; what was tried of it is in docs/LIBRARY.md. Other processors see the writes in the order of an x86-64's stores; elsewhere the
+ * caller puts a barrier behind each step, or runs the guest's processors and these calls in turn. */
 struct uas_region {
     uint64_t address;
     uint8_t *bytes;
@@ -136,7 +136,7 @@ struct uas_range {
 UAS_XHCI_ASSERT(sizeof(struct uas_range) == 16);
 
 /* Takes at most `budget` steps, each of one TRB or one chunk, over the memory that is lent, in any order of regions. *steps is how many it
- * took; *more whether there may be more to do at once: where it is false, the next register write or answer gives something to do. Memory
+ * took; *more whether there may be more to do at once: where it is false, the next register write, answer or plug gives something to do. Memory
  * that isn't there where a ring or a context should be halts the controller (USBSTS.HSE); where a TRB's buffer should be, the TD ends with
  * Data Buffer Error.
  * Faults: UAS_XHCI_NULL (a region whose bytes are a null pointer), UAS_XHCI_MANY, UAS_XHCI_WRAPS, UAS_XHCI_OVERLAP. */
@@ -144,7 +144,7 @@ uint8_t uas_xhci_work(uas_xhci *xhci, const struct uas_region *regions, size_t c
 
 /* The same, and the ranges that were written, in the order of the writes, for whoever keeps a record of changed memory: the first turn->noted
  * of `room` ranges. Where there were more of them, and with no room at all, turn->lost is 1, and any byte that is lent may have been written;
- * else none beside these ranges was. Most steps write two or three ranges.
+ * else none beside these ranges was, which is tested and not proved. Most steps write two or three ranges.
  * Faults: those of uas_xhci_work. */
 uint8_t uas_xhci_work_noting(uas_xhci *xhci, const struct uas_region *regions, size_t count, struct uas_xhci_turn *turn,
                              struct uas_range *written, size_t room);
@@ -158,7 +158,7 @@ uint8_t uas_xhci_take_turn(uas_xhci *xhci, struct uas_xhci_turn *turn, struct ua
  * isn't lent, or one of length 0. Copy that range in and ask again, until the length is 0; then call uas_xhci_work_noting with a budget of 1
  * over these copies, and write back the ranges that it notes and nothing beside them: there the guest may have written since, as its next TRB.
  * Where turn->lost is 1 all copies have to be written back, so give it room enough. A range that the guest has no memory for can't be copied
- * in: take the step without it.
+ * in: take the step without it. A range may cover bytes that are lent already: lend each byte once, and copy only the others in.
  * Faults: those of uas_xhci_work. */
 uint8_t uas_xhci_wants(uas_xhci *xhci, const struct uas_region *regions, size_t count, struct uas_range *wanted);
 
@@ -168,13 +168,14 @@ uint8_t uas_xhci_look(uas_xhci *xhci, struct uas_range *wanted, struct uas_regio
 
 /* ---- Interrupts (4.17) ---- */
 
-/* The interrupt pin: IMAN.IP, IMAN.IE and USBCMD.INTE together. To be looked at after each register write and each work. */
+/* The interrupt pin: IMAN.IP, IMAN.IE and USBCMD.INTE together. To be looked at after each register write, each work and uas_xhci_reset. */
 bool uas_xhci_interrupt(uas_xhci *xhci);
 
 /* Whether a message is to be sent, at the same places: true once where the pin would be asserted, and clears IP. */
 bool uas_xhci_take_message(uas_xhci *xhci);
 
-/* Whether the system is to be told of an error of its own (PCI's SERR#): USBSTS.HSE and USBCMD.HSEE. To be looked at after each work. */
+/* Whether the system is to be told of an error of its own (PCI's SERR#): USBSTS.HSE and USBCMD.HSEE. To be looked at after each work and
+ * each write of USBCMD. */
 bool uas_xhci_host_error(uas_xhci *xhci);
 
 /* ---- The disk and the function ---- */

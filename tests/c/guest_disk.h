@@ -5,6 +5,7 @@
 
 #include "uas.h"
 #include "uas_xhci.h"
+#include <errno.h>
 #include <stdio.h>
 #include <stdlib.h>
 #include <string.h>
@@ -31,7 +32,7 @@ static bool event_cycle;
 static void fail(const char *what, uint64_t value)
 {
     fflush(stdout);
-    fprintf(stderr, "two_controllers: %s: %llx\n", what, (unsigned long long)value);
+    fprintf(stderr, "%s: %s: %llx\n", program_invocation_short_name, what, (unsigned long long)value);
     exit(1);
 }
 

@@ -8,7 +8,7 @@ use Rattle.units_apart.specs.Calls.{Call, PowerOn, called}
 use Rattle.units_apart.specs.Runs.{after}
 use Rattle.units_apart.proofs.Runs.{IsGood, stays_good, units_apart}
 use Rattle.xhci_registers.specs.declared.Effect.{Effect}
-use Rattle.xhci_registers.specs.declared.Effect.TheVariants.{Nothing, Reset, PortReset, CommandRingStopped, CommandDoorbell, Doorbell, EventRing, Dequeued}
+use Rattle.xhci_registers.specs.declared.Effect.TheVariants.{Nothing, Reset, PortReset, Halted, CommandRingStopped, CommandDoorbell, Doorbell, EventRing, Dequeued}
 use Rattle.xhci_registers.specs.declared.Width.{Width}
 use Rattle.xhci_registers.specs.declared.Width.TheVariants.{One, Two, Four, Eight}
 use Rattle.xhci_registers.specs.Writes.{word_written}
@@ -41,6 +41,7 @@ effected_made : (effect : Effect) (m : Machine) → Resets m.device.tasks (effec
 effected_made Nothing m = none m.device.tasks
 effected_made Reset m = once m.device.tasks
 effected_made PortReset m = once m.device.tasks
+effected_made Halted m = none m.device.tasks
 effected_made CommandRingStopped m = none m.device.tasks
 effected_made CommandDoorbell m = none m.device.tasks
 effected_made (Doorbell target stream) m =

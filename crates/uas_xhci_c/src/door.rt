@@ -13,7 +13,7 @@ use xhci_machine::{Machine, Width};
 #[repr(C)]
 #[derive(Clone, Copy)]
 pub struct UasXhciDoor {
-    /// The call, 1 to 11.
+    /// The call, 1 to 12.
     pub call: u8,
     /// Of READ and WRITE: 1, 2, 4 or 8 bytes.
     pub width: u8,

@@ -2,7 +2,7 @@
 //!
 //! | File | Exports |
 //! |---|---|
-//! | making.rt | `uas_xhci_new` |
+//! | making.rt | `uas_xhci_new`, `uas_xhci_new_disks` |
 //! | handle.rt | `uas_xhci_call`, `uas_xhci_close` |
 //! | turn.rt | `uas_xhci_take_turn` |
 //! | wants.rt | `uas_xhci_look` |
@@ -20,7 +20,7 @@
 //! What a caller upholds stands in the head of include/uas.h; nothing here tests it. The memory that a call is lent is written by nobody else
 //! while it runs, or what the controller reads of it may be of two moments: each TRB, context and information unit is read once.
 //!
-//! It takes memory in `uas_xhci_new` alone. It stands on `c_common`, `c_tasks` and `xhci_machine` by their contracts.
+//! It takes memory in `uas_xhci_new` and `uas_xhci_new_disks` alone. It stands on `c_common`, `c_tasks` and `xhci_machine` by their contracts.
 #![tactic(auto)]
 
 mod door;

@@ -1,5 +1,5 @@
 -- A step of endpoint 0: one equation over memory, event ring and pipe; and what the controller's commands make of the pipe.
-use Rattle.std.specs.Prelude.{ℕ, ◌+◌, ◌-◌, ◌==◌, nat_le, min, Bool, true, false, not, ◌&&◌, ◌||◌, if◌then◌else◌, length as list_length, take, Option, Some, None, option_map}
+use Rattle.std.specs.Prelude.{ℕ, ◌+◌, ◌-◌, ◌%◌, ◌^◌, ◌==◌, nat_le, min, Bool, true, false, not, ◌&&◌, ◌||◌, if◌then◌else◌, length as list_length, take, Option, Some, None, option_map}
 use Rattle.byteorder.specs.Endian.{little_number}
 use Rattle.guest_memory.specs.Bytes.{Memory, bytes_from, is_there}
 use Rattle.guest_memory.specs.declared.rings.context.Front.{Front}
@@ -169,10 +169,16 @@ gave w front pointer room flags =
     else if is_there w.memory (pointer + 0) count then trb_ended (gone_to w (pointer + 0) count) front (room - count) flags
     else with_ring w (failed (ring_of w) front room flags)
 
+-- so many bytes went to the device, which takes them all: EDTLA counts them (4.11.5.2)
+abbrev pub sent : ControlWorld → ℕ → ControlWorld
+sent w count =
+    let progress = w.pipe.consumer.progress in
+    with_ring w (with_progress (ring_of w) (record progress { edtla = (progress.edtla + count) % 2 ^ 24 }))
+
 abbrev pub moved_by : ControlWorld → Front → ℕ → ℕ → Flags → ControlWorld
 moved_by w front pointer room flags =
     if not (runs w.pipe.consumer.progress.ending) then with_ring w (skipped (ring_of w) front room flags)
-    else if room == 0 || takes w.pipe.stage then with_ring w (filled (ring_of w) front flags)
+    else if room == 0 || takes w.pipe.stage then with_ring w (filled (ring_of (sent w room)) front flags)
     else gave w front pointer room flags
 
 -- behind the last TRB of a Data Stage the Status Stage is to come

@@ -1,5 +1,5 @@
 //! What a TRB of endpoint 0 does.
-ghost use Rattle.std.specs.Prelude.{◌≡◌, ◌+◌, ◌-◌, ◌<◌, ◌≤◌, ◌^◌, ◌==◌, ◌&&◌, ◌||◌, nat_le, not, ℕ, Bool, true, false, length as list_length, min, take};
+ghost use Rattle.std.specs.Prelude.{◌≡◌, ◌+◌, ◌-◌, ◌%◌, ◌<◌, ◌≤◌, ◌^◌, ◌==◌, ◌&&◌, ◌||◌, nat_le, not, ℕ, Bool, true, false, length as list_length, min, take};
 ghost use Rattle.guest_memory.specs.Bytes.{is_there};
 ghost use Rattle.guest_pipes.specs.Step.{has_home, has_place};
 ghost use Rattle.xhci_control.specs.Stages.{left};
@@ -153,6 +153,7 @@ impl ControlPipe {
         if !self.consumer.progress.ending.runs() {
             self.consumer.skip(memory, events, front, length, flags);
         } else if length == 0 || self.stage.takes() {
+            self.consumer.progress.edtla = counted(self.consumer.progress.edtla, length);
             self.consumer.fill(memory, events, front, flags);
         } else {
             self.give(memory, events, front, pointer, length, flags);
@@ -336,4 +337,11 @@ impl ControlPipe {
             self.consumer.err(memory, events, front);
         }
     }
+}
+
+/// EDTLA once so many bytes more were moved (4.11.5.2).
+fn counted(edtla: u32, count: u32) -> u32
+    ensures { result ≡ (edtla + count) % 2 ^ 24 }
+{
+    ((u64::from(edtla) + u64::from(count)) % 16_777_216) as u32
 }

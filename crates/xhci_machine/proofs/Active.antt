@@ -19,13 +19,15 @@ use Rattle.uas_tasks.specs.Machine.{tasks_ended}
 use Rattle.xhci_control.specs.declared.pipe.Served.{Served}
 use Rattle.xhci_control.specs.Steps.{ControlWorld, stepped}
 use Rattle.xhci_machine.specs.declared.Machine.{Machine}
+use Rattle.xhci_machine.specs.declared.states.States.{States}
 use Rattle.xhci_machine.specs.declared.work.Worked.{Worked}
 use Rattle.xhci_machine.specs.Bus.{fault_in, is_silent, transaction_error}
 use Rattle.xhci_machine.specs.Contexts.{is_due}
-use Rattle.xhci_machine.specs.Laws.{IsFailed, IsLeftIdle, IsTaskIdle, come_to}
+use Rattle.xhci_machine.specs.Ring.{states_of}
+use Rattle.xhci_machine.specs.Laws.{AllTasksAreIdle, IsFailed, IsLeftIdle, IsTaskIdle, come_to}
 use Rattle.xhci_machine.specs.Rounds.{Turning, command_of, command_pipe_stepped, control_stepped, control_world, data_due, data_of, front_turned, is_stray, stray_of, stray_stepped, noted_in, pipes_turned, port_in, restarted, ring_on, served, settled_in, status_due, status_of, then_commands, then_control, then_stray, then_pipes, then_port, transfers_world, turned, with_control, with_stray, with_transfers}
 use Rattle.xhci_machine.specs.Steps.{commands_stepped}
-use Rattle.xhci_machine.specs.Turns.{World, detected, full_posted, has_full, interrupted, noted, port_posted, port_turned, settled, tells_port, told_of_port}
+use Rattle.xhci_machine.specs.Turns.{World, detected, full_posted, has_full, interrupted, noted, port_posted, port_turned, settled, states_told, tells_port, told_if, told_of_port}
 use Rattle.xhci_machine.specs.Worked.{IsOver, RoundsTurned, RoundsWorked, busy_turned, dropped_at, gone_dropped, is_busy, is_gone, tag_by, tag_turned, tags_turned, then_status, then_tag, turned_if}
 use Rattle.xhci_machine.proofs.Device.{Moves, Receives, Sends, command_pipe_kept, data_kept, either, of_each, of_tags, status_kept}
 use Rattle.xhci_machine.proofs.Nothing.{nothing_of}
@@ -40,9 +42,15 @@ module _ (P : GuestTasks → Type 0) where
   interrupted_kept true m p = p
   interrupted_kept false m p = p
 
+  told_kept : (tells : Bool) (states : States) (m : Machine) → P m.device → P (told_if tells states m).device
+  told_kept true states m p = p
+  told_kept false states m p = p
+
   pub settled_kept : (w : World) → Holds w → Holds (settled w).0
   unfolding settled
-  settled_kept w p = interrupted_kept w.events.asks w.machine p
+  settled_kept w p =
+      told_kept (states_told w.memory w.machine.slot w.machine.told (states_of w.machine)).1 (states_of w.machine)
+      (interrupted w.events.asks w.machine) (interrupted_kept w.events.asks w.machine p)
 
   pub noted_kept : (acted : Acted) (w : World) → Holds w → Holds (noted w acted).0
   unfolding noted
@@ -248,20 +256,15 @@ task_idle kept at tag below active idle =
 
 over_by : (kept : KeptByAll TasksAreActive) (budget : ℕ) (w after : World) (rounds : ℕ) (at : World × ℕ) (more : Bool)
     → RoundsTurned rounds (w, budget) at → IsOver at after more → more ≡ false → TasksAreActive w.machine.device
-    → IsFailed after ⊎ ((last : World × ℕ) × ((tag : ℕ) → tag < 241 → IsTaskIdle last tag))
+    → IsFailed after ⊎ AllTasksAreIdle at
 over_by kept budget w after rounds at true done over is active = absurd (false≢true (sym is))
 over_by kept budget w after rounds at false done over is active = elim over.1 [
-  | inl last ↦ inr (
-    at,
-    λ tag below.
-        task_idle kept at tag below (rounds_kept TasksAreActive kept rounds (w, budget) at done active)
-        (nothing_of at (after, last.0) tag over.0 last.1 below (sym last.2)),
-  )
+  | inl last ↦ inr (λ tag below.
+      task_idle kept at tag below (rounds_kept TasksAreActive kept rounds (w, budget) at done active)
+      (nothing_of at (after, last.0) tag over.0 last.1 below (sym last.2)))
   | inr last ↦ inl (last.0.0, last.2)
 ]
 
-pub no_task_left : (kept : KeptByAll TasksAreActive) (budget : ℕ) (w after : World) (worked : Worked) → RoundsWorked budget w after worked
-    → worked.more ≡ false → TasksAreActive w.machine.device
-    → IsFailed after ⊎ ((last : World × ℕ) × ((tag : ℕ) → tag < 241 → IsTaskIdle last tag))
-no_task_left kept budget w after worked rounds is active =
-    over_by kept budget w after rounds.rounds rounds.at worked.more rounds.turned rounds.over is active
+pub no_task_left : (kept : KeptByAll TasksAreActive) (budget : ℕ) (w after : World) (worked : Worked) (it : RoundsWorked budget w after worked)
+    → worked.more ≡ false → TasksAreActive w.machine.device → IsFailed after ⊎ AllTasksAreIdle it.at
+no_task_left kept budget w after worked it is active = over_by kept budget w after it.rounds it.at worked.more it.turned it.over is active

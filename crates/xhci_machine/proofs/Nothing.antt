@@ -6,10 +6,10 @@ use Rattle.guest_pipes.specs.declared.acted.Acted.{Acted}
 use Rattle.guest_pipes.specs.declared.acted.Acted.TheVariants.{Off, Idle, Full, Emptied, Waits, Worked as HasWorked}
 use Rattle.marks.specs.Marks.{is_marked}
 use Rattle.xhci_machine.specs.declared.work.Worked.{Worked}
-use Rattle.xhci_machine.specs.Laws.{HasItsTurn, HasNothing, IsFailed, IsLastIdle, IsLeftIdle, come_to, takes_step}
+use Rattle.xhci_machine.specs.Laws.{AllAreLeftIdle, HasItsTurn, HasNothing, IsFailed, IsLeftIdle, come_to, takes_step}
 use Rattle.xhci_machine.specs.Rounds.{Turning, data_of, front_turned, noted_in, status_of, turned}
 use Rattle.xhci_machine.specs.Turns.{World, left_after}
-use Rattle.xhci_machine.specs.Worked.{IsOver, RoundsTurned, RoundsWorked, busy_turned, dropped_at, is_busy, round_turned, tag_by, tag_turned, tags_turned, then_status, then_tag, turned_if}
+use Rattle.xhci_machine.specs.Worked.{IsOver, RoundsWorked, busy_turned, dropped_at, is_busy, round_turned, tag_by, tag_turned, tags_turned, then_status, then_tag, turned_if}
 use Rattle.xhci_machine.proofs.Left.{IsNear, front_near, near_then, tags_near, tags_there, turned_near}
 
 -- the round comes to a tag
@@ -133,14 +133,13 @@ nothing_of at after tag some same below round =
           (sym (ap (λ (t : Turning). t.0.1) turn) ∙ same_left at after (suc tag) same next round);
     }
 
-over_by : (budget : ℕ) (w after : World) (rounds : ℕ) (at : World × ℕ) (more : Bool) → RoundsTurned rounds (w, budget) at → IsOver at after more
-    → more ≡ false → IsFailed after ⊎ IsLastIdle budget w
-over_by budget w after rounds at true done over is = absurd (false≢true (sym is))
-over_by budget w after rounds at false done over is = elim over.1 [
-  | inl last ↦ inr (rounds, at, done, λ tag below. nothing_of at (after, last.0) tag over.0 last.1 below (sym last.2))
+over_by : (after : World) (at : World × ℕ) (more : Bool) → IsOver at after more → more ≡ false → IsFailed after ⊎ AllAreLeftIdle at
+over_by after at true over is = absurd (false≢true (sym is))
+over_by after at false over is = elim over.1 [
+  | inl last ↦ inr (λ tag below. nothing_of at (after, last.0) tag over.0 last.1 below (sym last.2))
   | inr last ↦ inl (last.0.0, last.2)
 ]
 
-pub over_of : (budget : ℕ) (w after : World) (worked : Worked) → RoundsWorked budget w after worked → worked.more ≡ false
-    → IsFailed after ⊎ IsLastIdle budget w
-over_of budget w after worked rounds is = over_by budget w after rounds.rounds rounds.at worked.more rounds.turned rounds.over is
+pub over_of : (budget : ℕ) (w after : World) (worked : Worked) (it : RoundsWorked budget w after worked) → worked.more ≡ false
+    → IsFailed after ⊎ AllAreLeftIdle it.at
+over_of budget w after worked it is = over_by after it.at worked.more it.over is

@@ -12,7 +12,7 @@ use Rattle.guest_transfers.specs.State.{TransfersState, opening}
 use Rattle.uas_tasks.specs.Machine.{powered_machine}
 use Rattle.xhci_control.specs.Steps.{disabled as control_disabled, disk_reset, opened as control_opened, rung_in}
 use Rattle.xhci_registers.specs.declared.Effect.{Effect}
-use Rattle.xhci_registers.specs.declared.Effect.TheVariants.{Nothing, Reset, PortReset, CommandRingStopped, CommandDoorbell, Doorbell, EventRing, Dequeued}
+use Rattle.xhci_registers.specs.declared.Effect.TheVariants.{Nothing, Reset, PortReset, Halted, CommandRingStopped, CommandDoorbell, Doorbell, EventRing, Dequeued}
 use Rattle.xhci_registers.specs.declared.Width.{Width}
 use Rattle.xhci_registers.specs.declared.Width.TheVariants.{One, Two, Four, Eight}
 use Rattle.xhci_registers.specs.Signals.{plugged}
@@ -81,11 +81,12 @@ rung m target stream =
     if target == 1 then record m { control = rung_in m.control.consumer.state m.control }
     else record m { transfers = rung_at m.transfers target stream }
 
--- what a write asks for beyond the registers
+-- what a write asks for beyond the registers; a controller that halts drops what is owed of the command ring
 abbrev pub effected : Effect → Machine → Machine
 effected Nothing m = m
 effected Reset m = all_reset m
 effected PortReset m = device_reset m
+effected Halted m = record m { commands = idle_ring }
 effected CommandRingStopped m = record m { commands = record { rung = false; owes_stop = true; stopping = None } }
 effected CommandDoorbell m = record m { commands = record m.commands { rung = true } }
 effected (Doorbell target stream) m = rung m target stream

@@ -6,7 +6,7 @@ use Rattle.marks.specs.Marks.{is_marked}
 use Rattle.uas_tasks.specs.Machine.{has_task}
 use Rattle.xhci_machine.specs.Rounds.{Turning, data_of, front_turned, status_of, turned}
 use Rattle.xhci_machine.specs.Turns.{World}
-use Rattle.xhci_machine.specs.Worked.{RoundsTurned, dropped_at, is_busy, tags_turned, turned_if, with_failure}
+use Rattle.xhci_machine.specs.Worked.{dropped_at, is_busy, tags_turned, turned_if, with_failure}
 
 -- a round when it comes to this tag
 abbrev pub come_to : ℕ → World × ℕ → Turning
@@ -51,6 +51,10 @@ pub record IsTaskIdle (at : World × ℕ) (tag : ℕ) : Type 0 where
 abbrev pub IsFailed : World → Type 0
 IsFailed after = (last : World) × (after ≡ record last { machine = with_failure last.machine })
 
--- at the last round nothing could be done for any tag
-abbrev pub IsLastIdle : ℕ → World → Type 0
-IsLastIdle budget w = (n : ℕ) × (at : World × ℕ) × RoundsTurned n (w, budget) at × ((tag : ℕ) → tag < 241 → IsLeftIdle at tag)
+-- in the round that begins here nothing could be done for any active tag
+abbrev pub AllAreLeftIdle : World × ℕ → Type 0
+AllAreLeftIdle at = (tag : ℕ) → tag < 241 → IsLeftIdle at tag
+
+-- nor for any task
+abbrev pub AllTasksAreIdle : World × ℕ → Type 0
+AllTasksAreIdle at = (tag : ℕ) → tag < 241 → IsTaskIdle at tag

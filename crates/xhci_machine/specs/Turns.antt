@@ -79,9 +79,14 @@ abbrev pub interrupted : Bool → Machine → Machine
 interrupted true m = record m { registers = raised m.registers }
 interrupted false m = m
 
+-- the contexts have these states; where memory wasn't there for one, all that changed are told again
+abbrev pub told_if : Bool → States → Machine → Machine
+told_if true states m = record m { told = states }
+told_if false states m = m
+
 abbrev pub with_told : Machine → EventEnd → Memory × Bool → World × Bool
 with_told m events after =
-    let left = record (interrupted events.asks m) { told = states_of m } in
+    let left = told_if after.1 (states_of m) (interrupted events.asks m) in
     (record { memory = after.0; events = record events { asks = false }; machine = left }, after.1)
 
 unfoldable pub settled : World → World × Bool

@@ -16,6 +16,7 @@ use Rattle.xhci_machine.specs.declared.Machine.{Machine}
 use Rattle.xhci_machine.specs.declared.interrupts.Interrupts.{Interrupts}
 use Rattle.xhci_machine.specs.declared.interrupts.RingFault.{RingFault}
 use Rattle.xhci_machine.specs.declared.work.Worked.{Worked}
+use Rattle.xhci_machine.specs.Effects.{idle_ring}
 use Rattle.xhci_machine.specs.Interrupter.{taken}
 use Rattle.xhci_machine.specs.Rounds.{Turning, data_of, front_turned, status_of, turned}
 use Rattle.xhci_machine.specs.Turns.{World}
@@ -86,9 +87,9 @@ RoundsTurned zero at after = after ≡ at
 RoundsTurned (suc n) at after =
     (before : World × ℕ) × RoundsTurned n at before × ((after, true) ≡ round_turned before) × (after.1 < before.1)
 
--- a host system error
+-- a host system error: the controller halts, and drops what is owed of the command ring
 abbrev pub with_failure : Machine → Machine
-with_failure m = record m { registers = failed m.registers }
+with_failure m = record m { registers = failed m.registers; commands = idle_ring }
 
 -- the budget is used up, or the last round took no step, or memory wasn't there in it
 abbrev pub IsOver : World × ℕ → World → Bool → Type 0

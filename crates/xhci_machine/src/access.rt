@@ -88,6 +88,7 @@ impl Machine {
             Effect::Nothing => (),
             Effect::Reset => self.reset_all(),
             Effect::PortReset => self.reset_device(),
+            Effect::Halted => self.commands = CommandRing::idle(),
             Effect::CommandRingStopped => self.commands.stop(),
             Effect::CommandDoorbell => self.commands.ring_doorbell(),
             Effect::Doorbell(target, stream) => self.ring_doorbell(target, stream),

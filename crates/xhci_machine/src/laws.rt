@@ -5,7 +5,7 @@ ghost use Rattle.xhci_machine.specs.Rounds.{command_pipe_stepped, control_steppe
 ghost use Rattle.xhci_machine.specs.Steps.{commands_stepped};
 ghost use Rattle.xhci_machine.specs.Wanted.{acts_on_data, command_pipe_looked, commands_looked, control_looked, stray_looked, lacks_nothing, tag_looked};
 ghost use Rattle.xhci_machine.specs.declared.work.Worked.{Worked};
-ghost use Rattle.xhci_machine.specs.Laws.{HasItsTurn, IsFailed, IsLastIdle, IsLeftIdle, IsTaskIdle};
+ghost use Rattle.xhci_machine.specs.Laws.{AllAreLeftIdle, AllTasksAreIdle, HasItsTurn, IsFailed, IsLeftIdle};
 ghost use Rattle.guest_tasks.specs.Active.{TasksAreActive};
 ghost use Rattle.xhci_machine.specs.Turns.{World};
 ghost use Rattle.xhci_machine.specs.Worked.{RoundsWorked, round_turned};
@@ -23,10 +23,11 @@ pub fn no_step_leaves_nothing()
     ensures { (at after : World × ℕ) (tag : ℕ) → 0 < at.1 → at.1 ≤ after.1 → tag < 241 → round_turned at ≡ (after, true) → IsLeftIdle at tag }
 {}
 
-/// Where there is no more to do at once, a host system error was told, or nothing could be done for any active tag in the last round.
+/// Where there is no more to do at once, a host system error was told, or nothing could be done for any active tag in the round in which
+/// this very call ended.
 pub fn no_more_leaves_nothing()
-    ensures { (budget : ℕ) (w after : World) (worked : Worked) → RoundsWorked budget w after worked → worked.more ≡ false
-        → IsFailed after ⊎ IsLastIdle budget w }
+    ensures { (budget : ℕ) (w after : World) (worked : Worked) (it : RoundsWorked budget w after worked) → worked.more ≡ false
+        → IsFailed after ⊎ AllAreLeftIdle it.at }
 {}
 
 /// Each tag with a task is active, and stays so over a call.
@@ -38,10 +39,10 @@ pub fn tasks_stay_active()
 }
 
 /// Where each tag with a task is active and there is no more to do at once, a host system error was told, or nothing could be done for any task
-/// in the last round.
+/// in the round in which this very call ended.
 pub fn no_task_is_left_out()
-    ensures { (budget : ℕ) (w after : World) (worked : Worked) → RoundsWorked budget w after worked → worked.more ≡ false
-        → TasksAreActive w.machine.device → IsFailed after ⊎ ((last : World × ℕ) × ((tag : ℕ) → tag < 241 → IsTaskIdle last tag)) }
+    ensures { (budget : ℕ) (w after : World) (worked : Worked) (it : RoundsWorked budget w after worked) → worked.more ≡ false
+        → TasksAreActive w.machine.device → IsFailed after ⊎ AllTasksAreIdle it.at }
 {
     guest_tasks::tasks_stay_active();
 }

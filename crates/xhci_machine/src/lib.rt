@@ -12,7 +12,7 @@
 //! The rules:
 //!
 //! 1. A register access takes no step and no memory. A write notes what it asks for; [`Machine::work`] does it.
-//! 2. Nothing is stepped while R/S is 0, or while there is no event ring.
+//! 2. Nothing is stepped while R/S is 0, or while there is no event ring. Where R/S goes to 0 what is owed of the command ring is dropped.
 //! 3. Each step asks two free places of the event ring. Where there are none it isn't due, and Event Ring Full Error takes the last
 //!    place once.
 //! 4. Memory that isn't there, where the controller's own data structures should be, is a host system error: HSE is set, the

@@ -2,7 +2,7 @@
 ghost use Rattle.std.specs.Prelude.{◌≡◌, is_ok};
 ghost use Rattle.xhci_machine.specs.Effects.{all_disabled};
 ghost use Rattle.xhci_machine.specs.Ring.{states_of};
-ghost use Rattle.xhci_machine.specs.Turns.{context_state, state_told, states_told};
+ghost use Rattle.xhci_machine.specs.Turns.{context_state, state_told, states_told, told_if};
 
 use crate::Machine;
 use guest_memory::{GuestMemory, Outside};
@@ -61,21 +61,23 @@ impl Machine {
         }
     }
 
-    /// Tells the states that changed since they were told, each in its endpoint's context. Refused where that isn't there.
+    /// Tells the states that changed since they were told, each in its endpoint's context. Refused where that isn't there, and then all of
+    /// them are told again.
     #[tactic(auto, unfolding(crate::specs::Turns::states_told))]
     pub(crate) fn tell_states<M: GuestMemory>(&mut self, memory: &mut M) -> Result<(), Outside>
         ensures told { (M.contents memory.new, is_ok result)
             ≡ states_told (M.contents memory.old) self.old.slot self.old.told (states_of self.old) }
-        ensures machine { self.new ≡ record self.old { told = states_of self.old } }
+        ensures machine { self.new ≡ told_if (is_ok result) (states_of self.old) self.old }
         ensures same_loan { M.loan memory.new ≡ M.loan memory.old }
     {
         let (was, now) = (self.told, self.states());
-        self.told = now;
         self.tell_state(memory, Number::ControlPipe, was.control, now.control)?;
         self.tell_state(memory, Number::CommandPipe, was.command, now.command)?;
         self.tell_state(memory, Number::StatusPipe, was.status, now.status)?;
         self.tell_state(memory, Number::DataOutPipe, was.data_out, now.data_out)?;
-        self.tell_state(memory, Number::DataInPipe, was.data_in, now.data_in)
+        self.tell_state(memory, Number::DataInPipe, was.data_in, now.data_in)?;
+        self.told = now;
+        Ok(())
     }
 
     /// Tells a state that changed.

@@ -1,9 +1,10 @@
 //! The steps, in turns.
 ghost use Rattle.std.specs.Prelude.{◌≡◌, ◌≤◌, ◌-◌, is_ok, false};
-ghost use Rattle.xhci_machine.specs.Worked.{IsWorked, RoundsWorked, nothing_worked, round_turned};
+ghost use Rattle.xhci_machine.specs.Worked.{IsWorked, RoundsWorked, nothing_worked, round_turned, with_failure};
 
 use crate::Machine;
 use crate::interrupts::RingFault;
+use crate::ring::CommandRing;
 use crate::turns::Turn;
 use guest_memory::rings::EventRing;
 use guest_memory::{GuestMemory, Outside};
@@ -30,7 +31,7 @@ impl Machine {
         }
         match self.interrupts.take(memory, &mut self.registers) {
             Err(RingFault::Outside | RingFault::NoSegment) => {
-                self.registers.fail();
+                self.fail();
                 none()
             }
             Ok(None) => none(),
@@ -59,7 +60,7 @@ impl Machine {
             let before = turn.left;
             match self.round(memory, events, &mut turn) {
                 Err(Outside) => {
-                    self.registers.fail();
+                    self.fail();
                     return taken_of(budget, before, false);
                 }
                 Ok(()) => {
@@ -70,6 +71,14 @@ impl Machine {
             }
         }
         taken_of(budget, 0, true)
+    }
+
+    /// A host system error: the controller halts, and drops what is owed of the command ring (4.24).
+    fn fail(&mut self)
+        ensures { self.new ≡ with_failure self.old }
+    {
+        self.registers.fail();
+        self.commands = CommandRing::idle();
     }
 
     /// A round of steps.

@@ -4,7 +4,7 @@ use Rattle.xhci_registers.specs.Bits.{field, is_set, multiple, with_high, with_l
 use Rattle.xhci_registers.specs.Ports.{idle_port, is_reset_by, no_wake, port_written, wake_in}
 use Rattle.xhci_registers.specs.Signals.{with_port}
 use Rattle.xhci_registers.specs.declared.Effect.{Effect}
-use Rattle.xhci_registers.specs.declared.Effect.TheVariants.{Nothing, Reset, PortReset, CommandRingStopped, CommandDoorbell, Doorbell, EventRing, Dequeued}
+use Rattle.xhci_registers.specs.declared.Effect.TheVariants.{Nothing, Reset, PortReset, Halted, CommandRingStopped, CommandDoorbell, Doorbell, EventRing, Dequeued}
 use Rattle.xhci_registers.specs.declared.Registers.{Registers}
 
 -- as a reset of the controller leaves them; the disk stays plugged in
@@ -36,19 +36,26 @@ has_slots registers = not (field registers.config 0 0x100 == 0)
 abbrev pub only : Registers → Registers × Effect
 only registers = (registers, Nothing)
 
+-- where R/S goes from 1 to 0 the controller halts
+abbrev pub halting : Registers → ℕ → Effect
+halting registers value = if registers.runs && not (is_set value 0) then Halted else Nothing
+
 -- USBCMD: HCRST resets all at once; R/S stays 0 while HSE is 1 (5.4.2), and where it is cleared the command ring stops too (5.4.5); CRS isn't
 -- supported and sets SRE (own)
 abbrev pub command_written : Registers → ℕ → Registers × Effect
 command_written registers value =
     if is_set value 1 then (reset_registers registers.port.attached, Reset)
-    else only (record registers {
-      runs = is_set value 0 && not registers.host_error;
-      interrupts = is_set value 2;
-      host_error_interrupts = is_set value 3;
-      wrap_events = is_set value 10;
-      restore_error = registers.restore_error || is_set value 9;
-      command_ring = record registers.command_ring { runs = registers.command_ring.runs && is_set value 0 };
-    })
+    else (
+      record registers {
+        runs = is_set value 0 && not registers.host_error;
+        interrupts = is_set value 2;
+        host_error_interrupts = is_set value 3;
+        wrap_events = is_set value 10;
+        restore_error = registers.restore_error || is_set value 9;
+        command_ring = record registers.command_ring { runs = registers.command_ring.runs && is_set value 0 };
+      },
+      halting registers value,
+    )
 
 -- USBSTS: HSE, EINT, PCD and SRE are cleared where they are written 1
 abbrev pub status_written : Registers → ℕ → Registers
@@ -111,14 +118,14 @@ operational_written registers at value =
     else (if at == 0x5c then only (ring_high_written registers value)
     else (if at == 0x70 then only (record registers { contexts = with_low registers.contexts (multiple value 64) })
     else (if at == 0x74 then only (record registers { contexts = with_high registers.contexts value })
-    else (if at == 0x78 then only (record registers { config = field value 0 0x400 })
+    else (if at == 0x78 then only (record registers { config = field value 0 0x100 })
     else only registers)))))))
 
 abbrev pub ports_written : Registers → ℕ → ℕ → Registers × Effect
 ports_written registers at value =
     if at == 0x440 then only (record registers { empty_port_wake = wake_in value })
     else (if at == 0x450 then port_change_written registers value
-    else (if at == 0x454 then only (record registers { port = record registers.port { power = value } })
+    else (if at == 0x454 then only (record registers { port = record registers.port { power = field value 0 0x20000 } })
     else only registers))
 
 abbrev pub runtime_written : Registers → ℕ → ℕ → Registers × Effect

@@ -55,6 +55,8 @@ pub enum Effect {
     Reset,
     /// The port was reset, and the device with it.
     PortReset,
+    /// R/S went from 1 to 0: what is owed of the command ring is dropped.
+    Halted,
     /// The command ring was stopped; an event with code 24 tells so.
     CommandRingStopped,
     /// The command ring runs.
@@ -123,7 +125,7 @@ pub struct Registers {
     pub command_ring: CommandRing,
     /// DCBAAP.
     pub contexts: u64,
-    /// CONFIG.
+    /// CONFIG's MaxSlotsEn; U3E and CIE stay 0, as HCCPARAMS2 has neither.
     pub config: u16,
     /// The wake bits of the port on which nothing is.
     pub empty_port_wake: Wake,

@@ -46,7 +46,7 @@ pub struct Port {
     /// Whether a Port Status Change event is still to be posted.
     pub owes_event: bool,
     pub wake: Wake,
-    /// PORTPMSC.
+    /// PORTPMSC: both timeouts, and FLA.
     pub power: u32,
 }
 

@@ -87,7 +87,7 @@ impl Registers {
             0x5c => self.write_ring_high(value),
             0x70 => self.contexts = with_low(self.contexts, multiple(value, 64)),
             0x74 => self.contexts = with_high(self.contexts, value),
-            0x78 => self.config = field(value, 0, 0x400) as u16,
+            0x78 => self.config = field(value, 0, 0x100) as u16,
             _ => {}
         }
         Effect::Nothing
@@ -100,7 +100,7 @@ impl Registers {
         match at {
             0x440 => self.empty_port_wake = Wake::of(value),
             0x450 => return self.write_port(value),
-            0x454 => self.port.power = value,
+            0x454 => self.port.power = field(value, 0, 0x20000),
             _ => {}
         }
         Effect::Nothing
@@ -158,13 +158,18 @@ impl Registers {
             *self = Registers::new(self.port.attached);
             return Effect::Reset;
         }
+        let halts = self.runs && !is_set(value, 0);
         self.runs = is_set(value, 0) && !self.host_error;
         self.interrupts = is_set(value, 2);
         self.host_error_interrupts = is_set(value, 3);
         self.wrap_events = is_set(value, 10);
         self.restore_error = self.restore_error || is_set(value, 9);
         self.command_ring.runs = self.command_ring.runs && is_set(value, 0);
-        Effect::Nothing
+        if halts {
+            Effect::Halted
+        } else {
+            Effect::Nothing
+        }
     }
 
     /// USBSTS.

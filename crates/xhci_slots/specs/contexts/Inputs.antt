@@ -75,23 +75,32 @@ streams_of endpoint = endpoint.state / 2 ^ 10 % 2 ^ 5
 abbrev pub is_linear : EndpointContext → Bool
 is_linear endpoint = endpoint.state / 2 ^ 15 % 2 == 1
 
--- an endpoint context that isn't of an endpoint of this kind, or has more streams than the controller, or secondary stream arrays
-abbrev pub is_bad_endpoint : EndpointKind → EndpointContext → Bool
-is_bad_endpoint kind endpoint =
-    not (type_of endpoint == type_number kind) || not (packet_of endpoint == packet_bytes kind)
-    || nat_lt 7 (streams_of endpoint) || (nat_lt 0 (streams_of endpoint) && not (is_linear endpoint))
+-- the greatest MaxPStreams of an endpoint: endpoint 0 and the command pipe have no streams
+abbrev pub most_streams : Number → ℕ
+most_streams ControlPipe = 0
+most_streams CommandPipe = 0
+most_streams StatusPipe = 7
+most_streams DataOutPipe = 7
+most_streams DataInPipe = 7
+
+-- an endpoint context that isn't of this endpoint of the disk, or has more streams than that, or secondary stream arrays
+abbrev pub is_bad_endpoint : Number → EndpointContext → Bool
+is_bad_endpoint number endpoint =
+    not (type_of endpoint == type_number (kind_of number)) || not (packet_of endpoint == packet_bytes (kind_of number))
+    || nat_lt (most_streams number) (streams_of endpoint) || (nat_lt 0 (streams_of endpoint) && not (is_linear endpoint))
 
 -- D0 or D1 is set, or A0 isn't
 abbrev pub has_bad_flags : InputContext → Bool
 has_bad_flags input = has_flag input.drops 0 || has_flag input.drops 1 || not (has_flag input.adds 0)
 
--- Address Device (4.6.5): the disk is behind root hub port 2
+-- Address Device (4.6.5): A1 is set too, and the disk is behind root hub port 2
 abbrev pub is_bad_address : InputContext → Bool
-is_bad_address input = has_bad_flags input || not (port_of input.device.slot == 2) || is_bad_endpoint Control input.device.control
+is_bad_address input =
+    has_bad_flags input || not (has_flag input.adds 1) || not (port_of input.device.slot == 2) || is_bad_endpoint ControlPipe input.device.control
 
 -- an endpoint that is added
 abbrev pub is_bad_added : InputContext → Number → Bool
-is_bad_added input number = has_flag input.adds (index_of number) && is_bad_endpoint (kind_of number) (endpoint_of input.device number)
+is_bad_added input number = has_flag input.adds (index_of number) && is_bad_endpoint number (endpoint_of input.device number)
 
 -- Configure Endpoint (4.6.6): the disk has no endpoint above index 5
 abbrev pub is_bad_configuration : InputContext → Bool

@@ -2,7 +2,7 @@
 ghost use Rattle.std.specs.Prelude.{◌≡◌, ◌<◌, ◌≤◌};
 ghost use Rattle.std.specs.Result.{result_ok};
 ghost use Rattle.xhci_slots.specs.contexts.Inputs.{endpoint_of, has_bad_flags, has_flag, index_of, input_at, is_bad_added, is_bad_address};
-ghost use Rattle.xhci_slots.specs.contexts.Inputs.{is_bad_configuration, is_bad_endpoint, is_bad_evaluation, is_linear, kind_of, packet_bytes, packet_of, port_of};
+ghost use Rattle.xhci_slots.specs.contexts.Inputs.{is_bad_configuration, is_bad_endpoint, is_bad_evaluation, is_linear, kind_of, most_streams, packet_bytes, packet_of, port_of};
 ghost use Rattle.xhci_slots.specs.contexts.Inputs.{streams_of, type_number, type_of};
 
 use crate::contexts::contexts::context_at;
@@ -51,6 +51,16 @@ impl Number {
             Number::ControlPipe => EndpointKind::Control,
             Number::CommandPipe | Number::DataOutPipe => EndpointKind::BulkOut,
             Number::StatusPipe | Number::DataInPipe => EndpointKind::BulkIn,
+        }
+    }
+
+    /// The greatest MaxPStreams: endpoint 0 and the command pipe have no streams.
+    fn most_streams(self) -> u32
+        ensures { result ≡ most_streams self }
+    {
+        match self {
+            Number::ControlPipe | Number::CommandPipe => 0,
+            Number::StatusPipe | Number::DataOutPipe | Number::DataInPipe => MOST_STREAMS,
         }
     }
 }
@@ -115,13 +125,13 @@ impl EndpointContext {
         (self.state >> 15) % 2 == 1
     }
 
-    /// Whether it isn't of an endpoint of this kind, or has more streams than the controller, or secondary stream arrays.
-    fn is_bad(&self, kind: EndpointKind) -> bool
-        ensures { result ≡ is_bad_endpoint kind self.now }
+    /// Whether it isn't of this endpoint of the disk, or has more streams than that, or secondary stream arrays.
+    fn is_bad(&self, number: Number) -> bool
+        ensures { result ≡ is_bad_endpoint number self.now }
     {
-        self.type_number() != kind.number()
-            || self.packet() != kind.packet_bytes()
-            || self.streams() > MOST_STREAMS
+        self.type_number() != number.kind().number()
+            || self.packet() != number.kind().packet_bytes()
+            || self.streams() > number.most_streams()
             || self.streams() > 0 && !self.is_linear()
     }
 }
@@ -181,7 +191,7 @@ impl InputContext {
     fn is_bad_added(&self, number: Number) -> bool
         ensures { result ≡ is_bad_added self.now number }
     {
-        self.adds(number) && self.device.endpoint(number).is_bad(number.kind())
+        self.adds(number) && self.device.endpoint(number).is_bad(number)
     }
 
     /// Whether Address Device ends with Parameter Error (4.6.5).
@@ -189,8 +199,9 @@ impl InputContext {
         ensures { result ≡ is_bad_address self.now }
     {
         self.has_bad_flags()
+            || !self.adds(Number::ControlPipe)
             || self.device.slot.port_number() != PORT
-            || self.device.control.is_bad(EndpointKind::Control)
+            || self.device.control.is_bad(Number::ControlPipe)
     }
 
     /// Whether Configure Endpoint ends with Parameter Error (4.6.6).

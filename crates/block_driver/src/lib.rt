@@ -5,8 +5,8 @@
 //! ```
 //!
 //! [`BlockDriver`] owns a [`DiskReady`], tells its accesses until the disk is ready, and then its own. It tells one [`Access`] at a time, which its
-//! caller does before the next call ([`BlockDriver::next`]), and takes what was read ([`BlockDriver::answer`]). It rests until a command is submitted,
-//! an interrupt comes ([`BlockDriver::interrupted`]), or the time of a command is over.
+//! caller does before the next call ([`BlockDriver::next`]), and takes what was read ([`BlockDriver::answer`]). It rests until a command is
+//! submitted, an interrupt comes ([`BlockDriver::interrupted`]), or the time of a command is over.
 //!
 //! | Seen | Then |
 //! |---|---|
@@ -23,8 +23,8 @@
 //! What is promised, for any answers, times and calls: what is told is the access of the table's row (`next_access`), and the next state is that of
 //! the row too (`next_state`, `answered`, in specs/Calls, Steps, Turns, Events). No access is outside the registers or the memory that was lent
 //! (`inside`). Each command has one reply (`once`): [`BlockDriver::submit`] gives a free tag to it, [`BlockDriver::take_reply`] frees the tag of a
-//! reply, and no other call changes which tags have commands, with which marks, or a reply ([`replies_stand`]). No call but [`BlockDriver::new`]
-//! takes memory. That commands end is tried, in front of the controller of `xhci_machine` (tests/crates/driver).
+//! reply, and no other call changes which tags have commands, with which marks, or a reply ([`replies_stand`]). A reply waits for the data and the status
+//! of its command, and one that is GOOD has all bytes ([`replies_are_whole`]). No call but [`BlockDriver::new`] takes memory. That commands end is tried, in front of the controller of `xhci_machine` (tests/crates/driver).
 //!
 //! It stands on `block_requests`, `disk_ready`, `disk_up`, `bring_up`, `disk_requests`, `usb_descriptors`, `host_layout`, `host_trbs`, `arrayvec`,
 //! `byteorder` and `thiserror`.
@@ -45,7 +45,7 @@ mod turns;
 use block_requests::SubmitFault;
 use disk_ready::DiskReady;
 pub use freeing::{Freeing, Removal};
-pub use laws::replies_stand;
+pub use laws::{replies_are_whole, replies_stand};
 pub use replies::{Reply, State};
 pub use rings::Thirds;
 pub use steps::{Blocks, Work};

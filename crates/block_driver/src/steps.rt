@@ -4,7 +4,7 @@ ghost use Rattle.block_driver.specs.Steps.{World, begun_blocks, blocks_access, c
 ghost use Rattle.block_driver.specs.Turns.{blocks_advanced, commands_closed, found_advanced, given_back, idle_over, opened, put_begun, put_over};
 ghost use Rattle.block_driver.specs.Table.{marks};
 
-use crate::freeing::{Removal, data_endpoint, removal_limit};
+use crate::freeing::{Removal, data_endpoint};
 use crate::rings::{Thirds, thirds_from};
 use crate::table::{Kind, Loss};
 use crate::tags::Tags;
@@ -184,14 +184,17 @@ impl Blocks {
         }
     }
 
-    /// When a rest is over: at once where there is something to put or to look for.
+    /// When a rest is over: at once where there is something to put or to look for; else with the time of a command that takes data off, or of the
+    /// first of all commands.
     fn idle_until(&self) -> u64
         ensures { result ≡ idle_until self.now }
     {
         if self.is_interrupted || self.waiting().is_some() {
-            0
-        } else {
-            self.tags.least_limit().min(removal_limit(self.removal))
+            return 0;
+        }
+        match self.removal {
+            Some(removal) => removal.limit,
+            None => self.tags.least_limit(),
         }
     }
 

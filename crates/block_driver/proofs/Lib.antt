@@ -2,3 +2,4 @@ pub mod Places
 pub mod Marks
 pub mod Firsts
 pub mod Stands
+pub mod Wholes

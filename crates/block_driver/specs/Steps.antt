@@ -1,5 +1,5 @@
 -- A disk with many commands out: what each step tells.
-use Rattle.std.specs.Prelude.{ℕ, ◌+◌, ◌*◌, ◌-◌, ◌^◌, ◌||◌, min, not, if◌then◌else◌, Bool, Option, None, Some, is_some, List, false, bit_and, bit_or, replicate, slice_index_or}
+use Rattle.std.specs.Prelude.{ℕ, ◌+◌, ◌*◌, ◌-◌, ◌^◌, ◌||◌, not, if◌then◌else◌, Bool, Option, None, Some, is_some, List, false, bit_and, bit_or, replicate, slice_index_or}
 use Rattle.bring_up.specs.declared.access.Access.{Access}
 use Rattle.bring_up.specs.declared.access.Access.TheVariants.{Rest}
 use Rattle.bring_up.specs.declared.commands.Putting.{Putting}
@@ -60,7 +60,8 @@ begun_blocks tags = record {
   loss = None;
 }
 
--- THE REST: until a command waits, an interrupt came, or a command's time is over; while data are taken off, no command is put
+-- THE REST: until a command waits, an interrupt came, or the time of a command on the command ring, or else of any, is over; while data are taken
+-- off, no command is put
 
 abbrev pub waiting_by : Option Removal → List Entry → Option ℕ
 waiting_by None tags = first_of Waiting tags
@@ -69,12 +70,12 @@ waiting_by (Some removal) tags = None
 abbrev pub waiting : Blocks → Option ℕ
 waiting b = waiting_by b.removal b.tags
 
-abbrev pub removal_limit : Option Removal → ℕ
-removal_limit None = 2 ^ 64 - 1
-removal_limit (Some removal) = removal.limit
+abbrev pub rest_until : Option Removal → List Entry → ℕ
+rest_until None tags = least_limit tags
+rest_until (Some removal) tags = removal.limit
 
 abbrev pub idle_until : Blocks → ℕ
-idle_until b = if b.is_interrupted || is_some (waiting b) then 0 else min (least_limit b.tags) (removal_limit b.removal)
+idle_until b = if b.is_interrupted || is_some (waiting b) then 0 else rest_until b.removal b.tags
 
 -- TAKING DATA OFF: 4.6.9, then 4.6.10 to the next third of the stream's ring
 

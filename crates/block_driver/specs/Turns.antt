@@ -91,6 +91,7 @@ abbrev pub is_slot_asked : Asked → Bool
 is_slot_asked asked.EnableSlot = false
 is_slot_asked asked.AddressDevice = false
 is_slot_asked asked.ResetPort = true
+is_slot_asked asked.Forget = true
 is_slot_asked (asked.Refuse why) = true
 
 abbrev pub is_step_back : Step → Bool

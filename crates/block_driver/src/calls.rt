@@ -195,7 +195,8 @@ impl BlockDriver {
     }
 }
 
-/// Whether TDs that were put aren't the controller's any more: the slot was given back, or the controller was reset; one that is dead or gone is apart.
+/// Whether TDs that were put aren't the controller's any more: the slot was given back, or the controller was reset; one that is dead or gone is
+/// apart.
 fn is_back(stage: &Stage) -> bool
     ensures { result ≡ is_back stage.now }
 {
@@ -224,5 +225,5 @@ fn is_step_back(step: Step) -> bool
 fn is_slot_asked(asked: Asked) -> bool
     ensures { result ≡ is_slot_asked asked }
 {
-    matches!(asked, Asked::ResetPort | Asked::Refuse(_))
+    matches!(asked, Asked::ResetPort | Asked::Forget | Asked::Refuse(_))
 }

@@ -2,7 +2,7 @@
 //! moved to its next third, and then the doorbells of the other streams are rung again.
 ghost use Rattle.std.specs.Prelude.{◌≡◌};
 ghost use Rattle.byteorder.specs.Endian.{little_number};
-ghost use Rattle.block_driver.specs.Steps.{World, data_endpoint, freeing_access, freeing_command, removal_limit};
+ghost use Rattle.block_driver.specs.Steps.{World, data_endpoint, freeing_access, freeing_command};
 ghost use Rattle.block_driver.specs.Turns.{command_came, context_taken, first_word, free_begun, free_closed, free_ended, free_next, free_put, freeing_begun, move_ended, removal_came, ring_after, stop_again, stop_ended};
 ghost use Rattle.block_driver.specs.Table.{marks};
 
@@ -46,16 +46,6 @@ pub(crate) fn data_endpoint(pipes: &Pipes, is_in: bool) -> u8
         pipes.data_in.context_index()
     } else {
         pipes.data_out.context_index()
-    }
-}
-
-/// When a command's time is over.
-pub(crate) fn removal_limit(removal: Option<Removal>) -> u64
-    ensures { result ≡ removal_limit removal }
-{
-    match removal {
-        Some(removal) => removal.limit,
-        None => u64::MAX,
     }
 }
 

@@ -5,25 +5,27 @@
 //! ```
 //!
 //! [`BlockDriver`] owns a [`DiskReady`], tells its accesses until the disk is ready, and then its own. It tells one [`Access`] at a time, which its
-//! caller does before the next call ([`BlockDriver::next`]), and takes what was read ([`BlockDriver::answer`]). It rests until a command is submitted,
-//! an interrupt comes ([`BlockDriver::interrupted`]), or the time of a command is over.
+//! caller does before the next call ([`BlockDriver::next`]), and takes what was read ([`BlockDriver::answer`]). It rests until a command is
+//! submitted, an interrupt comes ([`BlockDriver::interrupted`]), or the time of a command is over.
 //!
 //! | Seen | Then |
 //! |---|---|
 //! | commands wait | each is put, the lowest tag first: data, status, command, each alone in the next third of its ring; then their doorbells |
 //! | an interrupt | USBSTS, cleared; the interrupter; each event, its last word first; ERDP behind 64 and at the end |
 //! | an event at the third of a TD that is pending | its data ended, or its status unit is loaded |
-//! | a status that isn't GOOD, and no data; GOOD too, after 1,000 ms | Stop Endpoint; Set TR Dequeue Pointer of each such stream; the doorbells of the others |
+//! | a status that isn't GOOD, and no data; GOOD too, after 1,000 ms | data are taken off: Stop Endpoint; Set TR Dequeue Pointer; doorbells |
 //! | a TD fails, another tag's unit, a command's time is over, the port disabled | all are lost, and the device is tried again |
 //! | the disk is gone from its port; the controller had an error | all are lost; another device is looked for; the controller is taken anew |
 //!
-//! [`BlockDriver::restart`] has the device tried again too. Commands are lost once their TDs aren't the controller's any more: behind Disable Slot, or the controller's reset.
+//! [`BlockDriver::restart`] has the device tried again too. Commands are lost once their TDs aren't the controller's any more: behind Disable
+//! Slot, or the controller's reset.
 //!
 //! What is promised, for any answers, times and calls: what is told is the access of the table's row (`next_access`), and the next state is that of
 //! the row too (`next_state`, `answered`, in specs/Calls, Steps, Turns, Events). No access is outside the registers or the memory that was lent
-//! (`inside`). Each command has one reply (`once`): [`BlockDriver::submit`] gives a free tag to it, [`BlockDriver::take_reply`] frees the tag of a reply, and no
-//! other call changes which tags have commands, with which marks, or a reply ([`replies_stand`]). No call but [`BlockDriver::new`] takes memory. That commands end is tried, in
-//! front of the controller of `xhci_machine` (tests/crates/driver).
+//! (`inside`). A command has no second reply (`once`): [`BlockDriver::submit`] gives a free tag to it, [`BlockDriver::take_reply`] frees the tag of a
+//! reply, and no other call changes which tags have commands, and with which marks; the four changes that those make of a tag leave a reply as it
+//! is ([`replies_stand`]). A reply waits for the data and the status of its command, and one that is GOOD has all bytes ([`replies_are_whole`]).
+//! No call but [`BlockDriver::new`] takes memory. That commands end is tried, in front of the controller of `xhci_machine` (tests/crates/driver).
 //!
 //! It stands on `block_requests`, `disk_ready`, `disk_up`, `bring_up`, `disk_requests`, `usb_descriptors`, `host_layout`, `host_trbs`, `arrayvec`,
 //! `byteorder` and `thiserror`.
@@ -39,11 +41,12 @@ mod steps;
 mod submits;
 mod table;
 mod tags;
+mod turns;
 
 use block_requests::SubmitFault;
 use disk_ready::DiskReady;
 pub use freeing::{Freeing, Removal};
-pub use laws::replies_stand;
+pub use laws::{replies_are_whole, replies_stand};
 pub use replies::{Reply, State};
 pub use rings::Thirds;
 pub use steps::{Blocks, Work};

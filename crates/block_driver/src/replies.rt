@@ -111,8 +111,8 @@ impl BlockDriver {
         }
     }
 
-    /// Lends memory from an address on, in state `WantsMemory`. `Alignment` for no multiple of 65,536; `Reach` above the options' `address_bits`, where
-    /// the controller doesn't reach it, and across a multiple of 2^32. A refusal changes nothing.
+    /// Lends memory from an address on, in state `WantsMemory`. `Alignment` for no multiple of 65,536; `Reach` above the options'
+    /// `address_bits`, where the controller doesn't reach it, and across a multiple of 2^32. A refusal changes nothing.
     pub fn lend(&mut self, base: u64) -> Result<(), LendFault>
         ensures not_asked { (result ≡ Err LendFault.NotAsked) ↔ (is_wanting self.old.ready.device.driver.stage ≡ false) }
         ensures alignment { (result ≡ Err LendFault.Alignment) ↔ ((is_wanting self.old.ready.device.driver.stage ≡ true) × (base % 65536 ≢ 0)) }

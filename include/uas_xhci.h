@@ -43,8 +43,9 @@ enum {
  *
  * What is proved of a call is so where nobody else writes these bytes meanwhile. A guest's processors may: a read then has bytes of one moment
  * or of two. So the sources read each TRB, context and information unit once into a copy and decide on that. That the compiler keeps to one read
- * isn't proved; what was tried of it is in docs/LIBRARY.md. Other processors see the writes in the order of an x86-64's stores; elsewhere the
- * caller puts a barrier behind each step, or runs the guest's processors and these calls in turn. */
+ * isn't proved; what was tried of it is in docs/LIBRARY.md. Other processors see the writes in the order of an x86-64's stores. Elsewhere
+ * the caller runs the guest's processors and these calls in turn, or works over copies and writes the noted ranges back in their order, with a
+ * barrier between them. */
 struct uas_region {
     uint64_t address;
     uint8_t *bytes;

@@ -1,4 +1,4 @@
-/* The functions of include/uas_xhci.h that libuas_xhci.a has beside the proved exports: each makes one call of the door. */
+/* The functions of include/uas_xhci.h that libuas_xhci.a has beside the proved exports: each makes one call of these. */
 #include "uas_xhci.h"
 
 #include <stdlib.h>

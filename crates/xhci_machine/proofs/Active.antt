@@ -23,8 +23,8 @@ use Rattle.xhci_machine.specs.declared.states.States.{States}
 use Rattle.xhci_machine.specs.declared.work.Worked.{Worked}
 use Rattle.xhci_machine.specs.Bus.{fault_in, is_silent, transaction_error}
 use Rattle.xhci_machine.specs.Contexts.{is_due}
-use Rattle.xhci_machine.specs.Laws.{AllTasksAreIdle, IsFailed, IsLeftIdle, IsTaskIdle, come_to}
 use Rattle.xhci_machine.specs.Ring.{states_of}
+use Rattle.xhci_machine.specs.Laws.{AllTasksAreIdle, IsFailed, IsLeftIdle, IsTaskIdle, come_to}
 use Rattle.xhci_machine.specs.Rounds.{Turning, command_of, command_pipe_stepped, control_stepped, control_world, data_due, data_of, front_turned, is_stray, stray_of, stray_stepped, noted_in, pipes_turned, port_in, restarted, ring_on, served, settled_in, status_due, status_of, then_commands, then_control, then_stray, then_pipes, then_port, transfers_world, turned, with_control, with_stray, with_transfers}
 use Rattle.xhci_machine.specs.Steps.{commands_stepped}
 use Rattle.xhci_machine.specs.Turns.{World, detected, full_posted, has_full, interrupted, noted, port_posted, port_turned, settled, states_told, tells_port, told_if, told_of_port}

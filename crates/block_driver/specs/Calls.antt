@@ -1,5 +1,5 @@
 -- The calls: the accesses of the disk until it is ready, then those of its commands.
-use Rattle.std.specs.Prelude.{ℕ, ◌-◌, ◌^◌, nat_le, not, if◌then◌else◌, Bool, true, false, Option, Some, None, is_some, List, [], replicate}
+use Rattle.std.specs.Prelude.{ℕ, ◌-◌, ◌^◌, ◌&&◌, nat_le, not, if◌then◌else◌, Bool, true, false, Option, Some, None, is_some, List, [], replicate}
 use Rattle.bring_up.specs.declared.access.Access.{Access}
 use Rattle.bring_up.specs.declared.access.Access.TheVariants.{Read32, Load, Write32, Store, Rest}
 use Rattle.bring_up.specs.declared.bring_up.Stage.{Stage}
@@ -189,7 +189,9 @@ state_below below.Gone = state.Gone
 state_below below.Dead = state.Dead
 
 abbrev pub state_with : Option ReadyDisk → BlockDriver → ℕ → State
-state_with None d bytes = state_below (stage_state d.ready.device.driver.stage bytes)
+state_with None d bytes =
+    if is_some d.blocks.loss && not (is_back d.ready.device.driver.stage) then state.Restarting
+    else state_below (stage_state d.ready.device.driver.stage bytes)
 state_with (Some disk) d bytes = state.Ready d.blocks.number disk
 
 abbrev pub state_of : BlockDriver → ℕ → State

@@ -197,7 +197,7 @@ impl BlockDriver {
 
 /// Whether TDs that were put aren't the controller's any more: the slot was given back, or the controller was reset; one that is dead or gone is
 /// apart.
-fn is_back(stage: &Stage) -> bool
+pub(crate) fn is_back(stage: &Stage) -> bool
     ensures { result ≡ is_back stage.now }
 {
     match stage {

@@ -1,6 +1,7 @@
 //! Replies, and where a driver is.
 ghost use Rattle.std.specs.Prelude.{◌≡◌, ◌≢◌, ◌↔◌, ◌%◌, ◌-◌, ℕ, true, false, None, Some, IfErr, IfSome, OnErr, OnOk, is_err, is_none, slice_set};
 ghost use Rattle.bring_up.specs.Lending.{IsShapeFor, WantsBytes, has_reach, is_wanting, lent};
+ghost use Rattle.bring_up.specs.States.{refusal_at};
 ghost use Rattle.host_layout.specs.Shapes.{bytes_of};
 ghost use Rattle.block_driver.specs.Calls.{reply_of, reply_taken, restarted_driver, state_below, state_of, with_driver};
 ghost use Rattle.block_driver.specs.Submits.{open_disk};
@@ -9,6 +10,7 @@ ghost use Rattle.bring_up.specs.declared.controller.Controller.{Controller};
 ghost use Rattle.host_layout.specs.declared.layout.Layout.{Layout};
 ghost use Rattle.block_driver.specs.Table.{entry_at, mark_of, marks};
 
+use crate::calls::is_back;
 use crate::table::{Ending, Kind, Loss};
 use crate::{BlockDriver, Fault};
 use bring_up::{LendFault, Row, Stage, State as Below, Why};
@@ -28,6 +30,8 @@ pub enum State {
     Asking,
     /// Commands are taken, of the disk of this number.
     Ready { number: u64, disk: ReadyDisk },
+    /// A disk isn't used any more, and its commands aren't lost yet.
+    Restarting,
     /// The controller is gone.
     Gone,
     /// It can't be used until it is reset from outside; the memory is the controller's until its bus mastering is off.
@@ -69,8 +73,18 @@ impl BlockDriver {
                 number: self.blocks.number,
                 disk,
             },
+            None if self.blocks.loss.is_some() && !is_back(&self.ready.device.driver.stage) => {
+                State::Restarting
+            }
             None => state_below(below),
         }
+    }
+
+    /// Why the device at a port isn't used; None where it is, or there is none.
+    pub fn refusal(&self, port: u8) -> Option<Why>
+        ensures { result ≡ refusal_at self.now.ready.device.driver.stage port }
+    {
+        self.ready.device.driver.refusal(port)
     }
 
     /// The reply of the lowest tag that has one. The tag is free then.

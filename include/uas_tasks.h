@@ -69,11 +69,11 @@ struct uas_disk {
     uint32_t discard_blocks; /* how many are given back at once: a multiple of 4,096 bytes, up to 65,536 blocks; usual 4,096 bytes */
     uint16_t rotation;       /* 1 where it doesn't turn (usual), else 1,025 to 65,534 rounds a minute */
     uint8_t form;            /* 0 not told, 1 5.25 inches, 2 3.5, 3 2.5, 4 1.8, 5 less */
-    uint8_t eui_bytes;       /* of `eui`: 8, 12 or 16; 0 for none */
+    uint8_t eui_bytes;       /* of `eui`: 8, 12 or 16; 0 for none; zeros are behind them */
     char revision[4], vendor[8], product[16];
     char serial[36];         /* usual: its number in the device, in eight digits */
     uint8_t reserved[4];     /* 0 */
-    uint8_t naa[16];         /* begins with 2, 3 or 5 and has 8 bytes, or with 6 and has 16; zeros for none */
+    uint8_t naa[16];         /* begins with 2, 3 or 5 and has 8 bytes, zeros behind them, or with 6 and has 16; zeros for none */
     uint8_t eui[16], uuid[16]; /* zeros for none */
 };
 UAS_TASKS_ASSERT(sizeof(struct uas_disk) == 152 && offsetof(struct uas_disk, serial) == 64 && offsetof(struct uas_disk, uuid) == 136);

@@ -78,7 +78,9 @@ static bool can_be_told(const struct second_disk *disk)
         return false;
     if (has_naa(disk) && kind != 2 && kind != 3 && kind != 5 && kind != 6)
         return false;
-    return (eui == 0 || eui == 8 || eui == 12 || eui == 16) && all_zero(disk->at + 100, 4);
+    if (has_naa(disk) && kind != 6 && !all_zero(disk->at + 112, 8))
+        return false;
+    return (eui == 0 || eui == 8 || eui == 12 || eui == 16) && all_zero(disk->at + 120 + eui, 16 - eui) && all_zero(disk->at + 100, 4);
 }
 
 /* The first fault of a record of so many bytes that are there, or UAS_OK. */

@@ -105,11 +105,16 @@ revision_of text = if length text == 0 then Some usual_revision else result_ok (
 abbrev pub serial_asked : List ℕ → Option (Option SerialText)
 serial_asked text = if length text == 0 then Some None else option_map Some (result_ok (serial_of text))
 
--- an NAA name that begins with 6 has all 16 bytes, another has 8
+-- an NAA name that begins with 6 has all 16 bytes; another has 8, and zeros behind them
+abbrev pub naa_named : List ℕ → Option (Option Naa)
+naa_named name = option_map Some (result_ok (naa_of name))
+
 abbrev pub naa_asked : List ℕ → Option (Option Naa)
 naa_asked field =
     if is_zero field then Some None
-    else option_map Some (result_ok (naa_of (if kind_of field == 6 then field else take 8 field)))
+    else (if kind_of field == 6 then naa_named field
+    else (if is_zero (drop 8 field) then naa_named (take 8 field)
+    else None))
 
 -- an EUI-64 name of so many bytes
 abbrev pub is_eui_size : ℕ → Bool
@@ -118,8 +123,11 @@ is_eui_size bytes = bytes == 0 || (bytes == 8 || (bytes == 12 || bytes == 16))
 abbrev pub eui_named : List ℕ → Option (Option Eui)
 eui_named name = if is_zero name then Some None else option_map Some (result_ok (eui_of name))
 
+-- zeros are behind it
 abbrev pub eui_asked : ℕ → List ℕ → Option (Option Eui)
-eui_asked bytes field = if not (is_eui_size bytes) then None else eui_named (take bytes field)
+eui_asked bytes field =
+    if not (is_eui_size bytes) then None
+    else (if is_zero (drop bytes field) then eui_named (take bytes field) else None)
 
 abbrev pub uuid_asked : List ℕ → Option Uuid
 uuid_asked field = if is_zero field then None else Some (record { bytes = field })

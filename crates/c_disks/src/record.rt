@@ -5,7 +5,7 @@ ghost use Rattle.std.specs.Result.{result_ok};
 ghost use Rattle.scsi_cmd.specs.Fields.{is_bit_set};
 ghost use Rattle.host_commands.specs.Shapes.{plain_shape, with_disk};
 ghost use Rattle.c_disks.specs.Records.{block_bytes_of, block_length_of, disk_asked, disk_of, eui_asked, eui_named, has_block_bytes, has_blocks};
-ghost use Rattle.c_disks.specs.Records.{is_eui_size, most_of, naa_asked, named_shape, names_of, product_of, revision_of, rotation_asked, serial_asked, shape_asked, shape_said, text_of};
+ghost use Rattle.c_disks.specs.Records.{is_eui_size, most_of, naa_asked, naa_named, named_shape, names_of, product_of, revision_of, rotation_asked, serial_asked, shape_asked, shape_said, text_of};
 ghost use Rattle.c_disks.specs.Records.{uuid_asked, vendor_of};
 
 use crate::RecordFault;
@@ -94,18 +94,27 @@ fn serial_asked(text: &[u8]) -> Option<Option<SerialText>>
     SerialText::of_bytes(text).ok().map(Some)
 }
 
+fn naa_named(name: &[u8]) -> Option<Option<Naa>>
+    ensures { result ≡ naa_named name.now }
+{
+    Naa::new(name).ok().map(Some)
+}
+
 fn naa_asked(field: &[u8; NAME_BYTES]) -> Option<Option<Naa>>
     ensures { result ≡ naa_asked field.now }
 {
     if is_zero(field) {
         return Some(None);
     }
-    let name: &[u8] = if field[0] >> 4 == 6 {
-        field
+    if field[0] >> 4 == 6 {
+        return naa_named(field);
+    }
+    let (name, behind) = field.split_at(8);
+    if is_zero(behind) {
+        naa_named(name)
     } else {
-        &field[..8]
-    };
-    Naa::new(name).ok().map(Some)
+        None
+    }
 }
 
 fn is_eui_size(bytes: u8) -> bool
@@ -130,7 +139,12 @@ fn eui_asked(bytes: u8, field: &[u8; NAME_BYTES]) -> Option<Option<Eui>>
     if !is_eui_size(bytes) {
         return None;
     }
-    eui_named(&field[..usize::from(bytes)])
+    let (name, behind) = field.split_at(usize::from(bytes));
+    if is_zero(behind) {
+        eui_named(name)
+    } else {
+        None
+    }
 }
 
 fn uuid_asked(field: &[u8; NAME_BYTES]) -> Option<Uuid>

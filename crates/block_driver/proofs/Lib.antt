@@ -3,3 +3,4 @@ pub mod Marks
 pub mod Firsts
 pub mod Stands
 pub mod Wholes
+pub mod Kept

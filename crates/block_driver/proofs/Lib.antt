@@ -1,5 +1,5 @@
 pub mod Places
 pub mod Marks
 pub mod Firsts
-pub mod Stands
 pub mod Wholes
+pub mod Kept

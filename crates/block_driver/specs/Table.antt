@@ -1,5 +1,5 @@
 -- What a tag has, and what becomes of it: Free, Outstanding from the submission on, Replied until the reply is taken.
-use Rattle.std.specs.Prelude.{ℕ, ◌+◌, ◌-◌, ◌^◌, drop, fold, length, ◌==◌, ◌||◌, ◌&&◌, suc, min, nat_le, nat_lt, not, if◌then◌else◌, Bool, true, false, Option, None, Some, is_none, is_some, option_map, List, map, slice_index_or, slice_set}
+use Rattle.std.specs.Prelude.{◌≡◌, slice_get, ℕ, ◌+◌, ◌-◌, ◌^◌, drop, fold, length, ◌==◌, ◌||◌, ◌&&◌, suc, min, nat_le, nat_lt, not, if◌then◌else◌, Bool, true, false, Option, None, Some, is_none, is_some, option_map, List, map, slice_index_or, slice_set}
 use Rattle.std.specs.List.{list_any, position}
 use Rattle.block_requests.specs.declared.outcomes.Outcome.{Outcome}
 use Rattle.block_requests.specs.declared.outcomes.Outcome.TheVariants as outcome
@@ -232,6 +232,10 @@ changed change tags tag = changed_under (place_in tags tag) change tags
 -- the marks of all tags' commands: what a call may change of them is told of each
 abbrev pub marks : List Entry → List (Option ℕ)
 marks tags = map mark_of tags
+
+-- each reply before stands behind
+pub record RepliesStand (before behind : List Entry) : Type 0 where
+  pub stand : (place : ℕ) (came : Came) → slice_get before place ≡ Some (entry.Replied came) → slice_get behind place ≡ Some (entry.Replied came)
 
 -- the lowest tag of a kind
 abbrev pub first_of : Kind → List Entry → Option ℕ

@@ -1,10 +1,12 @@
 //! The calls: what the driver tells, and what it is answered.
+#![tactic(auto, using(crate::proofs::Kept::kept_same))]
+
 ghost use Rattle.std.specs.Prelude.{◌≡◌, ◌↔◌, true, false, None, Some, IfOk};
 ghost use Rattle.bring_up.specs.Accesses.{IsInside};
 ghost use Rattle.bring_up.specs.Calls.{fits, layout_of};
 ghost use Rattle.disk_ready.specs.Calls.{begun_ready};
 ghost use Rattle.block_driver.specs.Calls.{answered, asked_access, begun_driver, driver_access, driver_advanced, driver_told, driver_woken, interrupted, is_asked, met, next_access, next_layout, next_state, own_access, own_answered};
-ghost use Rattle.block_driver.specs.Table.{marks};
+ghost use Rattle.block_driver.specs.Table.{RepliesStand, marks};
 ghost use Rattle.block_driver.specs.Turns.{is_back, is_slot_asked, is_step_back};
 
 use crate::steps::Blocks;
@@ -42,6 +44,7 @@ impl BlockDriver {
         ensures inside { IsInside self.old.ready.device.driver.options.bar_bytes (next_layout self.old now) result }
         ensures options { self.new.ready.device.driver.options ≡ self.old.ready.device.driver.options }
         ensures once { marks self.new.blocks.tags ≡ marks self.old.blocks.tags }
+        ensures replies { RepliesStand self.old.blocks.tags self.new.blocks.tags }
     {
         let is_open = self.blocks.disk.is_some();
         let access = self.ready.next(now);
@@ -58,6 +61,7 @@ impl BlockDriver {
         ensures is { self.new ≡ met self.old }
         ensures options { self.new.ready.device.driver.options ≡ self.old.ready.device.driver.options }
         ensures once { marks self.new.blocks.tags ≡ marks self.old.blocks.tags }
+        ensures replies { RepliesStand self.old.blocks.tags self.new.blocks.tags }
     {
         if is_back(&self.ready.device.driver.stage) {
             self.blocks.give_back();
@@ -75,6 +79,7 @@ impl BlockDriver {
         ensures inside { IsInside self.old.ready.device.driver.options.bar_bytes (layout_of (driver_woken self.old).ready.device.driver.stage) result }
         ensures options { self.new.ready.device.driver.options ≡ self.old.ready.device.driver.options }
         ensures once { marks self.new.blocks.tags ≡ marks self.old.blocks.tags }
+        ensures replies { RepliesStand self.old.blocks.tags self.new.blocks.tags }
     {
         self.wake();
         self.tell()
@@ -85,6 +90,7 @@ impl BlockDriver {
         ensures is { self.new ≡ driver_woken self.old }
         ensures options { self.new.ready.device.driver.options ≡ self.old.ready.device.driver.options }
         ensures once { marks self.new.blocks.tags ≡ marks self.old.blocks.tags }
+        ensures replies { RepliesStand self.old.blocks.tags self.new.blocks.tags }
     {
         match self.access() {
             Access::Rest(until) if until <= self.ready.device.driver.time => self.advance(&[]),
@@ -99,6 +105,7 @@ impl BlockDriver {
         ensures inside { IsInside self.old.ready.device.driver.options.bar_bytes (layout_of self.old.ready.device.driver.stage) result }
         ensures options { self.new.ready.device.driver.options ≡ self.old.ready.device.driver.options }
         ensures once { marks self.new.blocks.tags ≡ marks self.old.blocks.tags }
+        ensures replies { RepliesStand self.old.blocks.tags self.new.blocks.tags }
     {
         let access = self.access();
         self.is_asked = access.is_read();
@@ -135,6 +142,7 @@ impl BlockDriver {
         ensures is { self.new ≡ driver_advanced self.old bytes.now }
         ensures options { self.new.ready.device.driver.options ≡ self.old.ready.device.driver.options }
         ensures once { marks self.new.blocks.tags ≡ marks self.old.blocks.tags }
+        ensures replies { RepliesStand self.old.blocks.tags self.new.blocks.tags }
     {
         let now = self.ready.device.driver.time;
         let found = self.ready.device.finding.known.disk;
@@ -152,6 +160,7 @@ impl BlockDriver {
         ensures not_asked { (result ≡ Err AnswerFault.NotAsked) ↔ (is_asked self.old ≡ false) }
         ensures length { (result ≡ Err AnswerFault.Length) ↔ ((is_asked self.old ≡ true) × (fits (asked_access self.old) bytes.now ≡ false)) }
         ensures once { marks self.new.blocks.tags ≡ marks self.old.blocks.tags }
+        ensures replies { RepliesStand self.old.blocks.tags self.new.blocks.tags }
     {
         if self.blocks.disk.is_some() {
             self.own_answer(bytes)
@@ -167,6 +176,7 @@ impl BlockDriver {
         ensures not_asked { (result ≡ Err AnswerFault.NotAsked) ↔ (self.old.is_asked ≡ false) }
         ensures length { (result ≡ Err AnswerFault.Length) ↔ ((self.old.is_asked ≡ true) × (fits (driver_access self.old) bytes.now ≡ false)) }
         ensures once { marks self.new.blocks.tags ≡ marks self.old.blocks.tags }
+        ensures replies { RepliesStand self.old.blocks.tags self.new.blocks.tags }
     {
         if !self.is_asked {
             return Err(AnswerFault::NotAsked);
@@ -189,6 +199,7 @@ impl BlockDriver {
     pub fn interrupted(&mut self)
         ensures is { self.new ≡ interrupted self.old }
         ensures once { marks self.new.blocks.tags ≡ marks self.old.blocks.tags }
+        ensures replies { RepliesStand self.old.blocks.tags self.new.blocks.tags }
     {
         self.ready.interrupted();
         self.blocks.is_interrupted = self.blocks.disk.is_some();

@@ -1,10 +1,12 @@
 //! TDs of data that don't come are taken off (xHCI 1.2, 4.6.9 and 4.6.10): the pipe's endpoint is stopped, the dequeue pointer of each such stream is
 //! moved to its next third, and then the doorbells of the other streams are rung again.
+#![tactic(auto, using(crate::proofs::Kept::kept_same))]
+
 ghost use Rattle.std.specs.Prelude.{◌≡◌};
 ghost use Rattle.byteorder.specs.Endian.{little_number};
 ghost use Rattle.block_driver.specs.Steps.{World, data_endpoint, freeing_access, freeing_command};
 ghost use Rattle.block_driver.specs.Turns.{command_came, context_taken, first_word, free_begun, free_closed, free_ended, free_next, free_put, freeing_begun, move_ended, removal_came, ring_after, stop_again, stop_ended};
-ghost use Rattle.block_driver.specs.Table.{marks};
+ghost use Rattle.block_driver.specs.Table.{RepliesStand, marks};
 
 use crate::rings::data_ring;
 use crate::steps::{Blocks, Work};
@@ -113,6 +115,7 @@ impl Blocks {
     pub(crate) fn free_begin(&mut self, taken: &Taken, tag: u8, now: u64)
         ensures is { record { blocks = self.new; taken = taken.now } ≡ free_begun (record { blocks = self.old; taken = taken.now }) tag now }
         ensures once { marks self.new.tags ≡ marks self.old.tags }
+        ensures replies { RepliesStand self.old.tags self.new.tags }
     {
         let is_in = matches!(self.tags.way(tag), Way::In);
         self.free(taken, is_in, Freeing::Stop(now));
@@ -121,6 +124,7 @@ impl Blocks {
     fn free(&mut self, taken: &Taken, is_in: bool, freeing: Freeing)
         ensures is { record { blocks = self.new; taken = taken.now } ≡ freeing_begun (record { blocks = self.old; taken = taken.now }) is_in freeing }
         ensures once { marks self.new.tags ≡ marks self.old.tags }
+        ensures replies { RepliesStand self.old.tags self.new.tags }
     {
         self.removal = None;
         self.work = Work::Free {
@@ -138,6 +142,7 @@ impl Blocks {
     pub(crate) fn free_put(&mut self, removal: Removal, at: Putting, now: u64)
         ensures is { self.new ≡ free_put self.old removal at now }
         ensures once { marks self.new.tags ≡ marks self.old.tags }
+        ensures replies { RepliesStand self.old.tags self.new.tags }
     {
         let next = match at {
             Putting::Link => Putting::Body,
@@ -159,6 +164,7 @@ impl Blocks {
     pub(crate) fn free_closed(&mut self, taken: &mut Taken, removal: Removal, now: u64)
         ensures is { record { blocks = self.new; taken = taken.new } ≡ free_closed removal.came (record { blocks = self.old; taken = taken.old }) removal now }
         ensures once { marks self.new.tags ≡ marks self.old.tags }
+        ensures replies { RepliesStand self.old.tags self.new.tags }
     {
         match removal.came {
             Some(ended) => {
@@ -174,6 +180,7 @@ impl Blocks {
     fn free_ended(&mut self, taken: &mut Taken, removal: Removal, completion: Completion, now: u64)
         ensures is { record { blocks = self.new; taken = taken.new } ≡ free_ended removal.freeing (record { blocks = self.old; taken = taken.old }) removal.is_in completion now }
         ensures once { marks self.new.tags ≡ marks self.old.tags }
+        ensures replies { RepliesStand self.old.tags self.new.tags }
     {
         match removal.freeing {
             Freeing::Stop(since) => self.stop_ended(taken, removal.is_in, since, completion, now),
@@ -191,6 +198,7 @@ impl Blocks {
     )
         ensures is { record { blocks = self.new; taken = taken.new } ≡ stop_ended completion (record { blocks = self.old; taken = taken.old }) is_in since now }
         ensures once { marks self.new.tags ≡ marks self.old.tags }
+        ensures replies { RepliesStand self.old.tags self.new.tags }
     {
         match completion {
             Completion::Success => self.free_next(taken, is_in, now),
@@ -203,6 +211,7 @@ impl Blocks {
     fn stop_again(&mut self, taken: &Taken, is_in: bool, since: u64, now: u64)
         ensures is { record { blocks = self.new; taken = taken.now } ≡ stop_again (record { blocks = self.old; taken = taken.now }) is_in since now }
         ensures once { marks self.new.tags ≡ marks self.old.tags }
+        ensures replies { RepliesStand self.old.tags self.new.tags }
     {
         if later(since, STOP_LIMIT) <= now {
             self.removal = None;
@@ -216,6 +225,7 @@ impl Blocks {
     fn free_next(&mut self, taken: &Taken, is_in: bool, now: u64)
         ensures is { record { blocks = self.new; taken = taken.now } ≡ free_next (record { blocks = self.old; taken = taken.now }) is_in now }
         ensures once { marks self.new.tags ≡ marks self.old.tags }
+        ensures replies { RepliesStand self.old.tags self.new.tags }
     {
         match self.tags.first(Kind::StuckOn { is_in, now }) {
             Some(tag) => self.free(taken, is_in, Freeing::Move(tag)),
@@ -233,6 +243,7 @@ impl Blocks {
     )
         ensures is { record { blocks = self.new; taken = taken.new } ≡ move_ended completion (record { blocks = self.old; taken = taken.old }) is_in tag now }
         ensures once { marks self.new.tags ≡ marks self.old.tags }
+        ensures replies { RepliesStand self.old.tags self.new.tags }
     {
         match completion {
             Completion::Success => {
@@ -247,6 +258,7 @@ impl Blocks {
     pub(crate) fn context_taken(&mut self, taken: &mut Taken, is_in: bool, now: u64, bytes: &[u8])
         ensures is { record { blocks = self.new; taken = taken.new } ≡ context_taken (record { blocks = self.old; taken = taken.old }) is_in now (first_word bytes.now) }
         ensures once { marks self.new.tags ≡ marks self.old.tags }
+        ensures replies { RepliesStand self.old.tags self.new.tags }
     {
         match endpoint_state(&context_bytes(bytes)) {
             EndpointState::Stopped => self.free_next(taken, is_in, now),
@@ -258,6 +270,7 @@ impl Blocks {
     pub(crate) fn ring_after(&mut self, is_in: bool, tag: u8)
         ensures is { self.new ≡ ring_after self.old is_in tag }
         ensures once { marks self.new.tags ≡ marks self.old.tags }
+        ensures replies { RepliesStand self.old.tags self.new.tags }
     {
         self.removal = None;
         self.work = match self.tags.next(Kind::Moving { is_in }, tag) {
@@ -270,6 +283,7 @@ impl Blocks {
     pub(crate) fn command_came(&mut self, ended: Completed)
         ensures is { self.new ≡ command_came self.old ended }
         ensures once { marks self.new.tags ≡ marks self.old.tags }
+        ensures replies { RepliesStand self.old.tags self.new.tags }
     {
         self.removal = removal_came(self.removal, ended);
     }

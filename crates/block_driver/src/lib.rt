@@ -22,10 +22,10 @@
 //!
 //! What is promised, for any answers, times and calls: what is told is the access of the table's row (`next_access`), and the next state is that of
 //! the row too (`next_state`, `answered`, in specs/Calls, Steps, Turns, Events). No access is outside the registers or the memory that was lent
-//! (`inside`). A command has no second reply (`once`): [`BlockDriver::submit`] gives a free tag to it, [`BlockDriver::take_reply`] frees the tag of a
-//! reply, and no other call changes which tags have commands, and with which marks; the four changes that those make of a tag leave a reply as it
-//! is ([`replies_stand`]). A reply waits for the data and the status of its command, and one that is GOOD has all bytes ([`replies_are_whole`]).
-//! No call but [`BlockDriver::new`] takes memory. That commands end is tried, in front of the controller of `xhci_machine` (tests/crates/driver).
+//! (`inside`). A command has no second reply: [`BlockDriver::submit`] gives a free tag to it, [`BlockDriver::take_reply`] frees the tag of a reply,
+//! and no other call changes which tags have commands, with which marks (`once`), or a reply (`replies`). A reply waits for the data and the
+//! status of its command, and one that is GOOD has all bytes ([`replies_are_whole`]). No call but [`BlockDriver::new`] takes memory. That commands
+//! end is tried, in front of the controller of `xhci_machine` (tests/crates/driver).
 //!
 //! It stands on `block_requests`, `disk_ready`, `disk_up`, `bring_up`, `disk_requests`, `usb_descriptors`, `host_layout`, `host_trbs`, `arrayvec`,
 //! `byteorder` and `thiserror`.
@@ -46,7 +46,7 @@ mod turns;
 use block_requests::SubmitFault;
 use disk_ready::DiskReady;
 pub use freeing::{Freeing, Removal};
-pub use laws::{replies_are_whole, replies_stand};
+pub use laws::replies_are_whole;
 pub use replies::{Reply, State};
 pub use rings::Thirds;
 pub use steps::{Blocks, Work};

@@ -1,4 +1,6 @@
 //! Replies, and where a driver is.
+#![tactic(auto, using(crate::proofs::Kept::kept_same))]
+
 ghost use Rattle.std.specs.Prelude.{◌≡◌, ◌≢◌, ◌↔◌, ◌%◌, ◌-◌, ℕ, true, false, None, Some, IfErr, IfSome, OnErr, OnOk, is_err, is_none, slice_set};
 ghost use Rattle.bring_up.specs.Lending.{IsShapeFor, WantsBytes, has_reach, is_wanting, lent};
 ghost use Rattle.bring_up.specs.States.{refusal_at};
@@ -8,7 +10,7 @@ ghost use Rattle.block_driver.specs.Submits.{open_disk};
 ghost use Rattle.bring_up.specs.declared.bring_up.Stage.{Stage};
 ghost use Rattle.bring_up.specs.declared.controller.Controller.{Controller};
 ghost use Rattle.host_layout.specs.declared.layout.Layout.{Layout};
-ghost use Rattle.block_driver.specs.Table.{entry_at, mark_of, marks};
+ghost use Rattle.block_driver.specs.Table.{RepliesStand, entry_at, mark_of, marks};
 
 use crate::calls::is_back;
 use crate::table::{Ending, Kind, Loss};
@@ -114,6 +116,7 @@ impl BlockDriver {
         ensures refused { is_err result ≡ is_none (open_disk self.old) }
         ensures fault { IfErr result (λ fault. fault ≡ Fault.NotReady) }
         ensures once { marks self.new.blocks.tags ≡ marks self.old.blocks.tags }
+        ensures replies { RepliesStand self.old.blocks.tags self.new.blocks.tags }
     {
         let is_open = self.blocks.disk.is_some();
         match &mut self.ready.device.driver.stage {

@@ -1,8 +1,10 @@
 //! A disk with many commands out: the steps, what each tells, and what comes after it.
+#![tactic(auto, using(crate::proofs::Kept::kept_same))]
+
 ghost use Rattle.std.specs.Prelude.{◌≡◌};
 ghost use Rattle.block_driver.specs.Steps.{World, begun_blocks, blocks_access, changes_cleared, found_access, idle_until, waiting};
 ghost use Rattle.block_driver.specs.Turns.{blocks_advanced, commands_closed, found_advanced, given_back, idle_over, opened, put_begun, put_over};
-ghost use Rattle.block_driver.specs.Table.{marks};
+ghost use Rattle.block_driver.specs.Table.{RepliesStand, marks};
 
 use crate::freeing::{Removal, data_endpoint};
 use crate::rings::{Thirds, thirds_from};
@@ -100,6 +102,7 @@ impl Blocks {
     pub(crate) fn open(&mut self, disk: ReadyDisk, spots: Spots)
         ensures is { self.new ≡ opened self.old disk spots }
         ensures once { marks self.new.tags ≡ marks self.old.tags }
+        ensures replies { RepliesStand self.old.tags self.new.tags }
     {
         self.thirds = thirds_from(spots);
         self.pipe = spots.pipe;
@@ -114,6 +117,7 @@ impl Blocks {
     pub(crate) fn close(&mut self, loss: Loss)
         ensures is { self.new ≡ commands_closed self.old loss }
         ensures once { marks self.new.tags ≡ marks self.old.tags }
+        ensures replies { RepliesStand self.old.tags self.new.tags }
     {
         self.disk = None;
         self.work = Work::Idle;
@@ -126,6 +130,7 @@ impl Blocks {
     pub(crate) fn give_back(&mut self)
         ensures is { self.new ≡ given_back self.old }
         ensures once { marks self.new.tags ≡ marks self.old.tags }
+        ensures replies { RepliesStand self.old.tags self.new.tags }
     {
         if let Some(loss) = self.loss {
             self.tags.lose(loss);
@@ -218,6 +223,7 @@ impl Blocks {
     )
         ensures is { record { blocks = self.new; taken = taken.new } ≡ found_advanced found.now (record { blocks = self.old; taken = taken.old }) now value bytes.now }
         ensures once { marks self.new.tags ≡ marks self.old.tags }
+        ensures replies { RepliesStand self.old.tags self.new.tags }
     {
         if found.is_some() {
             self.advance(taken, now, value, bytes);
@@ -228,6 +234,7 @@ impl Blocks {
     fn advance(&mut self, taken: &mut Taken, now: u64, value: u32, bytes: &[u8])
         ensures is { record { blocks = self.new; taken = taken.new } ≡ blocks_advanced (record { blocks = self.old; taken = taken.old }) now value bytes.now }
         ensures once { marks self.new.tags ≡ marks self.old.tags }
+        ensures replies { RepliesStand self.old.tags self.new.tags }
     {
         match self.work {
             Work::Idle => self.idle_over(),
@@ -246,6 +253,7 @@ impl Blocks {
     fn idle_over(&mut self)
         ensures is { self.new ≡ idle_over self.old }
         ensures once { marks self.new.tags ≡ marks self.old.tags }
+        ensures replies { RepliesStand self.old.tags self.new.tags }
     {
         match self.waiting() {
             Some(tag) => self.put_begin(tag),
@@ -264,6 +272,7 @@ impl Blocks {
     fn put_begin(&mut self, tag: u8)
         ensures is { self.new ≡ put_begun self.old tag }
         ensures once { marks self.new.tags ≡ marks self.old.tags }
+        ensures replies { RepliesStand self.old.tags self.new.tags }
     {
         let way = self.tags.way(tag);
         let thirds = self.thirds[usize::from(tag)];
@@ -279,6 +288,7 @@ impl Blocks {
     fn put_over(&mut self, tag: u8, at: Put)
         ensures is { self.new ≡ put_over self.old tag at }
         ensures once { marks self.new.tags ≡ marks self.old.tags }
+        ensures replies { RepliesStand self.old.tags self.new.tags }
     {
         self.work = match self.tags.put_next(tag, at) {
             Some(at) => Work::Put { tag, at },

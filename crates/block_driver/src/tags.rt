@@ -1,7 +1,7 @@
 //! The tags of a disk: what each has.
 ghost use Rattle.std.specs.Prelude.{◌≡◌, ◌<◌, ◌≤◌, ◌^◌, ◌-◌, None, Some, true, IfOk, IfSome, length, map, replicate, slice_set};
 ghost use Rattle.std.specs.List.{position};
-ghost use Rattle.block_driver.specs.Table.{all_lost, came_in, changed, entry_at, entry_access, entry_lost, entry_moved, entry_next, entry_put, entry_taken, entry_told, first_of, has_late, is_kind, least_limit, mark_of, marks, next_of, place_in, wanted_at, way_of};
+ghost use Rattle.block_driver.specs.Table.{RepliesStand, all_lost, came_in, changed, entry_at, entry_access, entry_lost, entry_moved, entry_next, entry_put, entry_taken, entry_told, first_of, has_late, is_kind, least_limit, mark_of, marks, next_of, place_in, wanted_at, way_of};
 ghost use Rattle.block_driver.specs.Events.{data_said, status_said};
 ghost use Rattle.block_driver.specs.declared.table.Entry.{Entry};
 
@@ -185,6 +185,7 @@ impl Tags {
     pub(crate) fn put(&mut self, tag: u8, spots: Spots)
         ensures is { self.new ≡ changed (entry_put spots) self.old tag }
         ensures once { marks self.new ≡ marks self.old }
+        ensures replies { RepliesStand self.old self.new }
     {
         if let Some(place) = self.place(tag) {
             let entry = &mut self.entries[place];
@@ -195,6 +196,7 @@ impl Tags {
     pub(crate) fn moved(&mut self, tag: u8, count: u32)
         ensures is { self.new ≡ changed (entry_moved count) self.old tag }
         ensures once { marks self.new ≡ marks self.old }
+        ensures replies { RepliesStand self.old self.new }
     {
         if let Some(place) = self.place(tag) {
             let entry = &mut self.entries[place];
@@ -205,6 +207,7 @@ impl Tags {
     pub(crate) fn told(&mut self, tag: u8, told: Told)
         ensures is { self.new ≡ changed (entry_told told) self.old tag }
         ensures once { marks self.new ≡ marks self.old }
+        ensures replies { RepliesStand self.old self.new }
     {
         if let Some(place) = self.place(tag) {
             let entry = &mut self.entries[place];
@@ -232,6 +235,7 @@ impl Tags {
     pub(crate) fn lose(&mut self, loss: Loss)
         ensures is { self.new ≡ all_lost self.old loss }
         ensures once { marks self.new ≡ marks self.old }
+        ensures replies { RepliesStand self.old self.new }
     {
         self.lose_each(loss);
     }

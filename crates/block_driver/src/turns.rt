@@ -1,8 +1,10 @@
 //! A disk with many commands out: its events, and what they lead to.
+#![tactic(auto, using(crate::proofs::Kept::kept_same))]
+
 ghost use Rattle.std.specs.Prelude.{◌≡◌};
 ghost use Rattle.block_driver.specs.Steps.{World};
 ghost use Rattle.block_driver.specs.Turns.{closed, closed_by, event_came, failed, idle_or_late, is_inactive, is_looked_on, moved_on, port_told, pulled, restarted_all, said_taken, served, served_on, stuck_or_late, told_taken, told_until, tries_after, unit_taken, went};
-ghost use Rattle.block_driver.specs.Table.{first_of, marks};
+ghost use Rattle.block_driver.specs.Table.{RepliesStand, first_of, marks};
 ghost use Rattle.block_driver.specs.declared.table.Kind.{Kind};
 
 use crate::events::{STATUS_BYTES, Said};
@@ -37,6 +39,7 @@ impl Blocks {
     )
         ensures is { record { blocks = self.new; taken = taken.new } ≡ served (record { blocks = self.old; taken = taken.old }) service now value bytes.now }
         ensures once { marks self.new.tags ≡ marks self.old.tags }
+        ensures replies { RepliesStand self.old.tags self.new.tags }
     {
         match service.at {
             Serving::Event => self.event_came(taken, service, now, taken_event(bytes)),
@@ -50,6 +53,7 @@ impl Blocks {
     fn event_came(&mut self, taken: &mut Taken, service: Service, now: u64, event: Event)
         ensures is { record { blocks = self.new; taken = taken.new } ≡ event_came (record { blocks = self.old; taken = taken.old }) service now event }
         ensures once { marks self.new.tags ≡ marks self.old.tags }
+        ensures replies { RepliesStand self.old.tags self.new.tags }
     {
         taken.events = taken.events.next();
         match event {
@@ -69,6 +73,7 @@ impl Blocks {
     fn said_taken(&mut self, taken: &mut Taken, service: Service, said: Said)
         ensures is { record { blocks = self.new; taken = taken.new } ≡ said_taken said (record { blocks = self.old; taken = taken.old }) service }
         ensures once { marks self.new.tags ≡ marks self.old.tags }
+        ensures replies { RepliesStand self.old.tags self.new.tags }
     {
         match said {
             Said::Nothing => self.work = Work::Serve(service),
@@ -91,6 +96,7 @@ impl Blocks {
     fn move_on(&mut self, tag: u8, count: u32, service: Service)
         ensures is { self.new ≡ moved_on self.old tag count service }
         ensures once { marks self.new.tags ≡ marks self.old.tags }
+        ensures replies { RepliesStand self.old.tags self.new.tags }
     {
         self.tags.moved(tag, count);
         self.work = Work::Serve(service);
@@ -99,6 +105,7 @@ impl Blocks {
     fn went(&mut self, taken: &mut Taken, service: Service, now: u64, how: Served)
         ensures is { record { blocks = self.new; taken = taken.new } ≡ went how (record { blocks = self.old; taken = taken.old }) service now }
         ensures once { marks self.new.tags ≡ marks self.old.tags }
+        ensures replies { RepliesStand self.old.tags self.new.tags }
     {
         match how {
             Served::On(service) => self.work = Work::Serve(service),
@@ -111,6 +118,7 @@ impl Blocks {
     fn closed(&mut self, taken: &mut Taken, service: Service, now: u64)
         ensures is { record { blocks = self.new; taken = taken.new } ≡ closed (record { blocks = self.old; taken = taken.old }) service now }
         ensures once { marks self.new.tags ≡ marks self.old.tags }
+        ensures replies { RepliesStand self.old.tags self.new.tags }
     {
         if is_looked_on(service) {
             self.work = Work::Serve(served_on(service));
@@ -123,6 +131,7 @@ impl Blocks {
     fn closed_by(&mut self, taken: &mut Taken, now: u64)
         ensures is { record { blocks = self.new; taken = taken.new } ≡ closed_by self.old.removal (record { blocks = self.old; taken = taken.old }) now }
         ensures once { marks self.new.tags ≡ marks self.old.tags }
+        ensures replies { RepliesStand self.old.tags self.new.tags }
     {
         match self.removal {
             Some(removal) => self.free_closed(taken, removal, now),
@@ -133,6 +142,7 @@ impl Blocks {
     fn stuck_or_late(&mut self, taken: &mut Taken, now: u64)
         ensures is { record { blocks = self.new; taken = taken.new } ≡ stuck_or_late (first_of (Kind.Stuck now) self.old.tags) (record { blocks = self.old; taken = taken.old }) now }
         ensures once { marks self.new.tags ≡ marks self.old.tags }
+        ensures replies { RepliesStand self.old.tags self.new.tags }
     {
         match self.tags.first(Kind::Stuck(now)) {
             Some(tag) => self.free_begin(taken, tag, now),
@@ -143,6 +153,7 @@ impl Blocks {
     pub(crate) fn idle_or_late(&mut self, taken: &mut Taken, now: u64)
         ensures is { record { blocks = self.new; taken = taken.new } ≡ idle_or_late (record { blocks = self.old; taken = taken.old }) now }
         ensures once { marks self.new.tags ≡ marks self.old.tags }
+        ensures replies { RepliesStand self.old.tags self.new.tags }
     {
         if self.tags.has_late(now) {
             self.fail(taken, Loss::Late);
@@ -162,6 +173,7 @@ impl Blocks {
     )
         ensures is { record { blocks = self.new; taken = taken.new } ≡ unit_taken (record { blocks = self.old; taken = taken.old }) tag service now bytes.now }
         ensures once { marks self.new.tags ≡ marks self.old.tags }
+        ensures replies { RepliesStand self.old.tags self.new.tags }
     {
         match self.tags.unit_outcome(tag, bytes) {
             Some(outcome) => self.told_taken(taken, tag, service, now, outcome),
@@ -179,6 +191,7 @@ impl Blocks {
     )
         ensures is { record { blocks = self.new; taken = taken.new } ≡ told_taken outcome (record { blocks = self.old; taken = taken.old }) tag service now }
         ensures once { marks self.new.tags ≡ marks self.old.tags }
+        ensures replies { RepliesStand self.old.tags self.new.tags }
     {
         taken.tries = tries_after(&outcome, taken.tries);
         let until = told_until(&outcome, now);
@@ -190,6 +203,7 @@ impl Blocks {
     pub(crate) fn port_told(&mut self, taken: &mut Taken, service: Service, value: u32)
         ensures is { record { blocks = self.new; taken = taken.new } ≡ port_told (record { blocks = self.old; taken = taken.old }) service value }
         ensures once { marks self.new.tags ≡ marks self.old.tags }
+        ensures replies { RepliesStand self.old.tags self.new.tags }
     {
         if !is_set(value, CONNECTED) {
             self.pull(taken);
@@ -204,6 +218,7 @@ impl Blocks {
     fn pull(&mut self, taken: &mut Taken)
         ensures is { record { blocks = self.new; taken = taken.new } ≡ pulled (record { blocks = self.old; taken = taken.old }) }
         ensures once { marks self.new.tags ≡ marks self.old.tags }
+        ensures replies { RepliesStand self.old.tags self.new.tags }
     {
         self.close(Loss::Pulled);
         taken.give_up(Why::Silent);
@@ -213,6 +228,7 @@ impl Blocks {
     pub(crate) fn fail(&mut self, taken: &mut Taken, loss: Loss)
         ensures is { record { blocks = self.new; taken = taken.new } ≡ failed (record { blocks = self.old; taken = taken.old }) loss }
         ensures once { marks self.new.tags ≡ marks self.old.tags }
+        ensures replies { RepliesStand self.old.tags self.new.tags }
     {
         self.close(loss);
         taken.try_again();
@@ -222,6 +238,7 @@ impl Blocks {
     pub(crate) fn restart(&mut self, taken: &mut Taken, now: u64)
         ensures is { record { blocks = self.new; taken = taken.new } ≡ restarted_all (record { blocks = self.old; taken = taken.old }) now }
         ensures once { marks self.new.tags ≡ marks self.old.tags }
+        ensures replies { RepliesStand self.old.tags self.new.tags }
     {
         self.close(Loss::Broken);
         taken.restart(now);

@@ -59,7 +59,7 @@ complete -c uasdisk -n '__fish_seen_subcommand_from serve' -s h -l help -d 'Prin
 complete -c uasdisk -n '__fish_seen_subcommand_from serve' -F
 complete -c uasdisk -n __fish_use_subcommand -a usb -d 'Is a USB disk for QEMU’s usb-redir over standard input and output'
 complete -c uasdisk -n '__fish_seen_subcommand_from usb' -l read-only -d 'Writes nothing, and says so to the guest'
-complete -c uasdisk -n '__fish_seen_subcommand_from usb' -l serial -x -d 'The first unit’s serial number, from which the others count on; else the files’ inodes: 0 to 99999999'
+complete -c uasdisk -n '__fish_seen_subcommand_from usb' -l serial -x -d 'The first unit’s serial number, from which the others count on; else one by each file’s device and inode: 0 to 99999999'
 complete -c uasdisk -n '__fish_seen_subcommand_from usb' -l vendor -x -d 'Who made it, as the guest is told: 1 to 8 printable characters'
 complete -c uasdisk -n '__fish_seen_subcommand_from usb' -l product -x -d 'What it is, as the guest is told: 1 to 16 printable characters'
 complete -c uasdisk -n '__fish_seen_subcommand_from usb' -l block-size -x -d 'The bytes of a block [possible values: 512, 4096]'

@@ -17,8 +17,8 @@
  * of an ABORT TASK or a LOGICAL UNIT RESET that ended a command there is held back (UAS_WAITS), so what a host is told and does later lands
  * later. After uas_tasks_answered of a stale request any tag of that unit that waited may go on, so look at all of them.
  *
- * A READ asks for one chunk at a time and gives it; a WRITE takes a chunk and then asks. SYNCHRONIZE CACHE, START STOP UNIT and VERIFY ask
- * once. A chunk is of at most as many blocks as the device was made with.
+ * A READ asks for one chunk at a time and gives it; a WRITE, and a VERIFY with BYTCHK 1, takes a chunk and then asks, chunk by chunk.
+ * SYNCHRONIZE CACHE, START STOP UNIT and any other VERIFY ask once. A chunk is of at most as many blocks as the device was made with.
  *
  * The duties of a caller are those of uas.h, for a uas_tasks pointer as for its others; but a call finds 8 KiB of stack. Memory is taken by
  * uas_tasks_new and uas_tasks_new_disks alone. */
@@ -135,7 +135,7 @@ struct uas_tasks_door {
     uint64_t length; /* out of NEXT: bytes that it gives or takes at most; of STATUS: bytes of the information unit */
     uint64_t number; /* out of a NEXT that asks; in of DATA, ANSWERED; in and out of STALE */
     uint64_t block;  /* out of a NEXT that asks: the first block */
-    uint64_t count;  /* out of a NEXT that asks: blocks; of UAS_REQUEST_SYNC all from the first on where it is 0 */
+    uint64_t count;  /* out of a NEXT that asks: blocks, 1 or more */
 };
 UAS_TASKS_ASSERT(sizeof(struct uas_tasks_door) == 48 && offsetof(struct uas_tasks_door, unit) == 8);
 

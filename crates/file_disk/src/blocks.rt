@@ -1,7 +1,7 @@
 //! Files that are read and written by position.
 
 ghost use Rattle.std.specs.Prelude.{◌≡◌, ℕ, ◌+◌, ◌≤◌, List, Bool, length, take, drop, true, false, IsTrue, OnOk, OnErr};
-ghost use Rattle.file_disk.specs.Written.{written_over};
+ghost use Rattle.file_disk.specs.Written.{IsSameOutside, written_over};
 
 use byte_io::StreamFault;
 
@@ -32,10 +32,12 @@ pub trait Blocks {
         ensures bytes { OnOk result (IsTrue (tells self.now) → into.new ≡ take (length into.new) (drop offset (holds self.now))) }
         ensures fault { OnErr result (IsTrue (can_fail self.now)) };
 
-    /// Writes `bytes` from byte `offset` on. Until `sync` they may not be safe.
+    /// Writes `bytes` from byte `offset` on. Until `sync` they may not be safe. At a fault it isn't known what stands there, but all else
+    /// is as before.
     fn write_at(&mut self, offset: u64, bytes: &[u8]) -> Result<(), StreamFault>
         requires { IsTrue (tells self.old) → offset + length bytes.now ≤ length (holds self.old) }
         ensures bytes { OnOk result (IsTrue (tells self.old) → holds self.new ≡ written_over (holds self.old) offset bytes.now) }
+        ensures outside { OnErr result (IsTrue (tells self.old) → IsSameOutside offset (length bytes.now) (holds self.old) (holds self.new)) }
         ensures len { IsTrue (tells self.old) → length (holds self.new) ≡ length (holds self.old) }
         ensures safe { synced self.new ≡ synced self.old }
         ensures fault { OnErr result (IsTrue (can_fail self.old)) }

@@ -15,7 +15,9 @@ const BLOCK_BYTES: u64 = 512;
 pub struct HostBlocks {
     file: File,
     size: u64,
-    // The number of the file in its file system.
+    access: FileAccess,
+    // The numbers of the file system, and of the file in it.
+    device: u64,
     inode: u64,
     // The block that can't be read or written, to see what a disk's users make of it.
     bad: Option<u64>,
@@ -35,7 +37,7 @@ pub enum FileAccess {
 /// Why a file isn't opened.
 #[derive(Clone, Copy, Debug, PartialEq, Eq)]
 pub enum OpenFault {
-    /// It isn't there, or may not be opened so.
+    /// It isn't there, isn't a regular file, or may not be opened so.
     File,
     /// Another program has it, or the machine has no lock to give.
     Locked,
@@ -44,7 +46,8 @@ pub enum OpenFault {
 impl HostBlocks {
     /// The file of a name, which is there and may be read and written; nothing of it is changed. Block `bad` fails where one is named.
     pub fn open(rt: &HostRuntime, name: &str, bad: Option<u64>) -> Option<HostBlocks> {
-        HostBlocks::of(opened(rt, name, FileAccess::Write)?, bad)
+        let access = FileAccess::Write;
+        HostBlocks::of(opened(rt, name, access)?, access, bad)
     }
 
     /// The same with the lock on it, which is shared where the file is only read. It is that of an open file, so it is given up where the
@@ -65,18 +68,29 @@ impl HostBlocks {
         if locked.is_err() {
             return Err(OpenFault::Locked);
         }
-        HostBlocks::of(file, bad).ok_or(OpenFault::File)
+        HostBlocks::of(file, access, bad).ok_or(OpenFault::File)
     }
 
-    fn of(file: File, bad: Option<u64>) -> Option<HostBlocks> {
+    /// None where it isn't a regular file: a directory, too, can be opened to be read.
+    fn of(file: File, access: FileAccess, bad: Option<u64>) -> Option<HostBlocks> {
         let metadata = file.metadata().ok()?;
+        if !metadata.is_file() {
+            return None;
+        }
         Some(HostBlocks {
             file,
             size: metadata.len(),
+            access,
+            device: metadata.dev(),
             inode: metadata.ino(),
             bad,
             has_failed: false,
         })
+    }
+
+    /// The number of its file system.
+    pub fn device(&self) -> u64 {
+        self.device
     }
 
     /// The number of the file in its file system.
@@ -132,7 +146,9 @@ impl Blocks for HostBlocks {
     }
 
     fn sync(&mut self) -> Result<(), StreamFault> {
-        if self.has_failed || self.file.sync_data().is_err() {
+        // in a file that is only read nothing was written, and some file systems refuse to sync it
+        let is_written = self.access == FileAccess::Write;
+        if self.has_failed || is_written && self.file.sync_data().is_err() {
             self.has_failed = true;
             return Err(StreamFault::File);
         }

@@ -17,6 +17,9 @@ use usb_tags::UsbTags;
 /// Serial numbers are below this number.
 const SERIAL_NUMBERS: u64 = 100_000_000;
 
+/// The numbers of file systems, which are near to each other, are put so far apart.
+const FILE_SYSTEM_STEP: u64 = 1_000_003;
+
 /// So many bytes of the guest's packets are read ahead: the heads and fields of some forty. Longer data are read into their place.
 const AHEAD_BYTES: usize = 4096;
 
@@ -24,6 +27,7 @@ const AHEAD_BYTES: usize = 4096;
 #[derive(Clone, Copy, Debug, PartialEq, Eq)]
 enum ImageFault {
     File,
+    /// Another program has it, or another image of this one has its serial number, as the same file would.
     Locked,
     NotWhole,
     TooLarge,
@@ -61,7 +65,7 @@ pub fn serve_usb<O: Output>(rt: &HostRuntime, asked: &UsbAsked, output: &mut O) 
         return RunFault::NoMemory.tell(&mut rt.stderr());
     };
     for (number, name) in asked.files.iter().enumerate() {
-        match opened(rt, asked, number, name) {
+        match opened(rt, asked, number, name, &images.shapes) {
             Ok(Image { file, shape }) => {
                 let block_length = asked.block_length;
                 let _ = images.files.push(UnitFile { file, block_length });
@@ -140,12 +144,13 @@ fn tell<W: Write>(number: usize, fault: ImageFault, faults: &mut W) {
     };
 }
 
-/// The image of a number, with its lock.
+/// The image of a number, with its lock; none that a host would take for one of the others.
 fn opened(
     rt: &HostRuntime,
     asked: &UsbAsked,
     number: usize,
     name: &str,
+    others: &[LogicalUnitShape],
 ) -> Result<Image, ImageFault> {
     let access = if asked.read_only {
         FileAccess::Read
@@ -158,6 +163,9 @@ fn opened(
         Err(OpenFault::Locked) => return Err(ImageFault::Locked),
     };
     let shape = shape_of(asked, number, &file)?;
+    if others.iter().any(|other| other.serial() == shape.serial()) {
+        return Err(ImageFault::Locked);
+    }
     Ok(Image { file, shape })
 }
 
@@ -168,6 +176,12 @@ fn bad_sector(asked: &UsbAsked) -> Option<u64> {
         BlockLength::Bytes4096 => 8,
     };
     asked.bad.map(|bad| bad.wrapping_mul(sectors))
+}
+
+/// A number of a file that stays: inodes have one number in each of two file systems.
+fn serial_of(file: &HostBlocks) -> u64 {
+    let system = file.device() % SERIAL_NUMBERS;
+    system * FILE_SYSTEM_STEP + file.inode() % SERIAL_NUMBERS
 }
 
 /// The logical unit that an image is.
@@ -183,7 +197,7 @@ fn shape_of(
     }
     let serial = match asked.serial {
         Some(first) => u64::from(first).wrapping_add(number as u64),
-        None => file.inode(),
+        None => serial_of(file),
     };
     let Ok(serial) = SerialNumber::new((serial % SERIAL_NUMBERS) as u32) else {
         unreachable!()

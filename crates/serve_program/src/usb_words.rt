@@ -24,7 +24,7 @@ pub struct UsbAsked<'a> {
     /// The images of the logical units, in order.
     pub files: ArrayVec<&'a str, MAX_UNITS>,
     pub read_only: bool,
-    /// The serial number of the first unit; the others count on from it. Else each has its file's inode number.
+    /// The serial number of the first unit; the others count on from it. Else each has one that its file's device and inode give.
     pub serial: Option<u32>,
     pub vendor: Vendor,
     pub product: Product,
@@ -51,7 +51,7 @@ pub fn usb_command<'a>(alloc: Global) -> Result<Command<'a>, AllocError> {
                 .help("Writes nothing, and says so to the guest"),
         )?
         .arg(number(alloc, "serial", "N", 99_999_999).help(
-            "The first unit's serial number, from which the others count on; else the files' inodes: 0 to 99999999",
+            "The first unit's serial number, from which the others count on; else one by each file's device and inode: 0 to 99999999",
         ))?
         .arg(name(
             alloc,

@@ -2,7 +2,7 @@
 use Rattle.std.specs.Prelude.{◌≡◌, ℕ, suc, ◌+◌, ◌*◌, ◌==◌, nat_lt, ◌⊎◌, Bool, true, false, ◌||◌, if◌then◌else◌, IsTrue, List, [], ◌∷◌, length, take, drop, Option, None, Some}
 use Rattle.std.specs.Prelude.{Result, Ok, Err, ⊤}
 use Rattle.std.specs.Prelude.{slice_get, slice_set}
-use Rattle.file_disk.specs.Written.{written_over}
+use Rattle.file_disk.specs.Written.{IsSameOutside, written_over}
 use Rattle.host_commands.specs.declared.BlockLength.{BlockLength}
 use Rattle.host_commands.specs.Shapes.{block_bytes}
 use Rattle.uas_tasks.specs.declared.Outcome.{Outcome}
@@ -95,28 +95,44 @@ abbrev pub ComparedAt : Option Span → (old new : Filed) → List ℕ → Outco
 ComparedAt None old new brought outcome = IsUndone old new outcome
 ComparedAt (Some span) old new brought outcome = IsCompared span old new brought outcome ⊎ HasFailed old new outcome
 
+-- A sync that failed makes nothing safe, and spoils the file.
+pub record IsUnsynced (old new : Filed) (outcome : Outcome) : Type 0 where
+  pub told : outcome ≡ MediumError
+  pub can : IsTrue old.can_fail
+  pub safe : IsTrue old.tells → new.synced ≡ old.synced
+  pub spoiled : new.spoiled ≡ true
+
 -- A Write changes just the bytes that it names. Where it goes through, what the file holds is safe, and no sync of it failed before.
 pub record IsWritten (through : Bool) (span : Span) (old new : Filed) (brought : List ℕ) (outcome : Outcome) : Type 0 where
   pub told : outcome ≡ Done
   pub holds : IsTrue old.tells → new.holds ≡ written_over old.holds span.start brought
   pub safe : through ≡ true → IsTrue old.tells → new.synced ≡ new.holds
   pub sound : through ≡ true → old.spoiled ≡ false
+  pub kept : through ≡ true → new.spoiled ≡ false
 
--- one that failed makes nothing safe
-pub record IsUnwritten (old new : Filed) (outcome : Outcome) : Type 0 where
-  pub told : outcome ≡ MediumError
-  pub can : IsTrue old.can_fail
-  pub safe : IsTrue old.tells → new.synced ≡ old.synced
-
--- one that doesn't go through makes nothing safe, and spoils nothing
+-- nothing is made safe, and nothing spoiled
 pub record IsPlain (old new : Filed) : Type 0 where
   pub safe : new.synced ≡ old.synced
   pub spoiled : new.spoiled ≡ old.spoiled
 
+-- The writing itself failed: what the file holds elsewhere is as before.
+pub record IsUnwritten (span : Span) (old new : Filed) (brought : List ℕ) (outcome : Outcome) : Type 0 where
+  pub told : outcome ≡ MediumError
+  pub can : IsTrue old.can_fail
+  pub outside : IsTrue old.tells → IsSameOutside span.start (length brought) old.holds new.holds
+  pub plain : IsPlain old new
+
+-- the sync of a Write that goes through failed
+pub record IsWriteUnsynced (through : Bool) (old new : Filed) (outcome : Outcome) : Type 0 where
+  pub asked : through ≡ true
+  pub failed : IsUnsynced old new outcome
+
+-- one that doesn't go through makes nothing safe, and spoils nothing
 abbrev pub WrittenAt : Bool → Option Span → (old new : Filed) → List ℕ → Outcome → Type 0
 WrittenAt through None old new brought outcome = IsUndone old new outcome
 WrittenAt through (Some span) old new brought outcome =
-    (through ≡ false → IsPlain old new) × (IsWritten through span old new brought outcome ⊎ IsUnwritten old new outcome)
+    (through ≡ false → IsPlain old new)
+    × (IsWritten through span old new brought outcome ⊎ (IsUnwritten span old new brought outcome ⊎ IsWriteUnsynced through old new outcome))
 
 -- A Sync makes safe what the file holds, and none of it failed before.
 pub record IsSynced (old new : Filed) (outcome : Outcome) : Type 0 where
@@ -125,13 +141,6 @@ pub record IsSynced (old new : Filed) (outcome : Outcome) : Type 0 where
   pub safe : IsTrue old.tells → new.synced ≡ new.holds
   pub sound : old.spoiled ≡ false
   pub kept : new.spoiled ≡ false
-
--- one that failed makes nothing safe, and spoils the file
-pub record IsUnsynced (old new : Filed) (outcome : Outcome) : Type 0 where
-  pub told : outcome ≡ MediumError
-  pub can : IsTrue old.can_fail
-  pub safe : IsTrue old.tells → new.synced ≡ old.synced
-  pub spoiled : new.spoiled ≡ true
 
 abbrev pub Synced : (old new : Filed) → Outcome → Type 0
 Synced old new outcome = IsSynced old new outcome ⊎ IsUnsynced old new outcome

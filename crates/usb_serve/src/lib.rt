@@ -6,7 +6,8 @@
 //!   guest --packet--> UsbTags::receive, and UsbTags::next until nothing is left:
 //!                       Asks: a request, done at once on the file of its logical unit, and answered
 //!                       Sends: an answer, gathered
-//!                     what was gathered --> guest, by one write, before the next packet is read
+//!                     what was gathered --> guest, by one write, before the next packet is read; by several where it is more than 131,072
+//!                     bytes
 //! ```
 //!
 //! [`run_usb`] lends a disk ([`UsbTags`](usb_tags::UsbTags)) whose blocks are in files ([`UnitFile`]) to a guest. A packet's data are taken

@@ -83,7 +83,8 @@ fn read_fields<S: Source>(input: &mut S, head: &Head) -> Result<GuestPacket, Usb
     }
 }
 
-/// How many bytes of a packet's data are taken: 1,024 of a command, those of a data-out that isn't refused, and none of any other.
+/// How many bytes of a packet's data are taken at most: 1,024 of a command, 524,288 of a data-out, and none of any other. Those of a
+/// data-out that is refused are taken, too, and then dropped.
 fn most_taken(packet: &GuestPacket) -> usize
     ensures result { result ≡ most_taken packet.now }
     ensures most { result ≤ MOST_TRANSFER_BYTES }

@@ -1,5 +1,5 @@
 """The other side of the usbredir protocol, for tests/usb/run: the program `usb` as a process, and a peer that sends it anything."""
-import socket, struct, subprocess, tempfile
+import os, socket, struct, subprocess, tempfile
 
 HELLO, CONNECT, RESET, INTERFACE, ENDPOINTS, SET_CONFIGURATION, GET_CONFIGURATION, CONFIGURATION = 0, 1, 3, 4, 5, 6, 7, 8
 SET_SETTING, GET_SETTING, SETTING, ALLOC_STREAMS, FREE_STREAMS, STREAMS, CANCEL, REJECT, FILTER, CONTROL, BULK = 9, 10, 11, 18, 19, 20, 21, 22, 23, 100, 101
@@ -18,11 +18,12 @@ class Gone(Exception):
 class Disk:
     """A disk and its peer."""
 
-    def __init__(self, program, room, *words, images=("disk.img",), greets=True):
+    def __init__(self, program, room, *words, images=("disk.img",), greets=True, **names):
         self.socket, other = socket.socketpair()
         self.socket.settimeout(WAIT)
         self.told = tempfile.TemporaryFile()
-        self.process = subprocess.Popen([program, "usb", *words, *(str(room / one) for one in images)], stdin=other, stdout=other, stderr=self.told)
+        self.process = subprocess.Popen([program, "usb", *words, *(str(room / one) for one in images)], stdin=other, stdout=other, stderr=self.told,
+                                        env={**os.environ, **names})
         other.close()
         self.bytes, self.head, self.next_id, self.replies = b"", 12, 1, {}
         if greets:

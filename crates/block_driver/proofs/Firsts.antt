@@ -7,8 +7,8 @@ use Rattle.std.proofs.lemmas.List.Quantifiers.{position-Some}
 use Rattle.std.proofs.lemmas.Option.{same_Some}
 use Rattle.block_driver.specs.declared.table.Entry.{Entry}
 use Rattle.block_driver.specs.declared.table.Entry.TheVariants as entry
-use Rattle.block_driver.specs.declared.table.Kind.{Kind}
-use Rattle.block_driver.specs.declared.table.Kind.TheVariants as kind
+use Rattle.block_driver.specs.declared.kinds.Kind.{Kind}
+use Rattle.block_driver.specs.declared.kinds.Kind.TheVariants as kind
 use Rattle.block_driver.specs.Table.{entry_at, entry_under, first_of, is_kind, mark_of, place_in}
 
 suc_parts : (found : Option ℕ) (tag : ℕ) → option_map suc found ≡ Some tag → (place : ℕ) × (found ≡ Some place) × (suc place ≡ tag)

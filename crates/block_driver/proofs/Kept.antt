@@ -1,12 +1,14 @@
 -- Replies stand in each change of a tag but their taking.
-use Rattle.std.proofs.Common.{◌≡◌, ℕ, zero, suc, List, [], ◌∷◌, Some, ap}
+use Rattle.std.proofs.Common.{◌≡◌, ℕ, zero, suc, List, [], ◌∷◌, Some, ap, refl}
 use Rattle.std.specs.Prelude.{slice_get, slice_index_or, slice_set}
 use Rattle.std.proofs.lemmas.Option.{same_Some}
+use Rattle.block_driver.specs.declared.kinds.StreamPipe.{StreamPipe}
+use Rattle.block_driver.specs.declared.kinds.StreamPipe.TheVariants as pipe
 use Rattle.block_driver.specs.declared.table.Came.{Came}
 use Rattle.block_driver.specs.declared.table.Entry.{Entry}
 use Rattle.block_driver.specs.declared.table.Entry.TheVariants.{Replied}
 use Rattle.block_driver.specs.declared.table.Loss.{Loss}
-use Rattle.block_driver.specs.Table.{RepliesStand, all_lost, entry_lost}
+use Rattle.block_driver.specs.Table.{RepliesStand, all_lost, entry_lost, entry_off}
 
 pub kept_same : (tags : List Entry) → RepliesStand tags tags
 kept_same tags = record { stand = λ place came at. at }
@@ -34,3 +36,9 @@ lost_stands (first ∷ tags) loss (suc q) came at = lost_stands tags loss q came
 
 pub kept_lost : (tags : List Entry) (loss : Loss) → RepliesStand tags (all_lost tags loss)
 kept_lost tags loss = record { stand = lost_stands tags loss }
+
+-- a reply stands where a TD is taken off
+pub off_replied : (on : StreamPipe) (came : Came) → entry_off on (Replied came) ≡ Replied came
+off_replied pipe.DataIn came = refl
+off_replied pipe.DataOut came = refl
+off_replied pipe.Status came = refl

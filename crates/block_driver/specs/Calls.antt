@@ -6,6 +6,9 @@ use Rattle.bring_up.specs.declared.bring_up.Stage.{Stage}
 use Rattle.bring_up.specs.declared.bring_up.Stage.TheVariants as stage
 use Rattle.bring_up.specs.declared.bring_up.BringUp.{BringUp}
 use Rattle.bring_up.specs.declared.options.Options.{Options}
+use Rattle.bring_up.specs.declared.step.Step.TheVariants as step
+use Rattle.bring_up.specs.declared.taken.Taken.{Taken}
+use Rattle.bring_up.specs.declared.takeover.Halt.TheVariants as halt
 use Rattle.bring_up.specs.declared.state.State as bring_up
 use Rattle.bring_up.specs.declared.state.State.TheVariants as below
 use Rattle.bring_up.specs.Accesses.{is_read, is_written, kept}
@@ -17,17 +20,22 @@ use Rattle.disk_ready.specs.declared.shapes.ReadyDisk.{ReadyDisk}
 use Rattle.disk_ready.specs.Calls.{answered as ready_answered, asked_access as ready_asked, begun_ready, interrupted as ready_interrupted, is_asked as is_ready_asked, next_access as ready_next, next_layout as ready_layout, next_state as ready_state, ready_disk}
 use Rattle.host_layout.specs.declared.layout.Layout.{Layout}
 use Rattle.block_driver.specs.declared.BlockDriver.{BlockDriver}
+use Rattle.block_driver.specs.declared.closing.Closing.{Closing}
+use Rattle.block_driver.specs.declared.closing.Closing.TheVariants as closing
+use Rattle.block_driver.specs.declared.closing.ShutStep.{ShutStep}
+use Rattle.block_driver.specs.declared.closing.ShutStep.TheVariants.{Stay, Halt, Leave}
 use Rattle.block_driver.specs.declared.replies.State.{State}
 use Rattle.block_driver.specs.declared.replies.State.TheVariants as state
 use Rattle.block_driver.specs.declared.steps.Blocks.{Blocks}
 use Rattle.block_driver.specs.declared.table.Entry.TheVariants as entry
-use Rattle.block_driver.specs.declared.table.Kind.TheVariants.{Replied}
+use Rattle.block_driver.specs.declared.kinds.Kind.TheVariants.{Replied}
 use Rattle.block_driver.specs.declared.table.Loss.TheVariants.{Gone, Restarted}
 use Rattle.block_driver.specs.declared.replies.Reply.{Reply}
 use Rattle.block_driver.specs.declared.table.Came.{Came}
+use Rattle.block_driver.specs.Closings.{is_kept, shutting}
 use Rattle.block_driver.specs.Steps.{World, begun_blocks, found_access}
 use Rattle.block_driver.specs.Table.{changed, entry_at, entry_taken, first_of, came_in}
-use Rattle.block_driver.specs.Turns.{commands_closed, failed, found_advanced, given_back, is_back, opened}
+use Rattle.block_driver.specs.Turns.{commands_closed, doomed, failed, found_advanced, given_back, is_back, opened}
 
 abbrev pub begun_with : Option DiskReady → Options → Option BlockDriver
 begun_with None options = None
@@ -96,13 +104,37 @@ is_open d = is_some d.blocks.disk
 abbrev pub blocks_back : BlockDriver → Blocks
 blocks_back d = if is_back d.ready.device.driver.stage then given_back d.blocks else d.blocks
 
+abbrev pub taken_back : BlockDriver → BlockDriver
+taken_back d = record d { blocks = blocks_back d }
+
+-- shutting down goes on once the disk isn't used any more: behind its slot the controller is halted and reset, and behind that it isn't the driver's
+-- any more, nor is the memory
+abbrev pub shut_by : ShutStep → BlockDriver → Taken → BlockDriver
+shut_by Stay d t = d
+shut_by Halt d t =
+    record (with_stage d (stage.Taken (record t { step = step.Halt halt.Command }))) { blocks = record d.blocks { closing = closing.Halting } }
+shut_by Leave d t = record (with_stage d stage.Gone) { blocks = record d.blocks { closing = closing.Stopped } }
+
+abbrev pub shut_in : Stage → BlockDriver → BlockDriver
+shut_in (stage.Surveying s) d = d
+shut_in (stage.Wanting c) d = d
+shut_in (stage.Taken t) d = shut_by (shutting d.blocks.closing t.step) d t
+shut_in (stage.Refused why) d = d
+shut_in stage.Gone d = d
+
+abbrev pub shut_on : BlockDriver → BlockDriver
+shut_on d = shut_in d.ready.device.driver.stage d
+
 -- a disk that got ready is used from now on, under the next number
 abbrev pub met_by : Option ReadyDisk → BlockDriver → BlockDriver
-met_by None d = record d { blocks = blocks_back d }
-met_by (Some disk) d = record d { blocks = opened (blocks_back d) disk d.ready.ready.spots; is_asked = false }
+met_by None d = d
+met_by (Some disk) d = record d { blocks = opened d.blocks disk d.ready.ready.spots; is_asked = false }
+
+abbrev pub met_behind : BlockDriver → BlockDriver
+met_behind d = met_by (ready_disk d.ready) d
 
 abbrev pub met : BlockDriver → BlockDriver
-met d = met_by (ready_disk d.ready) d
+met d = met_behind (shut_on (taken_back d))
 
 -- the disk with time passed
 abbrev pub ready_passed : BlockDriver → ℕ → BlockDriver
@@ -161,12 +193,17 @@ taken_under (Some tag) d = record d { blocks = record d.blocks { tags = changed 
 abbrev pub reply_taken : BlockDriver → BlockDriver
 reply_taken d = taken_under (first_of Replied d.blocks.tags) d
 
+-- AN ABORT
+
+abbrev pub aborted_driver : BlockDriver → ℕ → BlockDriver
+aborted_driver d tag = record d { blocks = doomed d.blocks tag }
+
 -- THE DEVICE IS TRIED AGAIN, while a disk is used; memory is lent
 
 abbrev pub restart_in : Stage → BlockDriver → BlockDriver
 restart_in (stage.Surveying s) d = d
 restart_in (stage.Wanting c) d = d
-restart_in (stage.Taken t) d = if is_open d then with_world d (failed (record { blocks = d.blocks; taken = t }) Restarted) else d
+restart_in (stage.Taken t) d = if is_open d && is_kept d.blocks.closing then with_world d (failed (record { blocks = d.blocks; taken = t }) Restarted) else d
 restart_in (stage.Refused why) d = d
 restart_in stage.Gone d = d
 
@@ -175,6 +212,11 @@ restarted_driver d = restart_in d.ready.device.driver.stage d
 
 abbrev pub with_driver : BlockDriver → BringUp → BlockDriver
 with_driver d driver = record d { ready = record d.ready { device = record d.ready.device { driver = driver } } }
+
+-- SHUTTING DOWN begins, while a disk is used
+
+abbrev pub shut_driver : BlockDriver → BlockDriver
+shut_driver d = record d { blocks = record d.blocks { closing = closing.Draining } }
 
 -- WHERE IT IS
 
@@ -188,11 +230,22 @@ state_below below.Addressed = state.Asking
 state_below below.Gone = state.Gone
 state_below below.Dead = state.Dead
 
-abbrev pub state_with : Option ReadyDisk → BlockDriver → ℕ → State
-state_with None d bytes =
-    if is_some d.blocks.loss && not (is_back d.ready.device.driver.stage) then state.Restarting
-    else state_below (stage_state d.ready.device.driver.stage bytes)
-state_with (Some disk) d bytes = state.Ready d.blocks.number disk
+abbrev pub state_with : Option ReadyDisk → BlockDriver → bring_up.State → State
+state_with None d below = if is_some d.blocks.loss && not (is_back d.ready.device.driver.stage) then state.Restarting else state_below below
+state_with (Some disk) d below = state.Ready d.blocks.number disk
+
+-- a controller that can't be halted or reset, or is gone, says so
+abbrev pub state_closing : bring_up.State → State
+state_closing (below.Refused why) = state.Refused why
+state_closing below.Gone = state.Gone
+state_closing below.Dead = state.Dead
+state_closing _ = state.ShuttingDown
+
+abbrev pub state_by : Closing → BlockDriver → ℕ → State
+state_by closing.Open d bytes = state_with d.blocks.disk d (stage_state d.ready.device.driver.stage bytes)
+state_by closing.Draining d bytes = state_closing (stage_state d.ready.device.driver.stage bytes)
+state_by closing.Halting d bytes = state_closing (stage_state d.ready.device.driver.stage bytes)
+state_by closing.Stopped d bytes = state.Stopped
 
 abbrev pub state_of : BlockDriver → ℕ → State
-state_of d bytes = state_with d.blocks.disk d bytes
+state_of d bytes = state_by d.blocks.closing d bytes

@@ -6,3 +6,5 @@ pub mod Turns
 pub mod Submits
 pub mod Calls
 pub mod Laws
+pub mod Tasks
+pub mod Closings

@@ -1,12 +1,14 @@
 -- Where the next TDs of each tag stand: the thirds of its rings.
-use Rattle.std.specs.Prelude.{ℕ, Bool, if◌then◌else◌, List, replicate, slice_set}
+use Rattle.std.specs.Prelude.{ℕ, List, replicate, slice_set}
 use Rattle.disk_ready.specs.declared.puts.PipeRing.{PipeRing}
 use Rattle.disk_ready.specs.declared.puts.Spots.{Spots}
 use Rattle.disk_ready.specs.declared.puts.Way.{Way}
 use Rattle.disk_ready.specs.declared.puts.Way.TheVariants.{Nothing, In, Out}
 use Rattle.host_layout.specs.declared.rings.Ring.{Ring}
-use Rattle.host_layout.specs.declared.rings.Ring.TheVariants.{DataIn, DataOut}
+use Rattle.host_layout.specs.declared.rings.Ring.TheVariants.{Status, DataIn, DataOut}
 use Rattle.disk_up.specs.Controls.{next_third}
+use Rattle.block_driver.specs.declared.kinds.StreamPipe.{StreamPipe}
+use Rattle.block_driver.specs.declared.kinds.StreamPipe.TheVariants as pipe
 use Rattle.block_driver.specs.declared.rings.Thirds.{Thirds}
 
 abbrev pub thirds_begun : Thirds
@@ -30,12 +32,16 @@ thirds_by Out thirds = record thirds { data_out = next_third thirds.data_out; st
 abbrev pub thirds_after : Thirds → Way → Thirds
 thirds_after thirds way = thirds_by way thirds
 
--- the third of a data pipe's ring, and the ring of a tag's data
-abbrev pub third_on : Thirds → Bool → ℕ
-third_on thirds is_in = if is_in then thirds.data_in else thirds.data_out
+-- the third of a pipe's ring, and the ring of a tag on it
+abbrev pub third_on : StreamPipe → Thirds → ℕ
+third_on pipe.DataIn thirds = thirds.data_in
+third_on pipe.DataOut thirds = thirds.data_out
+third_on pipe.Status thirds = thirds.status
 
-abbrev pub ring_on : ℕ → Bool → Ring
-ring_on tag is_in = if is_in then DataIn tag else DataOut tag
+abbrev pub ring_on : StreamPipe → ℕ → Ring
+ring_on pipe.DataIn tag = DataIn tag
+ring_on pipe.DataOut tag = DataOut tag
+ring_on pipe.Status tag = Status tag
 
 -- once a disk got ready: the TDs of its questions were on tag 1, whose rings go on behind them
 abbrev pub first_thirds : Spots → Thirds

@@ -1,5 +1,5 @@
 -- A disk with many commands out: what each step tells.
-use Rattle.std.specs.Prelude.{ℕ, ◌+◌, ◌*◌, ◌-◌, ◌^◌, ◌||◌, not, if◌then◌else◌, Bool, Option, None, Some, is_some, List, false, bit_and, bit_or, replicate, slice_index_or}
+use Rattle.std.specs.Prelude.{ℕ, ◌+◌, ◌*◌, ◌-◌, ◌^◌, ◌||◌, ◌&&◌, not, if◌then◌else◌, Bool, Option, None, Some, is_none, is_some, List, true, false, bit_and, bit_or, replicate, slice_index_or}
 use Rattle.bring_up.specs.declared.access.Access.{Access}
 use Rattle.bring_up.specs.declared.access.Access.TheVariants.{Rest}
 use Rattle.bring_up.specs.declared.commands.Putting.{Putting}
@@ -25,12 +25,18 @@ use Rattle.usb_descriptors.specs.Endpoints.{context_index}
 use Rattle.block_driver.specs.declared.freeing.Freeing.{Freeing}
 use Rattle.block_driver.specs.declared.freeing.Freeing.TheVariants.{Stop, Move}
 use Rattle.block_driver.specs.declared.freeing.Removal.{Removal}
+use Rattle.block_driver.specs.declared.closing.Closing.{Closing}
+use Rattle.block_driver.specs.declared.closing.Closing.TheVariants as closing
 use Rattle.block_driver.specs.declared.steps.Blocks.{Blocks}
 use Rattle.block_driver.specs.declared.steps.Work.{Work}
 use Rattle.block_driver.specs.declared.steps.Work.TheVariants as work
 use Rattle.block_driver.specs.declared.table.Entry.{Entry}
-use Rattle.block_driver.specs.declared.table.Kind.TheVariants.{Waiting}
+use Rattle.block_driver.specs.declared.kinds.Kind.TheVariants.{Out, Waiting}
+use Rattle.block_driver.specs.declared.kinds.StreamPipe.{StreamPipe}
+use Rattle.block_driver.specs.declared.kinds.StreamPipe.TheVariants as pipe
+use Rattle.block_driver.specs.declared.tasks.OwnTask.{OwnTask}
 use Rattle.block_driver.specs.Rings.{ring_on, third_on, thirds_begun}
+use Rattle.block_driver.specs.Tasks.{own_access}
 use Rattle.block_driver.specs.Table.{entry_access, entry_at, first_of, least_limit}
 
 -- the disk with its commands, and the controller
@@ -56,43 +62,55 @@ begun_blocks tags = record {
   number = 0;
   work = work.Idle;
   removal = None;
+  own = None;
   is_interrupted = false;
   loss = None;
+  closing = closing.Open;
 }
 
--- THE REST: until a command waits, an interrupt came, or the time of a command on the command ring, or else of any, is over; while data are taken
--- off, no command is put
-
-abbrev pub waiting_by : Option Removal → List Entry → Option ℕ
-waiting_by None tags = first_of Waiting tags
-waiting_by (Some removal) tags = None
+-- THE REST: until a command waits, an interrupt came, or the time of a command on the command ring, or of the driver's own task, or else of any, is
+-- over; while TDs are taken off, and while that task is out, no command is put
 
 abbrev pub waiting : Blocks → Option ℕ
-waiting b = waiting_by b.removal b.tags
+waiting b = if is_some b.removal || is_some b.own then None else first_of Waiting b.tags
 
-abbrev pub rest_until : Option Removal → List Entry → ℕ
-rest_until None tags = least_limit tags
-rest_until (Some removal) tags = removal.limit
+-- it is shutting down, and no command is out
+abbrev pub is_draining : Closing → Bool
+is_draining closing.Draining = true
+is_draining _ = false
+
+abbrev pub is_drained : Blocks → Bool
+is_drained b = is_draining b.closing && is_none (first_of Out b.tags)
+
+abbrev pub is_closable : Blocks → Bool
+is_closable b = is_none b.removal && is_none b.own && is_drained b
+
+abbrev pub rest_until : Option Removal → Option OwnTask → List Entry → ℕ
+rest_until None None tags = least_limit tags
+rest_until None (Some own) tags = own.limit
+rest_until (Some removal) own tags = removal.limit
 
 abbrev pub idle_until : Blocks → ℕ
-idle_until b = if b.is_interrupted || is_some (waiting b) then 0 else rest_until b.removal b.tags
+idle_until b = if b.is_interrupted || is_some (waiting b) || is_closable b then 0 else rest_until b.removal b.own b.tags
 
--- TAKING DATA OFF: 4.6.9, then 4.6.10 to the next third of the stream's ring
+-- TAKING TDS OFF: 4.6.9, then 4.6.10 to the next third of the stream's ring
 
-abbrev pub data_endpoint : Pipes → Bool → ℕ
-data_endpoint pipes is_in = if is_in then context_index pipes.data_in else context_index pipes.data_out
+abbrev pub endpoint_of : StreamPipe → Pipes → ℕ
+endpoint_of pipe.DataIn pipes = context_index pipes.data_in
+endpoint_of pipe.DataOut pipes = context_index pipes.data_out
+endpoint_of pipe.Status pipes = context_index pipes.status
 
-abbrev pub freeing_command : Freeing → World → Pipes → Bool → Command
-freeing_command (Stop since) w pipes is_in = StopEndpoint w.taken.device.slot (data_endpoint pipes is_in)
-freeing_command (Move tag) w pipes is_in =
-    SetDequeue (at_or_zero (place_in w.taken.layout (ring_on tag is_in) (third_on (slice_index_or w.blocks.thirds tag thirds_begun) is_in) 0)) tag w.taken.device.slot
-    (data_endpoint pipes is_in)
+abbrev pub freeing_command : Freeing → World → Pipes → StreamPipe → Command
+freeing_command (Stop since) w pipes on = StopEndpoint w.taken.device.slot (endpoint_of on pipes)
+freeing_command (Move tag) w pipes on =
+    SetDequeue (at_or_zero (place_in w.taken.layout (ring_on on tag) (third_on on (slice_index_or w.blocks.thirds tag thirds_begun)) 0)) tag
+    w.taken.device.slot (endpoint_of on pipes)
 
 abbrev pub freeing_access : World → Pipes → Removal → Putting → Access
 freeing_access w pipes removal at =
     command_put w.taken.commands w.taken.controller w.taken.layout at
-    (command_words (freeing_command removal.freeing w pipes removal.is_in) w.taken.commands.cycle)
-    (command_words (freeing_command removal.freeing w pipes removal.is_in) (not w.taken.commands.cycle))
+    (command_words (freeing_command removal.freeing w pipes removal.pipe) w.taken.commands.cycle)
+    (command_words (freeing_command removal.freeing w pipes removal.pipe) (not w.taken.commands.cycle))
 
 -- 5.4.8: the change bits of PORTSC, 23:17, are cleared by a 1, and nothing else is changed
 abbrev pub changes_cleared : ℕ → ℕ
@@ -108,9 +126,10 @@ work_access (work.Unit tag count service) w pipes = load_in (place_of w.taken.la
 work_access (work.Port service) w pipes = read_at (port_register w.taken.controller w.taken.device.port.number)
 work_access (work.Changes value service) w pipes = write_at (port_register w.taken.controller w.taken.device.port.number) (changes_cleared value)
 work_access (work.Free removal at) w pipes = freeing_access w pipes removal at
-work_access (work.Context is_in) w pipes = load_in (context_of w.taken.layout DeviceContext 32 (data_endpoint pipes is_in)) 32
-work_access (work.Ring is_in tag) w pipes =
-    write_at (doorbell w.taken.controller w.taken.device.slot) (data_endpoint pipes is_in + tag * 2 ^ 16)
+work_access (work.Context on) w pipes = load_in (context_of w.taken.layout DeviceContext 32 (endpoint_of on pipes)) 32
+work_access (work.Ring on tag) w pipes =
+    write_at (doorbell w.taken.controller w.taken.device.slot) (endpoint_of on pipes + tag * 2 ^ 16)
+work_access (work.Own at) w pipes = own_access w.blocks.own at w.taken.controller w.taken.layout (target_of w.taken pipes)
 
 abbrev pub blocks_access : World → Pipes → Access
 blocks_access w pipes = work_access w.blocks.work w pipes

@@ -1,8 +1,9 @@
 -- Which commands are taken, and what is put for one.
-use Rattle.std.specs.Prelude.{ℕ, ◌-◌, ◌^◌, ◌==◌, nat_le, nat_lt, not, if◌then◌else◌, Option, None, Some, List, [], ◌∷◌}
+use Rattle.std.specs.Prelude.{ℕ, ◌-◌, ◌^◌, ◌==◌, nat_le, nat_lt, not, if◌then◌else◌, false, Option, None, Some, List}
 use Rattle.block_requests.specs.declared.Submission.{Submission}
 use Rattle.block_requests.specs.declared.SubmitFault.{SubmitFault}
 use Rattle.block_requests.specs.Submissions.{submission_of, submit_fault}
+use Rattle.block_requests.specs.Tds.{pieces_of, wanted}
 use Rattle.bring_up.specs.declared.bring_up.Stage.{Stage}
 use Rattle.bring_up.specs.declared.bring_up.Stage.TheVariants as stage
 use Rattle.bring_up.specs.declared.controller.Controller.{Controller}
@@ -13,12 +14,8 @@ use Rattle.disk_ready.specs.declared.shapes.ReadyDisk.{ReadyDisk}
 use Rattle.disk_ready.specs.Puts.{has_data}
 use Rattle.disk_requests.specs.declared.Request.{Request}
 use Rattle.disk_requests.specs.Units.{command_text}
-use Rattle.host_layout.specs.declared.layout.Area.TheVariants.{OfTag}
-use Rattle.host_layout.specs.declared.layout.TagArea.TheVariants.{UnmapList}
-use Rattle.host_layout.specs.declared.segments.Piece.{Piece}
+use Rattle.host_layout.specs.declared.layout.Layout.{Layout}
 use Rattle.host_layout.specs.declared.segments.Segment.{Segment}
-use Rattle.host_layout.specs.Cutting.{total_of}
-use Rattle.host_layout.specs.Places.{place_of}
 use Rattle.block_driver.specs.declared.BlockDriver.{BlockDriver}
 use Rattle.block_driver.specs.declared.Fault.{Fault}
 use Rattle.block_driver.specs.declared.Fault.TheVariants as fault
@@ -27,15 +24,16 @@ use Rattle.block_driver.specs.declared.table.DataState.{DataState}
 use Rattle.block_driver.specs.declared.table.DataState.TheVariants as data_state
 use Rattle.block_driver.specs.declared.table.Entry.{Entry}
 use Rattle.block_driver.specs.declared.table.Entry.TheVariants as entry
-use Rattle.block_driver.specs.declared.table.Kind.TheVariants.{Free}
+use Rattle.block_driver.specs.declared.kinds.Kind.TheVariants.{Free}
 use Rattle.block_driver.specs.declared.table.Outstanding.{Outstanding}
+use Rattle.block_driver.specs.Closings.{is_kept}
 use Rattle.block_driver.specs.Table.{changed, first_of}
 
 -- the last address that a controller reaches, or the one behind it: addresses have so many bits
 abbrev pub reach_of : Options → Controller → ℕ
 reach_of options c = if nat_le 64 (reach_bits options c) then 2 ^ 64 - 1 else 2 ^ reach_bits options c
 
--- the disk, while it is used
+-- the disk, while it is used, and the driver isn't shutting down
 abbrev pub open_in : Stage → ReadyDisk → Options → Option Open
 open_in (stage.Surveying s) disk options = None
 open_in (stage.Wanting c) disk options = None
@@ -48,7 +46,7 @@ open_with None at options = None
 open_with (Some disk) at options = open_in at disk options
 
 abbrev pub open_disk : BlockDriver → Option Open
-open_disk d = open_with d.blocks.disk d.ready.device.driver.stage d.ready.device.driver.options
+open_disk d = if is_kept d.blocks.closing then open_with d.blocks.disk d.ready.device.driver.stage d.ready.device.driver.options else None
 
 -- THE REFUSALS: the first that holds
 
@@ -76,39 +74,28 @@ submit_refusal d disk request segments = refusal_with (open_disk d) d disk reque
 
 -- WHAT IS PUT
 
--- UNMAP's data are its list of 24 bytes, at its tag's place
-abbrev pub list_piece : ℕ → Piece
-list_piece at = record { at = at; length = 24; end = 24 }
-
-abbrev pub pieces_with : Option (List ℕ) → Option ℕ → List Piece → List Piece
-pieces_with None at pieces = pieces
-pieces_with (Some list) None pieces = pieces
-pieces_with (Some list) (Some at) pieces = list_piece at ∷ []
-
-abbrev pub total_in : List Piece → ℕ
-total_in pieces = total_of pieces
-
 abbrev pub data_begun : Way → DataState
 data_begun way = if has_data way then data_state.Pending else data_state.Nothing
 
-abbrev pub command_of : ℕ → Submission → Option ℕ → ℕ → ℕ → Outstanding
-command_of tag made at mark limit = record {
+abbrev pub command_of : Layout → ℕ → Submission → ℕ → ℕ → Outstanding
+command_of layout tag made mark limit = record {
   mark = mark;
   sent = record { tag = tag; way = made.way; unit = command_text tag 0 made.cdb; list = made.list };
-  pieces = record { items = pieces_with made.list at made.pieces.items };
-  wanted = total_in (pieces_with made.list at made.pieces.items);
+  pieces = record { items = pieces_of layout tag made };
+  wanted = wanted made;
   limit = limit;
   spots = None;
   data_state = data_begun made.way;
   status = None;
+  is_aborted = false;
+  stopped = 0;
 }
 
 abbrev pub submitted_with : Option Open → BlockDriver → Request → List Segment → ℕ → ℕ → ℕ → BlockDriver
 submitted_with None d request segments mark limit tag = d
 submitted_with (Some it) d request segments mark limit tag = record d {
   blocks = record d.blocks {
-    tags = changed (λ before. entry.Outstanding (command_of tag (submission_of request it.disk.shape segments) (place_of it.layout (OfTag tag UnmapList)) mark limit))
-        d.blocks.tags tag;
+    tags = changed (λ before. entry.Outstanding (command_of it.layout tag (submission_of request it.disk.shape segments) mark limit)) d.blocks.tags tag;
   };
 }
 

@@ -1,6 +1,6 @@
 -- What a tag has, and what becomes of it: Free, Outstanding from the submission on, Replied until the reply is taken.
 use Rattle.std.specs.Prelude.{◌≡◌, slice_get, ℕ, ◌+◌, ◌-◌, ◌^◌, drop, fold, length, ◌==◌, ◌||◌, ◌&&◌, suc, min, nat_le, nat_lt, not, if◌then◌else◌, Bool, true, false, Option, None, Some, is_none, is_some, option_map, List, map, slice_index_or, slice_set}
-use Rattle.std.specs.List.{list_any, position}
+use Rattle.std.specs.List.{position}
 use Rattle.block_requests.specs.declared.outcomes.Outcome.{Outcome}
 use Rattle.block_requests.specs.declared.outcomes.Outcome.TheVariants as outcome
 use Rattle.bring_up.specs.declared.access.Access.{Access}
@@ -18,8 +18,10 @@ use Rattle.block_driver.specs.declared.table.DataState.TheVariants as data_state
 use Rattle.block_driver.specs.declared.table.Ending.TheVariants as ending
 use Rattle.block_driver.specs.declared.table.Entry.{Entry}
 use Rattle.block_driver.specs.declared.table.Entry.TheVariants as entry
-use Rattle.block_driver.specs.declared.table.Kind.{Kind}
-use Rattle.block_driver.specs.declared.table.Kind.TheVariants as kind
+use Rattle.block_driver.specs.declared.kinds.Kind.{Kind}
+use Rattle.block_driver.specs.declared.kinds.Kind.TheVariants as kind
+use Rattle.block_driver.specs.declared.kinds.StreamPipe.{StreamPipe}
+use Rattle.block_driver.specs.declared.kinds.StreamPipe.TheVariants as pipe
 use Rattle.block_driver.specs.declared.table.Loss.{Loss}
 use Rattle.block_driver.specs.declared.table.Outstanding.{Outstanding}
 use Rattle.block_driver.specs.declared.table.Came.{Came}
@@ -43,26 +45,45 @@ is_way way.Nothing is_in = false
 is_way way.In is_in = is_in
 is_way way.Out is_in = not is_in
 
--- its status came, and its data don't at this time
-abbrev pub stuck_with : Option Told → Outstanding → ℕ → Bool
-stuck_with None command now = false
-stuck_with (Some told) command now = is_pending command.data_state && nat_le told.until now
+-- when its time is over; that of its data is where its status came without them
+abbrev pub limit_with : Option Told → ℕ → ℕ
+limit_with None limit = limit
+limit_with (Some told) limit = min limit told.until
 
-abbrev pub is_stuck : Outstanding → ℕ → Bool
-is_stuck command now = stuck_with command.status command now
+abbrev pub command_limit : Outstanding → ℕ
+command_limit command = limit_with command.status command.limit
 
--- its data are under way
-abbrev pub is_moving : Outstanding → Bool → Bool
-is_moving command is_in = is_some command.spots && is_pending command.data_state && is_way command.sent.way is_in
+-- its data's TD is to be taken off at this time: the time of its data is over
+abbrev pub is_data_stuck : Outstanding → ℕ → Bool
+is_data_stuck command now = is_some command.spots && is_pending command.data_state && nat_le (command_limit command) now
+
+-- its status's TD is: the disk aborted it, and no status came
+abbrev pub is_status_stuck : Outstanding → Bool
+is_status_stuck command = command.is_aborted && is_none command.status
+
+abbrev pub is_stuck : StreamPipe → Outstanding → ℕ → Bool
+is_stuck pipe.DataIn command now = is_data_stuck command now && is_way command.sent.way true
+is_stuck pipe.DataOut command now = is_data_stuck command now && is_way command.sent.way false
+is_stuck pipe.Status command now = is_status_stuck command
+
+-- its TD on a pipe is pending
+abbrev pub has_moving_data : Outstanding → Bool → Bool
+has_moving_data command is_in = is_some command.spots && is_pending command.data_state && is_way command.sent.way is_in
+
+abbrev pub is_moving : StreamPipe → Outstanding → Bool
+is_moving pipe.DataIn command = has_moving_data command true
+is_moving pipe.DataOut command = has_moving_data command false
+is_moving pipe.Status command = is_some command.spots && is_none command.status
 
 -- a command waits until its TDs have places
 abbrev pub is_command : Kind → Outstanding → Bool
 is_command kind.Free command = false
 is_command kind.Waiting command = is_none command.spots
 is_command kind.Replied command = false
-is_command (kind.Stuck now) command = is_stuck command now
-is_command (kind.StuckOn is_in now) command = is_stuck command now && is_way command.sent.way is_in
-is_command (kind.Moving is_in) command = is_moving command is_in
+is_command (kind.Stuck on now) command = is_stuck on command now
+is_command (kind.Moving on) command = is_moving on command
+is_command (kind.Late now) command = nat_le command.limit now
+is_command kind.Out command = true
 
 abbrev pub is_free_kind : Kind → Bool
 is_free_kind kind.Free = true
@@ -119,23 +140,22 @@ entry_put spots entry.Free = entry.Free
 entry_put spots (entry.Outstanding command) = entry.Outstanding (record command { spots = Some spots })
 entry_put spots (entry.Replied came) = entry.Replied came
 
--- when its time is over; that of its data is where its status came without them
-abbrev pub limit_with : Option Told → ℕ → ℕ
-limit_with None limit = limit
-limit_with (Some told) limit = min limit told.until
-
-abbrev pub command_limit : Outstanding → ℕ
-command_limit command = limit_with command.status command.limit
-
+-- when its time is over
 abbrev pub entry_limit : Entry → ℕ
 entry_limit entry.Free = 2 ^ 64 - 1
 entry_limit (entry.Outstanding command) = command_limit command
 entry_limit (entry.Replied came) = 2 ^ 64 - 1
 
-abbrev pub is_late : ℕ → Entry → Bool
-is_late now entry.Free = false
-is_late now (entry.Outstanding command) = nat_le command.limit now
-is_late now (entry.Replied came) = false
+-- whether it is out, and whether its TDs have places
+abbrev pub is_outstanding : Entry → Bool
+is_outstanding entry.Free = false
+is_outstanding (entry.Outstanding command) = true
+is_outstanding (entry.Replied came) = false
+
+abbrev pub is_put : Entry → Bool
+is_put entry.Free = false
+is_put (entry.Outstanding command) = is_some command.spots
+is_put (entry.Replied came) = false
 
 -- ITS END: a reply waits for the data and the status
 
@@ -183,10 +203,61 @@ entry_moved count entry.Free = entry.Free
 entry_moved count (entry.Outstanding command) = settled_command (record command { data_state = data_moved_in command.data_state count })
 entry_moved count (entry.Replied came) = entry.Replied came
 
+-- they were stopped, and so many bytes were moved so far
+abbrev pub entry_stopped : ℕ → Entry → Entry
+entry_stopped count entry.Free = entry.Free
+entry_stopped count (entry.Outstanding command) = entry.Outstanding (record command { stopped = count })
+entry_stopped count (entry.Replied came) = entry.Replied came
+
+-- they were taken off: what was moved before they were stopped counts
+abbrev pub entry_freed : Entry → Entry
+entry_freed entry.Free = entry.Free
+entry_freed (entry.Outstanding command) = settled_command (record command { data_state = data_moved_in command.data_state command.stopped })
+entry_freed (entry.Replied came) = entry.Replied came
+
 abbrev pub entry_told : Told → Entry → Entry
 entry_told told entry.Free = entry.Free
 entry_told told (entry.Outstanding command) = settled_command (record command { status = Some told })
 entry_told told (entry.Replied came) = entry.Replied came
+
+-- AN ABORT: a command that isn't put yet ends at once; the time of another is over
+
+abbrev pub aborted_came : Outstanding → ℕ → Came
+aborted_came command moved = record { mark = command.mark; moved = moved; ending = ending.Aborted }
+
+abbrev pub doomed_by : Option Spots → Outstanding → Entry
+doomed_by None command = entry.Replied (aborted_came command 0)
+doomed_by (Some spots) command = entry.Outstanding (record command { limit = 0 })
+
+abbrev pub entry_doomed : Entry → Entry
+entry_doomed entry.Free = entry.Free
+entry_doomed (entry.Outstanding command) = doomed_by command.spots command
+entry_doomed (entry.Replied came) = entry.Replied came
+
+-- the disk aborted it, if it is put; another that has its tag by now isn't
+abbrev pub entry_aborted : Entry → Entry
+entry_aborted entry.Free = entry.Free
+entry_aborted (entry.Outstanding command) = entry.Outstanding (record command { is_aborted = is_some command.spots })
+entry_aborted (entry.Replied came) = entry.Replied came
+
+-- the status's TD of one that the disk aborted was taken off: its reply waits for its data too
+abbrev pub unanswered_by : Option ℕ → Bool → Outstanding → Entry
+unanswered_by None is command = entry.Outstanding command
+unanswered_by (Some moved) is command = if is then entry.Replied (aborted_came command moved) else entry.Outstanding command
+
+abbrev pub unanswered : Outstanding → Entry
+unanswered command = unanswered_by (moved_count command.data_state) (is_status_stuck command) command
+
+abbrev pub entry_unanswered : Entry → Entry
+entry_unanswered entry.Free = entry.Free
+entry_unanswered (entry.Outstanding command) = unanswered command
+entry_unanswered (entry.Replied came) = entry.Replied came
+
+-- its TD on a pipe was taken off
+abbrev pub entry_off : StreamPipe → Entry → Entry
+entry_off pipe.DataIn one = entry_freed one
+entry_off pipe.DataOut one = entry_freed one
+entry_off pipe.Status one = entry_unanswered one
 
 -- what an outstanding command came to isn't known any more
 abbrev pub lost_came : Outstanding → Loss → Came
@@ -248,9 +319,6 @@ next_of which tags tag = option_map (λ place. tag + place + 1) (position (is_ki
 -- the time at which the first of all is over
 abbrev pub least_limit : List Entry → ℕ
 least_limit tags = fold (λ least one. min least (entry_limit one)) (2 ^ 64 - 1) tags
-
-abbrev pub has_late : List Entry → ℕ → Bool
-has_late tags now = list_any (is_late now) tags
 
 abbrev pub all_lost : List Entry → Loss → List Entry
 all_lost tags loss = map (entry_lost loss) tags

@@ -5,7 +5,7 @@ ghost use Rattle.std.specs.Prelude.{◌≡◌, ◌↔◌, true, false, None, Som
 ghost use Rattle.bring_up.specs.Accesses.{IsInside};
 ghost use Rattle.bring_up.specs.Calls.{fits, layout_of};
 ghost use Rattle.disk_ready.specs.Calls.{begun_ready};
-ghost use Rattle.block_driver.specs.Calls.{answered, asked_access, begun_driver, driver_access, driver_advanced, driver_told, driver_woken, interrupted, is_asked, met, next_access, next_layout, next_state, own_access, own_answered};
+ghost use Rattle.block_driver.specs.Calls.{answered, asked_access, begun_driver, driver_access, driver_advanced, driver_told, driver_woken, interrupted, is_asked, met, met_behind, next_access, next_layout, next_state, own_access, own_answered, taken_back};
 ghost use Rattle.block_driver.specs.Table.{RepliesStand, marks};
 ghost use Rattle.block_driver.specs.Turns.{is_back, is_slot_asked, is_step_back};
 
@@ -56,9 +56,20 @@ impl BlockDriver {
         }
     }
 
-    /// TDs that were given back end their commands; a disk that got ready is used.
+    /// TDs that were given back end their commands; shutting down goes on; a disk that got ready is used.
     fn meet(&mut self)
         ensures is { self.new ≡ met self.old }
+        ensures options { self.new.ready.device.driver.options ≡ self.old.ready.device.driver.options }
+        ensures once { marks self.new.blocks.tags ≡ marks self.old.blocks.tags }
+        ensures replies { RepliesStand self.old.blocks.tags self.new.blocks.tags }
+    {
+        self.take_back();
+        self.shut_on();
+        self.open_ready();
+    }
+
+    fn take_back(&mut self)
+        ensures is { self.new ≡ taken_back self.old }
         ensures options { self.new.ready.device.driver.options ≡ self.old.ready.device.driver.options }
         ensures once { marks self.new.blocks.tags ≡ marks self.old.blocks.tags }
         ensures replies { RepliesStand self.old.blocks.tags self.new.blocks.tags }
@@ -66,6 +77,14 @@ impl BlockDriver {
         if is_back(&self.ready.device.driver.stage) {
             self.blocks.give_back();
         }
+    }
+
+    fn open_ready(&mut self)
+        ensures is { self.new ≡ met_behind self.old }
+        ensures options { self.new.ready.device.driver.options ≡ self.old.ready.device.driver.options }
+        ensures once { marks self.new.blocks.tags ≡ marks self.old.blocks.tags }
+        ensures replies { RepliesStand self.old.blocks.tags self.new.blocks.tags }
+    {
         if let Some(disk) = self.ready.disk() {
             self.blocks.open(disk, self.ready.ready.spots);
             self.is_asked = false;
@@ -217,7 +236,7 @@ pub(crate) fn is_back(stage: &Stage) -> bool
     }
 }
 
-fn is_step_back(step: Step) -> bool
+pub(crate) fn is_step_back(step: Step) -> bool
     ensures { result ≡ is_step_back step }
 {
     match step {

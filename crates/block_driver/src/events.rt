@@ -1,12 +1,14 @@
 //! What an event says of the tags (xHCI 1.2, 6.4.2.1): it names a TRB by its address, and so a ring, a third and a place. Only the third of a
 //! TD that is pending counts: a late second event of a short TD names another one.
 ghost use Rattle.std.specs.Prelude.{◌≡◌};
-ghost use Rattle.block_driver.specs.Events.{command_data_said, command_status_said, data_said, event_said, failed_if, found_in, said_at, said_by, said_of, status_count, status_said, unit_outcome, unit_outcome_of};
+ghost use Rattle.block_driver.specs.Events.{command_data_said, command_status_said, data_said, event_said, failed_if, found_in, own_said, pending_said, said_at, said_by, said_of, status_count, status_said_on, status_said, unit_outcome, unit_outcome_of};
 ghost use Rattle.block_driver.specs.Table.{entry_at, wanted_at};
 
-use crate::table::{Entry, Outstanding, is_way};
+use crate::kinds::is_way;
+use crate::table::{Entry, Outstanding};
 use crate::tags::Tags;
-use block_requests::{DataEnd, Outcome, data_end, outcome_of};
+use crate::tasks::OwnTask;
+use block_requests::{DataEnd, Outcome, data_end, outcome_of, stopped_at};
 use disk_requests::{StatusUnit, read_status};
 use host_layout::{Layout, Ring, RingPlace};
 use host_trbs::{Completion, Event};
@@ -20,6 +22,8 @@ pub(crate) enum Said {
     Failed,
     /// The data of a tag ended, and so many bytes were moved.
     Moved { tag: u8, count: u32 },
+    /// The data of a tag were stopped, and so many bytes were moved so far.
+    Stopped { tag: u8, count: u32 },
     /// The status unit of a tag came, of so many bytes.
     Unit { tag: u8, count: u32 },
     /// A port changed.
@@ -91,13 +95,21 @@ impl Outstanding {
             && spots.data_third == at.segment
             && self.data_state.is_pending()
         {
-            let number = usize::from(at.place);
-            said_of(
-                tag,
-                data_end(self.pieces.as_slice(), number, residual, completion),
-            )
+            self.pending_said(tag, at, residual, completion)
         } else {
             Said::Nothing
+        }
+    }
+
+    /// A TD that was stopped goes on behind the next doorbell, or is taken off.
+    fn pending_said(&self, tag: u8, at: RingPlace, residual: u32, completion: Completion) -> Said
+        ensures { result ≡ pending_said self.now tag at residual completion }
+    {
+        let pieces = self.pieces.as_slice();
+        let number = usize::from(at.place);
+        match stopped_at(pieces, number, residual, completion) {
+            Some(count) => Said::Stopped { tag, count },
+            None => said_of(tag, data_end(pieces, number, residual, completion)),
         }
     }
 
@@ -148,10 +160,22 @@ impl Entry {
     }
 }
 
+impl OwnTask {
+    fn said(&self, at: RingPlace, residual: u32, completion: Completion) -> Said
+        ensures { result ≡ own_said self.now at residual completion }
+    {
+        if self.spots.status_third == at.segment && at.place == 0 {
+            status_count(self.tag, residual, completion)
+        } else {
+            Said::Nothing
+        }
+    }
+}
+
 impl Tags {
     /// What an event says.
-    pub(crate) fn event_said(&self, layout: &Layout, event: Event) -> Said
-        ensures { result ≡ event_said event self.now layout.now }
+    pub(crate) fn event_said(&self, own: &Option<OwnTask>, layout: &Layout, event: Event) -> Said
+        ensures { result ≡ event_said event self.now own.now layout.now }
     {
         match event {
             Event::Transfer {
@@ -162,7 +186,7 @@ impl Tags {
                 ..
             } if endpoint != CONTROL_ENDPOINT => {
                 let completion = Completion::of_transfer(code, residual);
-                self.said(found_in(layout, trb), trb, residual, completion)
+                self.said(own, found_in(layout, trb), trb, residual, completion)
             }
             Event::Port { port } => Said::Port(port),
             _ => Said::Nothing,
@@ -170,24 +194,53 @@ impl Tags {
     }
 
     /// A TD that failed may be named by no TRB.
-    fn said(&self, at: Option<RingPlace>, trb: u64, residual: u32, completion: Completion) -> Said
-        ensures { result ≡ said_by at self.now trb residual completion }
+    fn said(
+        &self,
+        own: &Option<OwnTask>,
+        at: Option<RingPlace>,
+        trb: u64,
+        residual: u32,
+        completion: Completion,
+    ) -> Said
+        ensures { result ≡ said_by at self.now own.now trb residual completion }
     {
         match at {
-            Some(at) => self.said_at(at, residual, completion),
+            Some(at) => self.said_at(own, at, residual, completion),
             None => failed_if(trb == 0 && completion.is_failure()),
         }
     }
 
-    fn said_at(&self, at: RingPlace, residual: u32, completion: Completion) -> Said
-        ensures { result ≡ said_at at.ring self.now at residual completion }
+    fn said_at(
+        &self,
+        own: &Option<OwnTask>,
+        at: RingPlace,
+        residual: u32,
+        completion: Completion,
+    ) -> Said
+        ensures { result ≡ said_at at.ring self.now own.now at residual completion }
     {
         match at.ring {
-            Ring::Status(tag) => self.status_said(tag, at, residual, completion),
+            Ring::Status(tag) => self.status_said_on(own, tag, at, residual, completion),
             Ring::DataIn(tag) => self.data_said(tag, true, at, residual, completion),
             Ring::DataOut(tag) => self.data_said(tag, false, at, residual, completion),
             Ring::CommandPipe => failed_if(completion.is_failure()),
             Ring::Command | Ring::Control => Said::Nothing,
+        }
+    }
+
+    fn status_said_on(
+        &self,
+        own: &Option<OwnTask>,
+        tag: u8,
+        at: RingPlace,
+        residual: u32,
+        completion: Completion,
+    ) -> Said
+        ensures { result ≡ status_said_on own.now self.now tag at residual completion }
+    {
+        match own {
+            Some(own) if own.tag == tag => own.said(at, residual, completion),
+            _ => self.status_said(tag, at, residual, completion),
         }
     }
 

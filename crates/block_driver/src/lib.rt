@@ -14,26 +14,32 @@
 //! | an interrupt | USBSTS, cleared; the interrupter; each event, its last word first; ERDP behind 64 and at the end |
 //! | an event at the third of a TD that is pending | its data ended, or its status unit is loaded |
 //! | a status that isn't GOOD, and no data; GOOD too, after 1,000 ms | data are taken off: Stop Endpoint; Set TR Dequeue Pointer; doorbells |
-//! | a TD fails, another tag's unit, a command's time is over, the port disabled | all are lost, and the device is tried again |
+//! | a command's time is over, or it is aborted | its data are taken off; ABORT TASK on the last tag; then its status is taken off too |
+//! | a TD fails, another tag's unit, no abort after 5,000 ms, the port disabled | all are lost, and the device is tried again |
 //! | the disk is gone from its port; the controller had an error | all are lost; another device is looked for; the controller is taken anew |
+//! | it shuts down, and no command is out | SYNCHRONIZE CACHE, up to 30,000 ms; Disable Slot; Run/Stop off; Host Controller Reset |
 //!
-//! [`BlockDriver::restart`] has the device tried again too. Commands are lost once their TDs aren't the controller's any more: behind Disable
+//! [`BlockDriver::abort`] ends one command: where its status comes first, that is its reply. One abort is out at a time, and no command is put
+//! meanwhile. [`BlockDriver::restart`] has the device tried again; [`BlockDriver::shut_down`] ends all. Commands are lost once their TDs aren't the controller's any more: behind Disable
 //! Slot, or the controller's reset.
 //!
 //! What is promised, for any answers, times and calls: what is told is the access of the table's row (`next_access`), and the next state is that of
 //! the row too (`next_state`, `answered`, in specs/Calls, Steps, Turns, Events). No access is outside the registers or the memory that was lent
 //! (`inside`). A command has no second reply: [`BlockDriver::submit`] gives a free tag to it, [`BlockDriver::take_reply`] frees the tag of a reply,
 //! and no other call changes which tags have commands, with which marks (`once`), or a reply (`replies`). A reply waits for the data and the
-//! status of its command, and one that is GOOD has all bytes ([`replies_are_whole`]). No call but [`BlockDriver::new`] takes memory. That commands
+//! status of its command, or until both were taken off where it was aborted, and one that is GOOD has all bytes ([`replies_are_whole`]). No call but [`BlockDriver::new`] takes memory. That commands
 //! end is tried, in front of the controller of `xhci_machine` (tests/crates/driver).
 //!
 //! It stands on `block_requests`, `disk_ready`, `disk_up`, `bring_up`, `disk_requests`, `usb_descriptors`, `host_layout`, `host_trbs`, `arrayvec`,
 //! `byteorder` and `thiserror`.
 #![tactic(auto)]
 
+mod aborts;
 mod calls;
+mod closing;
 mod events;
 mod freeing;
+mod kinds;
 mod laws;
 mod replies;
 mod rings;
@@ -41,11 +47,14 @@ mod steps;
 mod submits;
 mod table;
 mod tags;
+mod tasks;
 mod turns;
 
 use block_requests::SubmitFault;
+pub use closing::Closing;
 use disk_ready::DiskReady;
 pub use freeing::{Freeing, Removal};
+pub use kinds::StreamPipe;
 pub use laws::replies_are_whole;
 pub use replies::{Reply, State};
 pub use rings::Thirds;
@@ -53,6 +62,7 @@ pub use steps::{Blocks, Work};
 pub use submits::Open;
 pub use table::{Came, DataState, Ending, Entry, Loss, Outstanding, Told};
 pub use tags::Tags;
+pub use tasks::{OwnKind, OwnTask};
 use thiserror::Error;
 
 /// A controller, the disk behind it, and the commands that are out at it.
@@ -84,4 +94,11 @@ pub enum Fault {
     Request(SubmitFault),
     #[error("as many commands are out as can be")]
     NoTag,
+}
+
+/// Why a command isn't aborted.
+#[derive(Clone, Copy, Debug, PartialEq, Eq, Error)]
+pub enum AbortFault {
+    #[error("no command is out on the tag")]
+    NoSuchTag = 1,
 }

@@ -5,7 +5,7 @@ ghost use Rattle.std.specs.Prelude.{◌≡◌, ◌≢◌, ◌↔◌, ◌%◌, �
 ghost use Rattle.bring_up.specs.Lending.{IsShapeFor, WantsBytes, has_reach, is_wanting, lent};
 ghost use Rattle.bring_up.specs.States.{refusal_at};
 ghost use Rattle.host_layout.specs.Shapes.{bytes_of};
-ghost use Rattle.block_driver.specs.Calls.{reply_of, reply_taken, restarted_driver, state_below, state_of, with_driver};
+ghost use Rattle.block_driver.specs.Calls.{reply_of, reply_taken, restarted_driver, state_below, state_closing, state_of, state_with, with_driver};
 ghost use Rattle.block_driver.specs.Submits.{open_disk};
 ghost use Rattle.bring_up.specs.declared.bring_up.Stage.{Stage};
 ghost use Rattle.bring_up.specs.declared.controller.Controller.{Controller};
@@ -13,7 +13,9 @@ ghost use Rattle.host_layout.specs.declared.layout.Layout.{Layout};
 ghost use Rattle.block_driver.specs.Table.{RepliesStand, entry_at, mark_of, marks};
 
 use crate::calls::is_back;
-use crate::table::{Ending, Kind, Loss};
+use crate::closing::Closing;
+use crate::kinds::Kind;
+use crate::table::{Ending, Loss};
 use crate::{BlockDriver, Fault};
 use bring_up::{LendFault, Row, Stage, State as Below, Why};
 use disk_ready::ReadyDisk;
@@ -34,13 +36,17 @@ pub enum State {
     Ready { number: u64, disk: ReadyDisk },
     /// A disk isn't used any more, and its commands aren't lost yet.
     Restarting,
+    /// Commands end, and then the disk's slot and the controller are given back.
+    ShuttingDown,
+    /// The controller was reset: the memory is the caller's again.
+    Stopped,
     /// The controller is gone.
     Gone,
     /// It can't be used until it is reset from outside; the memory is the controller's until its bus mastering is off.
     Dead,
 }
 
-/// What the command on a tag came to: so many bytes of its data were moved, none of those that were taken off.
+/// What the command on a tag came to: so many bytes of its data were moved; of those that were taken off, as many as the controller told.
 #[derive(Debug, PartialEq, Eq, Drop)]
 pub struct Reply {
     pub tag: u16,
@@ -64,12 +70,34 @@ fn state_below(below: Below) -> State
     }
 }
 
+/// A controller that can't be halted or reset, or is gone, says so.
+fn state_closing(below: Below) -> State
+    ensures { result ≡ state_closing below }
+{
+    match below {
+        Below::Refused(why) => State::Refused(why),
+        Below::Gone => State::Gone,
+        Below::Dead => State::Dead,
+        _ => State::ShuttingDown,
+    }
+}
+
 impl BlockDriver {
     /// Where it is.
     pub fn state(&self) -> State
         ensures { (bytes : ℕ) × WantsBytes self.now.ready.device.driver.options self.now.ready.device.driver.stage bytes × (result ≡ state_of self.now bytes) }
     {
         let below = self.ready.device.driver.state();
+        match self.blocks.closing {
+            Closing::Open => self.state_open(below),
+            Closing::Draining | Closing::Halting => state_closing(below),
+            Closing::Stopped => State::Stopped,
+        }
+    }
+
+    fn state_open(&self, below: Below) -> State
+        ensures { result ≡ state_with self.now.blocks.disk self.now below }
+    {
         match self.blocks.disk {
             Some(disk) => State::Ready {
                 number: self.blocks.number,
@@ -118,7 +146,7 @@ impl BlockDriver {
         ensures once { marks self.new.blocks.tags ≡ marks self.old.blocks.tags }
         ensures replies { RepliesStand self.old.blocks.tags self.new.blocks.tags }
     {
-        let is_open = self.blocks.disk.is_some();
+        let is_open = self.blocks.disk.is_some() && self.blocks.closing.is_kept();
         match &mut self.ready.device.driver.stage {
             Stage::Taken(taken) if is_open => {
                 self.blocks.fail(taken, Loss::Restarted);

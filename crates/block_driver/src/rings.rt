@@ -2,6 +2,7 @@
 ghost use Rattle.std.specs.Prelude.{◌≡◌};
 ghost use Rattle.block_driver.specs.Rings.{ring_on, spots_at, thirds_after, third_on, thirds_begun, thirds_from};
 
+use crate::kinds::StreamPipe;
 use disk_ready::{PipeRing, Spots, Way};
 use disk_up::next_third;
 use host_layout::Ring;
@@ -25,11 +26,15 @@ impl Thirds {
         }
     }
 
-    /// The third of a data pipe's ring.
-    pub(crate) fn data_third(self, is_in: bool) -> u8
-        ensures { result ≡ third_on self is_in }
+    /// The third of a pipe's ring.
+    pub(crate) fn on(self, pipe: StreamPipe) -> u8
+        ensures { result ≡ third_on pipe self }
     {
-        if is_in { self.data_in } else { self.data_out }
+        match pipe {
+            StreamPipe::DataIn => self.data_in,
+            StreamPipe::DataOut => self.data_out,
+            StreamPipe::Status => self.status,
+        }
     }
 
     /// The places of a command's TDs.
@@ -81,13 +86,13 @@ pub(crate) fn thirds_from(spots: Spots) -> [Thirds; 256]
     thirds
 }
 
-/// The ring of a tag's data.
-pub(crate) fn data_ring(tag: u8, is_in: bool) -> Ring
-    ensures { result ≡ ring_on tag is_in }
+/// The ring of a tag on a pipe.
+pub(crate) fn ring_on(pipe: StreamPipe, tag: u8) -> Ring
+    ensures { result ≡ ring_on pipe tag }
 {
-    if is_in {
-        Ring::DataIn(tag)
-    } else {
-        Ring::DataOut(tag)
+    match pipe {
+        StreamPipe::DataIn => Ring::DataIn(tag),
+        StreamPipe::DataOut => Ring::DataOut(tag),
+        StreamPipe::Status => Ring::Status(tag),
     }
 }

@@ -6,10 +6,13 @@ ghost use Rattle.block_driver.specs.Steps.{World, begun_blocks, blocks_access, c
 ghost use Rattle.block_driver.specs.Turns.{blocks_advanced, commands_closed, found_advanced, given_back, idle_over, opened, put_begun, put_over};
 ghost use Rattle.block_driver.specs.Table.{RepliesStand, marks};
 
-use crate::freeing::{Removal, data_endpoint};
+use crate::closing::Closing;
+use crate::freeing::{Removal, endpoint_of};
+use crate::kinds::{Kind, StreamPipe};
 use crate::rings::{Thirds, thirds_from};
-use crate::table::{Kind, Loss};
+use crate::table::Loss;
 use crate::tags::Tags;
+use crate::tasks::{OwnTask, own_access};
 use bring_up::{Access, Putting, Service, Serving, Taken, load_in, read_at, write_at};
 use disk_ready::{PipeRing, Put, ReadyDisk, Spots, Target};
 use host_layout::TagArea;
@@ -39,20 +42,22 @@ pub enum Work {
         value: u32,
         service: Service,
     },
-    /// A command that takes data off is put.
+    /// A command that takes TDs off is put.
     Free {
         removal: Removal,
         at: Putting,
     },
-    /// The context of a data pipe's endpoint is loaded.
+    /// The context of a pipe's endpoint is loaded.
     Context {
-        is_in: bool,
+        pipe: StreamPipe,
     },
-    /// The doorbells of a data pipe's streams are rung again.
+    /// The doorbells of a pipe's streams are rung again.
     Ring {
-        is_in: bool,
+        pipe: StreamPipe,
         tag: u8,
     },
+    /// The driver's own task is put.
+    Own(Put),
 }
 
 /// A disk with many commands out.
@@ -65,12 +70,15 @@ pub struct Blocks {
     pub disk: Option<ReadyDisk>,
     pub number: u64,
     pub work: Work,
-    /// A command that takes data off, and whose event is awaited.
+    /// A command that takes TDs off, and whose event is awaited.
     pub removal: Option<Removal>,
+    /// The driver's own task.
+    pub own: Option<OwnTask>,
     /// An interrupt came, and events weren't looked for since.
     pub is_interrupted: bool,
     /// Why the disk isn't used any more, until its commands' TDs are given back.
     pub loss: Option<Loss>,
+    pub closing: Closing,
 }
 
 /// The bits of PORTSC that are written as they were read, and its change bits.
@@ -93,8 +101,10 @@ impl Blocks {
             number: 0,
             work: Work::Idle,
             removal: None,
+            own: None,
             is_interrupted: false,
             loss: None,
+            closing: Closing::Open,
         }
     }
 
@@ -110,6 +120,7 @@ impl Blocks {
         self.number = self.number.saturating_add(1);
         self.work = Work::Idle;
         self.removal = None;
+        self.own = None;
         self.is_interrupted = false;
     }
 
@@ -122,6 +133,7 @@ impl Blocks {
         self.disk = None;
         self.work = Work::Idle;
         self.removal = None;
+        self.own = None;
         self.is_interrupted = false;
         self.loss = Some(loss);
     }
@@ -158,15 +170,13 @@ impl Blocks {
     {
         let c = &taken.controller;
         let layout = &taken.layout;
+        let target = Target {
+            slot: taken.device.slot,
+            pipes: *pipes,
+        };
         match self.work {
             Work::Idle => Access::Rest(self.idle_until()),
-            Work::Put { tag, at } => {
-                let target = Target {
-                    slot: taken.device.slot,
-                    pipes: *pipes,
-                };
-                self.tags.put_access(tag, at, c, layout, &target)
-            }
+            Work::Put { tag, at } => self.tags.put_access(tag, at, c, layout, &target),
             Work::Serve(service) => service.access(c, layout, taken.events),
             Work::Unit { tag, count, .. } => load_in(
                 layout.of_tag(tag, TagArea::StatusUnit),
@@ -178,38 +188,41 @@ impl Blocks {
                 changes_cleared(value),
             ),
             Work::Free { removal, at } => self.freeing_access(taken, pipes, removal, at),
-            Work::Context { is_in } => load_in(
-                layout.device_context(data_endpoint(pipes, is_in)),
+            Work::Context { pipe } => load_in(
+                layout.device_context(endpoint_of(pipes, pipe)),
                 CONTEXT_BYTES,
             ),
-            Work::Ring { is_in, tag } => write_at(
+            Work::Ring { pipe, tag } => write_at(
                 c.doorbell(taken.device.slot),
-                u32::from(data_endpoint(pipes, is_in)) + (u32::from(tag) << 16),
+                u32::from(endpoint_of(pipes, pipe)) + (u32::from(tag) << 16),
             ),
+            Work::Own(at) => own_access(&self.own, at, c, layout, &target),
         }
     }
 
-    /// When a rest is over: at once where there is something to put or to look for; else with the time of a command that takes data off, or of the
-    /// first of all commands.
+    /// When a rest is over: at once where there is something to put or to look for; else with the time of a command that takes TDs off, of the
+    /// driver's own task, or of the first of all commands.
     fn idle_until(&self) -> u64
         ensures { result ≡ idle_until self.now }
     {
-        if self.is_interrupted || self.waiting().is_some() {
+        if self.is_interrupted || self.waiting().is_some() || self.is_closable() {
             return 0;
         }
-        match self.removal {
-            Some(removal) => removal.limit,
-            None => self.tags.least_limit(),
+        match (self.removal, self.own) {
+            (Some(removal), _) => removal.limit,
+            (None, Some(own)) => own.limit,
+            (None, None) => self.tags.least_limit(),
         }
     }
 
-    /// The lowest tag that waits; while data are taken off, none is put.
+    /// The lowest tag that waits; while TDs are taken off, or the driver's own task is out, none is put.
     fn waiting(&self) -> Option<u8>
         ensures { result ≡ waiting self.now }
     {
-        match self.removal {
-            Some(_) => None,
-            None => self.tags.first(Kind::Waiting),
+        if self.removal.is_some() || self.own.is_some() {
+            None
+        } else {
+            self.tags.first(Kind::Waiting)
         }
     }
 
@@ -244,8 +257,9 @@ impl Blocks {
             Work::Port(service) => self.work = Work::Changes { value, service },
             Work::Changes { value, service } => self.port_told(taken, service, value),
             Work::Free { removal, at } => self.free_put(removal, at, now),
-            Work::Context { is_in } => self.context_taken(taken, is_in, now, bytes),
-            Work::Ring { is_in, tag } => self.ring_after(is_in, tag),
+            Work::Context { pipe } => self.context_taken(taken, pipe, now, bytes),
+            Work::Ring { pipe, tag } => self.ring_after(pipe, tag),
+            Work::Own(at) => self.own_over(at),
         }
     }
 

@@ -1,18 +1,17 @@
 //! Which commands are taken, and what is put for one.
 ghost use Rattle.std.specs.Prelude.{◌≡◌, ◌<◌, ◌^◌, ◌-◌, None, Some, IfErr, IfOk, IfSome, OnErr, slice_set};
-ghost use Rattle.arrayvec.specs.ArrayVec.{ArrayVec};
-ghost use Rattle.block_driver.specs.Submits.{command_of, data_begun, free_tag, open_disk, open_in, pieces_with, reach_of, submit_refusal, submitted_on, total_in};
+ghost use Rattle.block_driver.specs.Submits.{command_of, data_begun, free_tag, open_disk, open_in, reach_of, submit_refusal, submitted_on};
 ghost use Rattle.block_driver.specs.Table.{entry_at, mark_of, marks, place_in};
 
+use crate::kinds::Kind;
 use crate::steps::Blocks;
-use crate::table::{DataState, Kind, Outstanding};
+use crate::table::{DataState, Outstanding};
 use crate::{BlockDriver, Fault};
-use arrayvec::ArrayVec;
-use block_requests::{Submission, submitted};
+use block_requests::{Submission, pieces_of, submitted, wanted};
 use bring_up::{Controller, Options, Stage};
 use disk_ready::{ReadyDisk, Sent, Way};
 use disk_requests::{Request, command_unit};
-use host_layout::{Layout, MOST_PIECES, Piece, Segment, TagArea};
+use host_layout::{Layout, Segment};
 
 /// A disk that is used: how far its controller reaches, and where its driver's memory is.
 #[derive(Clone, Copy)]
@@ -22,9 +21,6 @@ pub struct Open {
     pub layout: Layout,
 }
 
-/// Bytes of UNMAP's parameter list with one descriptor.
-const LIST_BYTES: u32 = 24;
-
 /// The last address that a controller reaches, or the one behind it.
 fn reach_of(options: &Options, c: &Controller) -> u64
     ensures { result ≡ reach_of options.now c.now }
@@ -33,17 +29,6 @@ fn reach_of(options: &Options, c: &Controller) -> u64
     let quirk = if options.quirks.has_36_bits { 36 } else { 64 };
     let bits = options.address_bits.min(width).min(quirk);
     if bits >= 64 { u64::MAX } else { 1 << bits }
-}
-
-/// The bytes of all pieces.
-fn total_in(pieces: &[Piece]) -> u32
-    ensures { result ≡ total_in pieces.now }
-{
-    if pieces.is_empty() {
-        0
-    } else {
-        pieces[pieces.len() - 1].end
-    }
 }
 
 fn data_begun(way: Way) -> DataState
@@ -56,53 +41,26 @@ fn data_begun(way: Way) -> DataState
     }
 }
 
-/// UNMAP's data are its list, in the driver's memory.
-fn pieces_with(
-    list: Option<[u8; 32]>,
-    at: Option<u64>,
-    pieces: ArrayVec<Piece, MOST_PIECES>,
-) -> ArrayVec<Piece, MOST_PIECES>
-    ensures { result.items ≡ pieces_with list at pieces.items }
+/// What is put for a command on a tag.
+fn command_of(tag: u8, made: &Submission, layout: &Layout, mark: u64, limit: u64) -> Outstanding
+    ensures { result ≡ command_of layout.now tag made.now mark limit }
 {
-    match (list, at) {
-        (Some(_), Some(at)) => {
-            let mut pieces = ArrayVec::new();
-            pieces.push(Piece {
-                at,
-                length: LIST_BYTES,
-                end: LIST_BYTES,
-            });
-            pieces
-        }
-        _ => pieces,
-    }
-}
-
-/// What is put for a command on a tag, whose list stands there.
-fn command_of(tag: u8, made: Submission, at: Option<u64>, mark: u64, limit: u64) -> Outstanding
-    ensures { result ≡ command_of tag made at mark limit }
-{
-    let Submission {
-        way,
-        cdb,
-        list,
-        pieces,
-    } = made;
-    let pieces = pieces_with(list, at, pieces);
     Outstanding {
         mark,
         sent: Sent {
             tag,
-            way,
-            unit: command_unit(u16::from(tag), 0, &cdb),
-            list,
+            way: made.way,
+            unit: command_unit(u16::from(tag), 0, &made.cdb),
+            list: made.list,
         },
-        wanted: total_in(pieces.as_slice()),
-        pieces,
+        pieces: pieces_of(layout, tag, made),
+        wanted: wanted(made),
         limit,
         spots: None,
-        data_state: data_begun(way),
+        data_state: data_begun(made.way),
         status: None,
+        is_aborted: false,
+        stopped: 0,
     }
 }
 
@@ -121,10 +79,13 @@ impl Blocks {
 }
 
 impl BlockDriver {
-    /// The disk, while it is used.
-    fn open(&self) -> Option<Open>
+    /// The disk, while it is used, and the driver isn't shutting down.
+    pub(crate) fn open(&self) -> Option<Open>
         ensures { result ≡ open_disk self.now }
     {
+        if !self.blocks.closing.is_kept() {
+            return None;
+        }
         match (self.blocks.disk, &self.ready.device.driver.stage) {
             (Some(disk), Stage::Taken(taken)) => Some(Open {
                 disk,
@@ -135,8 +96,8 @@ impl BlockDriver {
         }
     }
 
-    /// Submits a request of the disk of a number, with the segments of its data; `mark` comes back with its reply, and `limit` is the time in ms by
-    /// which it is over. `NotReady` while no disk is used, `OtherDisk` for another number than the disk's, then the request's own fault, and
+    /// Submits a request of the disk of a number, with the segments of its data; `mark` comes back with its reply, and `limit` is the time in ms at
+    /// which it is aborted. `NotReady` while no disk is used, `OtherDisk` for another number than the disk's, then the request's own fault, and
     /// `NoTag` where as many commands are out as can be. A refusal changes nothing.
     pub fn submit(
         &mut self,
@@ -166,10 +127,9 @@ impl BlockDriver {
         let Some(tag) = self.blocks.free_tag(open.disk.tags) else {
             return Err(Fault::NoTag);
         };
-        let at = open.layout.of_tag(tag, TagArea::UnmapList);
         self.blocks
             .tags
-            .submit(tag, command_of(tag, made, at, mark, limit));
+            .submit(tag, command_of(tag, &made, &open.layout, mark, limit));
         Ok(u16::from(tag))
     }
 }

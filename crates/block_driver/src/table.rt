@@ -1,6 +1,6 @@
 //! What a tag has: a command from its submission on, until its reply is taken.
 ghost use Rattle.std.specs.Prelude.{◌≡◌, IfSome, None, Some};
-ghost use Rattle.block_driver.specs.Table.{came_in, command_access, command_limit, command_next, data_moved_in, ended_with, entry_access, entry_limit, entry_lost, entry_moved, entry_next, entry_put, entry_taken, entry_told, is_command, is_kind, is_late, is_moving, is_stuck, is_way, is_pending, mark_of, moved_count, settled, settled_command, wanted_at, way_of};
+ghost use Rattle.block_driver.specs.Table.{came_in, command_access, command_limit, command_next, data_moved_in, ended_with, entry_access, entry_limit, entry_lost, entry_freed, entry_moved, entry_next, entry_put, entry_stopped, entry_taken, entry_told, is_pending, mark_of, moved_count, settled, settled_command, wanted_at, way_of};
 
 use arrayvec::ArrayVec;
 use block_requests::Outcome;
@@ -12,7 +12,7 @@ use std::mem;
 /// Why it isn't known what a command came to: it may have been done.
 #[derive(Clone, Copy, Debug, PartialEq, Eq)]
 pub enum Loss {
-    /// The time of a command was over.
+    /// A command was to be aborted, as its time was over or its user aborted it, and the disk didn't.
     Late,
     /// A TD failed.
     Failed,
@@ -35,9 +35,11 @@ pub enum Loss {
 pub enum Ending {
     Told(Outcome),
     Lost(Loss),
+    /// The disk aborted it, or it wasn't put yet.
+    Aborted,
 }
 
-/// What a command came to: so many bytes of its data were moved, none of those that were taken off.
+/// What a command came to: so many bytes of its data were moved; of those that were taken off, as many as the controller told.
 #[derive(Debug, PartialEq, Eq, Drop)]
 pub struct Came {
     pub mark: u64,
@@ -73,6 +75,10 @@ pub struct Outstanding {
     pub spots: Option<Spots>,
     pub data_state: DataState,
     pub status: Option<Told>,
+    /// The disk aborted it.
+    pub is_aborted: bool,
+    /// Bytes of its data that were moved when their TD was stopped.
+    pub stopped: u32,
 }
 
 /// What a tag has.
@@ -81,21 +87,6 @@ pub enum Entry {
     Free,
     Outstanding(Outstanding),
     Replied(Came),
-}
-
-/// Entries that are looked for.
-#[derive(Clone, Copy, Debug, PartialEq, Eq)]
-pub(crate) enum Kind {
-    Free,
-    /// Submitted, and not yet put.
-    Waiting,
-    Replied,
-    /// Its status came, and its data don't at this time.
-    Stuck(u64),
-    /// Likewise, and they go that way.
-    StuckOn { is_in: bool, now: u64 },
-    /// Its data are under way.
-    Moving { is_in: bool },
 }
 
 impl DataState {
@@ -124,17 +115,6 @@ impl DataState {
             DataState::Pending => DataState::Moved(count),
             other => other,
         }
-    }
-}
-
-/// Whether a command's data go that way.
-pub(crate) fn is_way(way: Way, is_in: bool) -> bool
-    ensures { result ≡ is_way way is_in }
-{
-    match way {
-        Way::Nothing => false,
-        Way::In => is_in,
-        Way::Out => !is_in,
     }
 }
 
@@ -167,36 +147,8 @@ impl Outstanding {
         }
     }
 
-    fn is(&self, kind: Kind) -> bool
-        ensures { result ≡ is_command kind self.now }
-    {
-        match kind {
-            Kind::Free | Kind::Replied => false,
-            Kind::Waiting => self.spots.is_none(),
-            Kind::Stuck(now) => self.is_stuck(now),
-            Kind::StuckOn { is_in, now } => self.is_stuck(now) && is_way(self.sent.way, is_in),
-            Kind::Moving { is_in } => self.is_moving(is_in),
-        }
-    }
-
-    /// Whether its status came, and its data don't at this time.
-    fn is_stuck(&self, now: u64) -> bool
-        ensures { result ≡ is_stuck self.now now }
-    {
-        match &self.status {
-            Some(told) => self.data_state.is_pending() && told.until <= now,
-            None => false,
-        }
-    }
-
-    fn is_moving(&self, is_in: bool) -> bool
-        ensures { result ≡ is_moving self.now is_in }
-    {
-        self.spots.is_some() && self.data_state.is_pending() && is_way(self.sent.way, is_in)
-    }
-
     /// When its time is over; that of its data is where its status came without them.
-    fn limit(&self) -> u64
+    pub(crate) fn limit(&self) -> u64
         ensures { result ≡ command_limit self.now }
     {
         match &self.status {
@@ -224,16 +176,6 @@ impl Outstanding {
 }
 
 impl Entry {
-    pub(crate) fn is(&self, kind: Kind) -> bool
-        ensures { result ≡ is_kind kind self.now }
-    {
-        match self {
-            Entry::Free => matches!(kind, Kind::Free),
-            Entry::Outstanding(command) => command.is(kind),
-            Entry::Replied(_) => matches!(kind, Kind::Replied),
-        }
-    }
-
     /// The access of its put.
     pub(crate) fn put_access(
         &self,
@@ -290,15 +232,6 @@ impl Entry {
         }
     }
 
-    pub(crate) fn is_late(&self, now: u64) -> bool
-        ensures { result ≡ is_late now self.now }
-    {
-        match self {
-            Entry::Outstanding(command) => command.limit <= now,
-            Entry::Free | Entry::Replied(_) => false,
-        }
-    }
-
     /// Its TDs have these places from now on.
     pub(crate) fn put(&mut self, spots: Spots)
         ensures is { self.new ≡ entry_put spots self.old }
@@ -317,6 +250,31 @@ impl Entry {
     {
         match self {
             Entry::Outstanding(command) => command.data_state = command.data_state.ended(count),
+            Entry::Free | Entry::Replied(_) => {}
+        }
+        self.settle();
+    }
+
+    /// Its data were stopped, and so many bytes were moved so far.
+    pub(crate) fn stop(&mut self, count: u32)
+        ensures is { self.new ≡ entry_stopped count self.old }
+        ensures once { mark_of self.new ≡ mark_of self.old }
+    {
+        match self {
+            Entry::Outstanding(command) => command.stopped = count,
+            Entry::Free | Entry::Replied(_) => {}
+        }
+    }
+
+    /// Its data were taken off: what was moved before they were stopped counts.
+    pub(crate) fn free(&mut self)
+        ensures is { self.new ≡ entry_freed self.old }
+        ensures once { mark_of self.new ≡ mark_of self.old }
+    {
+        match self {
+            Entry::Outstanding(command) => {
+                command.data_state = command.data_state.ended(command.stopped);
+            }
             Entry::Free | Entry::Replied(_) => {}
         }
         self.settle();

@@ -1,12 +1,13 @@
 //! The tags of a disk: what each has.
 ghost use Rattle.std.specs.Prelude.{◌≡◌, ◌<◌, ◌≤◌, ◌^◌, ◌-◌, None, Some, true, IfOk, IfSome, length, map, replicate, slice_set};
 ghost use Rattle.std.specs.List.{position};
-ghost use Rattle.block_driver.specs.Table.{RepliesStand, all_lost, came_in, changed, entry_at, entry_access, entry_lost, entry_moved, entry_next, entry_put, entry_taken, entry_told, first_of, has_late, is_kind, least_limit, mark_of, marks, next_of, place_in, wanted_at, way_of};
+ghost use Rattle.block_driver.specs.Table.{RepliesStand, all_lost, came_in, changed, entry_at, entry_aborted, entry_access, entry_doomed, entry_lost, entry_moved, entry_next, entry_off, entry_put, entry_stopped, entry_taken, entry_told, first_of, is_kind, is_outstanding, is_put, least_limit, mark_of, marks, next_of, place_in, wanted_at, way_of};
 ghost use Rattle.block_driver.specs.Events.{data_said, status_said};
 ghost use Rattle.block_driver.specs.declared.table.Entry.{Entry};
 
 use crate::events::Said;
-use crate::table::{Came, Entry, Kind, Loss, Outstanding, Told};
+use crate::kinds::{Kind, StreamPipe};
+use crate::table::{Came, Entry, Loss, Outstanding, Told};
 use bring_up::{Access, Controller};
 use disk_ready::{Put, Spots, Target, Way};
 use host_layout::{Layout, RingPlace};
@@ -42,7 +43,7 @@ impl Tags {
     }
 
     /// The index of a tag.
-    fn place(&self, tag: u8) -> Option<usize>
+    fn place(&self, tag: u16) -> Option<usize>
         ensures is { result ≡ place_in self.now tag }
         ensures there { IfSome result (λ place. place < length self.now) }
     {
@@ -88,12 +89,6 @@ impl Tags {
             .fold(u64::MAX, |least, entry| least.min(entry.limit()))
     }
 
-    pub(crate) fn has_late(&self, now: u64) -> bool
-        ensures { result ≡ has_late self.now now }
-    {
-        self.entries.iter().any(|entry| entry.is_late(now))
-    }
-
     /// The access of a tag's put.
     pub(crate) fn put_access(
         &self,
@@ -105,7 +100,7 @@ impl Tags {
     ) -> Access
         ensures { result ≡ entry_access (entry_at self.now tag) at c.now layout.now target.now }
     {
-        match self.place(tag) {
+        match self.place(u16::from(tag)) {
             Some(place) => self.entries[place].put_access(at, c, layout, target),
             None => Access::Rest(0),
         }
@@ -115,7 +110,7 @@ impl Tags {
     pub(crate) fn way(&self, tag: u8) -> Way
         ensures { result ≡ way_of (entry_at self.now tag) }
     {
-        match self.place(tag) {
+        match self.place(u16::from(tag)) {
             Some(place) => self.entries[place].way(),
             None => Way::Nothing,
         }
@@ -125,9 +120,27 @@ impl Tags {
     pub(crate) fn wanted(&self, tag: u8) -> u32
         ensures { result ≡ wanted_at (entry_at self.now tag) }
     {
-        match self.place(tag) {
+        match self.place(u16::from(tag)) {
             Some(place) => self.entries[place].wanted(),
             None => 0,
+        }
+    }
+
+    pub(crate) fn is_outstanding(&self, tag: u16) -> bool
+        ensures { result ≡ is_outstanding (entry_at self.now tag) }
+    {
+        match self.place(tag) {
+            Some(place) => self.entries[place].is_outstanding(),
+            None => false,
+        }
+    }
+
+    pub(crate) fn is_put(&self, tag: u8) -> bool
+        ensures { result ≡ is_put (entry_at self.now tag) }
+    {
+        match self.place(u16::from(tag)) {
+            Some(place) => self.entries[place].is_put(),
+            None => false,
         }
     }
 
@@ -141,7 +154,7 @@ impl Tags {
     ) -> Said
         ensures { result ≡ data_said (entry_at self.now tag) tag is_in at residual completion }
     {
-        match self.place(tag) {
+        match self.place(u16::from(tag)) {
             Some(place) => self.entries[place].data_said(tag, is_in, at, residual, completion),
             None => Said::Nothing,
         }
@@ -156,7 +169,7 @@ impl Tags {
     ) -> Said
         ensures { result ≡ status_said (entry_at self.now tag) tag at residual completion }
     {
-        match self.place(tag) {
+        match self.place(u16::from(tag)) {
             Some(place) => self.entries[place].status_said(tag, at, residual, completion),
             None => Said::Nothing,
         }
@@ -166,7 +179,7 @@ impl Tags {
     pub(crate) fn put_next(&self, tag: u8, at: Put) -> Option<Put>
         ensures { result ≡ entry_next (entry_at self.now tag) at }
     {
-        match self.place(tag) {
+        match self.place(u16::from(tag)) {
             Some(place) => self.entries[place].put_next(at),
             None => None,
         }
@@ -177,7 +190,7 @@ impl Tags {
         ensures is { self.new ≡ changed (λ before. Entry.Outstanding command) self.old tag }
         ensures once { IfSome (place_in self.old tag) (λ place. marks self.new ≡ slice_set (marks self.old) place (Some command.mark)) }
     {
-        if let Some(place) = self.place(tag) {
+        if let Some(place) = self.place(u16::from(tag)) {
             self.entries[place] = Entry::Outstanding(command);
         }
     }
@@ -187,7 +200,7 @@ impl Tags {
         ensures once { marks self.new ≡ marks self.old }
         ensures replies { RepliesStand self.old self.new }
     {
-        if let Some(place) = self.place(tag) {
+        if let Some(place) = self.place(u16::from(tag)) {
             let entry = &mut self.entries[place];
             entry.put(spots);
         }
@@ -198,9 +211,54 @@ impl Tags {
         ensures once { marks self.new ≡ marks self.old }
         ensures replies { RepliesStand self.old self.new }
     {
-        if let Some(place) = self.place(tag) {
+        if let Some(place) = self.place(u16::from(tag)) {
             let entry = &mut self.entries[place];
             entry.moved(count);
+        }
+    }
+
+    pub(crate) fn stop(&mut self, tag: u8, count: u32)
+        ensures is { self.new ≡ changed (entry_stopped count) self.old tag }
+        ensures once { marks self.new ≡ marks self.old }
+        ensures replies { RepliesStand self.old self.new }
+    {
+        if let Some(place) = self.place(u16::from(tag)) {
+            let entry = &mut self.entries[place];
+            entry.stop(count);
+        }
+    }
+
+    /// The TD of a tag on a pipe was taken off.
+    pub(crate) fn off(&mut self, pipe: StreamPipe, tag: u8)
+        ensures is { self.new ≡ changed (entry_off pipe) self.old tag }
+        ensures once { marks self.new ≡ marks self.old }
+        ensures replies { RepliesStand self.old self.new }
+    {
+        if let Some(place) = self.place(u16::from(tag)) {
+            let entry = &mut self.entries[place];
+            entry.off(pipe);
+        }
+    }
+
+    pub(crate) fn doom(&mut self, tag: u16)
+        ensures is { self.new ≡ changed entry_doomed self.old tag }
+        ensures once { marks self.new ≡ marks self.old }
+        ensures replies { RepliesStand self.old self.new }
+    {
+        if let Some(place) = self.place(tag) {
+            let entry = &mut self.entries[place];
+            entry.doom();
+        }
+    }
+
+    pub(crate) fn abort(&mut self, tag: u8)
+        ensures is { self.new ≡ changed entry_aborted self.old tag }
+        ensures once { marks self.new ≡ marks self.old }
+        ensures replies { RepliesStand self.old self.new }
+    {
+        if let Some(place) = self.place(u16::from(tag)) {
+            let entry = &mut self.entries[place];
+            entry.abort();
         }
     }
 
@@ -209,7 +267,7 @@ impl Tags {
         ensures once { marks self.new ≡ marks self.old }
         ensures replies { RepliesStand self.old self.new }
     {
-        if let Some(place) = self.place(tag) {
+        if let Some(place) = self.place(u16::from(tag)) {
             let entry = &mut self.entries[place];
             entry.told(told);
         }
@@ -222,7 +280,7 @@ impl Tags {
         ensures once { IfSome result (λ came. marks self.new ≡ slice_set (marks self.old) (tag - 1) None) }
         ensures mark { IfSome result (λ came. mark_of (entry_at self.old tag) ≡ Some came.mark) }
     {
-        match self.place(tag) {
+        match self.place(u16::from(tag)) {
             Some(place) => {
                 let entry = &mut self.entries[place];
                 entry.take()

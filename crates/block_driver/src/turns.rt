@@ -1,15 +1,17 @@
 //! A disk with many commands out: its events, and what they lead to.
 #![tactic(auto, using(crate::proofs::Kept::kept_same))]
 
-ghost use Rattle.std.specs.Prelude.{◌≡◌};
+ghost use Rattle.std.specs.Prelude.{◌≡◌, is_some};
 ghost use Rattle.block_driver.specs.Steps.{World};
-ghost use Rattle.block_driver.specs.Turns.{closed, closed_by, event_came, failed, idle_or_late, is_inactive, is_looked_on, moved_on, port_told, pulled, restarted_all, said_taken, served, served_on, stuck_or_late, told_taken, told_until, tries_after, unit_taken, went};
+ghost use Rattle.block_driver.specs.Turns.{closed, closed_by, event_came, failed, is_inactive, is_looked_on, moved_on, port_told, pulled, restarted_all, said_taken, served, served_on, stopped_on, stuck_or_late, stuck_pipe, told_taken, told_until, tries_after, unit_of_tag, unit_taken, went};
 ghost use Rattle.block_driver.specs.Table.{RepliesStand, first_of, marks};
-ghost use Rattle.block_driver.specs.declared.table.Kind.{Kind};
+ghost use Rattle.block_driver.specs.declared.kinds.Kind.{Kind};
 
 use crate::events::{STATUS_BYTES, Said};
+use crate::freeing::Freeing;
+use crate::kinds::{Kind, StreamPipe};
 use crate::steps::{Blocks, Work};
-use crate::table::{Kind, Loss, Told};
+use crate::table::{Loss, Told};
 use block_requests::Outcome;
 use bring_up::{
     Completed, Served, Service, Serving, Taken, Tries, Why, is_set, later, taken_event,
@@ -63,7 +65,7 @@ impl Blocks {
                 self.work = Work::Serve(service.passed());
             }
             _ => {
-                let said = self.tags.event_said(&taken.layout, event);
+                let said = self.tags.event_said(&self.own, &taken.layout, event);
                 self.said_taken(taken, service.passed(), said);
             }
         }
@@ -79,6 +81,7 @@ impl Blocks {
             Said::Nothing => self.work = Work::Serve(service),
             Said::Failed => self.fail(taken, Loss::Failed),
             Said::Moved { tag, count } => self.move_on(tag, count, service),
+            Said::Stopped { tag, count } => self.stop_on(tag, count, service),
             Said::Unit { tag, count } => {
                 self.work = Work::Unit {
                     tag,
@@ -99,6 +102,15 @@ impl Blocks {
         ensures replies { RepliesStand self.old.tags self.new.tags }
     {
         self.tags.moved(tag, count);
+        self.work = Work::Serve(service);
+    }
+
+    fn stop_on(&mut self, tag: u8, count: u32, service: Service)
+        ensures is { self.new ≡ stopped_on self.old tag count service }
+        ensures once { marks self.new.tags ≡ marks self.old.tags }
+        ensures replies { RepliesStand self.old.tags self.new.tags }
+    {
+        self.tags.stop(tag, count);
         self.work = Work::Serve(service);
     }
 
@@ -127,7 +139,7 @@ impl Blocks {
         }
     }
 
-    /// A command that takes data off goes on; data that don't come are taken off.
+    /// A command that takes TDs off goes on; those that don't end are taken off.
     fn closed_by(&mut self, taken: &mut Taken, now: u64)
         ensures is { record { blocks = self.new; taken = taken.new } ≡ closed_by self.old.removal (record { blocks = self.old; taken = taken.old }) now }
         ensures once { marks self.new.tags ≡ marks self.old.tags }
@@ -140,26 +152,35 @@ impl Blocks {
     }
 
     fn stuck_or_late(&mut self, taken: &mut Taken, now: u64)
-        ensures is { record { blocks = self.new; taken = taken.new } ≡ stuck_or_late (first_of (Kind.Stuck now) self.old.tags) (record { blocks = self.old; taken = taken.old }) now }
+        ensures is { record { blocks = self.new; taken = taken.new } ≡ stuck_or_late (stuck_pipe self.old.tags now) (record { blocks = self.old; taken = taken.old }) now }
         ensures once { marks self.new.tags ≡ marks self.old.tags }
         ensures replies { RepliesStand self.old.tags self.new.tags }
     {
-        match self.tags.first(Kind::Stuck(now)) {
-            Some(tag) => self.free_begin(taken, tag, now),
+        match self.stuck_pipe(now) {
+            Some(pipe) => self.free(taken, pipe, Freeing::Stop(now)),
             None => self.idle_or_late(taken, now),
         }
     }
 
-    pub(crate) fn idle_or_late(&mut self, taken: &mut Taken, now: u64)
-        ensures is { record { blocks = self.new; taken = taken.new } ≡ idle_or_late (record { blocks = self.old; taken = taken.old }) now }
-        ensures once { marks self.new.tags ≡ marks self.old.tags }
-        ensures replies { RepliesStand self.old.tags self.new.tags }
+    /// The first pipe on which a TD is to be taken off.
+    fn stuck_pipe(&self, now: u64) -> Option<StreamPipe>
+        ensures { result ≡ stuck_pipe self.now.tags now }
     {
-        if self.tags.has_late(now) {
-            self.fail(taken, Loss::Late);
+        if self.is_stuck(StreamPipe::DataIn, now) {
+            Some(StreamPipe::DataIn)
+        } else if self.is_stuck(StreamPipe::DataOut, now) {
+            Some(StreamPipe::DataOut)
+        } else if self.is_stuck(StreamPipe::Status, now) {
+            Some(StreamPipe::Status)
         } else {
-            self.work = Work::Idle;
+            None
         }
+    }
+
+    fn is_stuck(&self, pipe: StreamPipe, now: u64) -> bool
+        ensures { result ≡ is_some (first_of (Kind.Stuck pipe now) self.now.tags) }
+    {
+        self.tags.first(Kind::Stuck { pipe, now }).is_some()
     }
 
     /// A status unit came.
@@ -172,6 +193,17 @@ impl Blocks {
         bytes: &[u8],
     )
         ensures is { record { blocks = self.new; taken = taken.new } ≡ unit_taken (record { blocks = self.old; taken = taken.old }) tag service now bytes.now }
+        ensures once { marks self.new.tags ≡ marks self.old.tags }
+        ensures replies { RepliesStand self.old.tags self.new.tags }
+    {
+        match self.own {
+            Some(own) if own.tag == tag => self.own_told(taken, own, service, bytes),
+            _ => self.unit_of_tag(taken, tag, service, now, bytes),
+        }
+    }
+
+    fn unit_of_tag(&mut self, taken: &mut Taken, tag: u8, service: Service, now: u64, bytes: &[u8])
+        ensures is { record { blocks = self.new; taken = taken.new } ≡ unit_of_tag (record { blocks = self.old; taken = taken.old }) tag service now bytes.now }
         ensures once { marks self.new.tags ≡ marks self.old.tags }
         ensures replies { RepliesStand self.old.tags self.new.tags }
     {

@@ -10,6 +10,7 @@ returns-in-Some-clause-once c =
     let items = c.self.inside.entries.items in
     let place = c.in-Some.place in
     let now = Outstanding c.args.command in
-    let at : place_in c.args.self.now c.args.tag ≡ Some place = sym c.place.ensures.is ∙ c.in-Some.is in
+    let at : place_in c.args.self.now c.args.tag ≡ Some place =
+    ap (place_in c.args.self.now) (sym c.from.ensures) ∙ sym c.place.ensures.is ∙ c.in-Some.is in
     subst (λ found. IfSome found (λ p. marks (slice_set items place now) ≡ slice_set (marks c.args.self.now) p (Some c.args.command.mark))) (sym at)
     (marks_set items place now ∙ ap (λ tags. slice_set (marks tags) place (Some c.args.command.mark)) c.self.view_is)

@@ -1,0 +1,18 @@
+use Rattle.std.proofs.Common.{ap, subst, ◌∙◌}
+use Rattle.std.specs.Prelude.{slice_set}
+use Rattle.block_driver.proofs.Kept.{kept_set, off_replied}
+use Rattle.block_driver.specs.Table.{RepliesStand, entry_off, mark_of, marks}
+use Rattle.block_driver.proofs.Marks.{marks_same}
+use Rattle.block_driver.proofs.tags.Tags.off.Goals as goal
+
+pub returns-in-Some-clause-once : goal.returns-in-Some-clause-once
+returns-in-Some-clause-once c =
+    marks_same c.self.inside.entries.items c.in-Some.place c.off.new.self c.index_mut-entry.result.now (c.off.ensures.once ∙ ap mark_of c.index_mut-entry.ensures.value)
+    ∙ ap marks c.self.view_is
+
+pub returns-in-Some-clause-replies : goal.returns-in-Some-clause-replies
+returns-in-Some-clause-replies c =
+    let items = c.self.inside.entries.items in
+    subst (λ view. RepliesStand view (slice_set items c.in-Some.place c.off.new.self)) c.self.view_is
+    (kept_set items c.in-Some.place c.off.new.self c.index_mut-entry.result.now
+    (λ came at. c.off.ensures.is ∙ ap (entry_off c.args.pipe) (c.index_mut-entry.ensures.value ∙ at) ∙ off_replied c.args.pipe came))

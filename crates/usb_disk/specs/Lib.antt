@@ -3,3 +3,4 @@ pub mod Strings
 pub mod Descriptors
 pub mod Requests
 pub mod Answers
+pub mod Rows

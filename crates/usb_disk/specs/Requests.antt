@@ -1,11 +1,11 @@
--- Which request a Setup packet is (USB 3.2, 9.3 and 9.4): by the type in byte 0 (direction and recipient), the request in byte 1, and its fields.
+-- Which request a Setup packet is (USB 3.2, 9.3 and 9.4; BOT 3): by the type in byte 0 (direction and recipient), the request in byte 1, and its fields.
 use Rattle.std.specs.Prelude.{ℕ, ◌==◌, ◌+◌, ◌*◌, ◌%◌, ◌/◌, ◌&&◌, nat_lt, Bool, true, false, if◌then◌else◌, List, slice_index, Option, None, Some, option_map}
 use Rattle.uas_profile.specs.declared.Pipe.{Pipe}
 use Rattle.uas_profile.specs.declared.Pipe.TheVariants.{Command, Status, DataIn, DataOut}
 use Rattle.usb_disk.specs.declared.Setup.{Setup}
 use Rattle.usb_disk.specs.declared.requests.Request.{Request}
 use Rattle.usb_disk.specs.declared.requests.Request.TheVariants.{DeviceStatus, InterfaceStatus, DefaultPipeStatus, PipeStatus, SetU1, SetU2, SuspendFunction, SetHalt}
-use Rattle.usb_disk.specs.declared.requests.Request.TheVariants.{GetDescriptor, GetConfiguration, SetConfiguration, GetInterface, SetInterface, SetExitLatency, SetIsochDelay}
+use Rattle.usb_disk.specs.declared.requests.Request.TheVariants.{GetDescriptor, GetConfiguration, SetConfiguration, GetInterface, SetInterface, SetExitLatency, SetIsochDelay, GetMostLun, ResetBulk}
 
 -- 9.3, the eight bytes: type, request, value, index, length
 abbrev pub setup_in : List ℕ → Setup
@@ -62,13 +62,20 @@ asked_of_interface setup =
     else None)
 
 -- to the interface (01h): SET_FEATURE 3 and CLEAR_FEATURE 1 of FUNCTION_SUSPEND 0, whose options stand in the index's high byte; SET_INTERFACE 11
--- of interface 0 and alternate setting 0
+-- of interface 0 and alternate setting 0 or 1
 abbrev pub told_interface : Setup → Option Request
 told_interface setup =
     if setup.request == 1 then when (setup.value == 0 && setup.index % 256 == 0 && setup.length == 0) SuspendFunction
     else (if setup.request == 3 then when (setup.value == 0 && setup.index % 256 == 0 && setup.length == 0) SuspendFunction
-    else (if setup.request == 11 then when (setup.value == 0 && setup.index == 0 && setup.length == 0) SetInterface
+    else (if setup.request == 11 then when (nat_lt setup.value 2 && setup.index == 0 && setup.length == 0) (SetInterface (setup.value == 1))
     else None))
+
+-- Bulk-Only's own of interface 0 (BOT 3.1 and 3.2): to the host (A1h) Get Max LUN FEh, to the interface (21h) the reset FFh
+abbrev pub asked_of_class : Setup → Option Request
+asked_of_class setup = when (setup.request == 0xfe && setup.value == 0 && setup.index == 0) GetMostLun
+
+abbrev pub told_class : Setup → Option Request
+told_class setup = when (setup.request == 0xff && setup.value == 0 && setup.index == 0 && setup.length == 0) ResetBulk
 
 -- of an endpoint, to the host (82h): GET_STATUS 0, of the default pipe (address 0, 80h in its other direction) or of one of the four
 abbrev pub asked_of_endpoint : Setup → Option Request
@@ -99,4 +106,6 @@ request_in setup =
     else (if setup.request_type == 0x01 then told_interface setup
     else (if setup.request_type == 0x82 then asked_of_endpoint setup
     else (if setup.request_type == 0x02 then told_endpoint setup
-    else None)))))
+    else (if setup.request_type == 0xa1 then asked_of_class setup
+    else (if setup.request_type == 0x21 then told_class setup
+    else None)))))))

@@ -1,7 +1,7 @@
 //! Which request a Setup packet is, by the type in its first byte.
 ghost use Rattle.std.specs.Prelude.{◌≡◌, Bool};
-ghost use Rattle.usb_disk.specs.Requests.{asked_of_device, asked_of_endpoint, asked_of_interface, device_feature, pipe_at, request_in};
-ghost use Rattle.usb_disk.specs.Requests.{told_device, told_endpoint, told_interface, when};
+ghost use Rattle.usb_disk.specs.Requests.{asked_of_class, asked_of_device, asked_of_endpoint, asked_of_interface, device_feature, pipe_at, request_in};
+ghost use Rattle.usb_disk.specs.Requests.{told_class, told_device, told_endpoint, told_interface, when};
 
 use crate::Setup;
 use uas_profile::Pipe;
@@ -33,12 +33,16 @@ pub enum Request {
     SetConfiguration(bool),
     /// GET_INTERFACE.
     GetInterface,
-    /// SET_INTERFACE.
-    SetInterface,
+    /// SET_INTERFACE 1, or 0.
+    SetInterface(bool),
     /// SET_SEL.
     SetExitLatency,
     /// SET_ISOCH_DELAY.
     SetIsochDelay,
+    /// Get Max LUN.
+    GetMostLun,
+    /// Bulk-Only Mass Storage Reset.
+    ResetBulk,
 }
 
 /// Recipients and directions of standard requests (table 9-3).
@@ -53,6 +57,11 @@ const HOST_TO_INTERFACE: u8 = 0x01;
 const ENDPOINT_TO_HOST: u8 = 0x82;
 
 const HOST_TO_ENDPOINT: u8 = 0x02;
+
+/// The same of the class's requests of an interface.
+const CLASS_TO_HOST: u8 = 0xa1;
+
+const HOST_TO_CLASS: u8 = 0x21;
 
 /// Numbers of standard requests (table 9-5).
 const GET_STATUS: u8 = 0;
@@ -75,6 +84,11 @@ const SET_SEL: u8 = 48;
 
 const SET_ISOCH_DELAY: u8 = 49;
 
+/// Numbers of Bulk-Only's requests (BOT 3).
+const GET_MAX_LUN: u8 = 0xfe;
+
+const BULK_ONLY_RESET: u8 = 0xff;
+
 /// Features of a device (table 9-7).
 const U1_ENABLE: u16 = 48;
 
@@ -94,6 +108,8 @@ pub(crate) fn request_in(setup: &Setup) -> Option<Request>
         HOST_TO_INTERFACE => told_interface(setup),
         ENDPOINT_TO_HOST => asked_of_endpoint(setup),
         HOST_TO_ENDPOINT => told_endpoint(setup),
+        CLASS_TO_HOST => asked_of_class(setup),
+        HOST_TO_CLASS => told_class(setup),
         _ => None,
     }
 }
@@ -173,11 +189,33 @@ fn told_interface(setup: &Setup) -> Option<Request>
     match setup.request {
         CLEAR_FEATURE | SET_FEATURE => when(is_suspend, Request::SuspendFunction),
         SET_INTERFACE => when(
-            setup.value == 0 && setup.index == 0 && setup.length == 0,
-            Request::SetInterface,
+            setup.value < 2 && setup.index == 0 && setup.length == 0,
+            Request::SetInterface(setup.value == 1),
         ),
         _ => None,
     }
+}
+
+/// Bulk-Only's requests of the interface, to the host and to it.
+fn asked_of_class(setup: &Setup) -> Option<Request>
+    ensures { result ≡ asked_of_class setup.now }
+{
+    when(
+        setup.request == GET_MAX_LUN && setup.value == 0 && setup.index == 0,
+        Request::GetMostLun,
+    )
+}
+
+fn told_class(setup: &Setup) -> Option<Request>
+    ensures { result ≡ told_class setup.now }
+{
+    when(
+        setup.request == BULK_ONLY_RESET
+            && setup.value == 0
+            && setup.index == 0
+            && setup.length == 0,
+        Request::ResetBulk,
+    )
 }
 
 /// The pipe whose endpoint has this address.

@@ -7,7 +7,7 @@ use Rattle.uas_profile.specs.declared.Pipe.TheVariants.{Command, Status, DataIn,
 use Rattle.uas_profile.specs.Pipes.{HasStreams}
 use Rattle.uas_target.specs.Fields.{function_in, tag_in, task_tag_in}
 use Rattle.usb_disk.specs.declared.Answer.{Answer as DiskAnswer}
-use Rattle.usb_disk.specs.declared.Answer.TheVariants.{Data, Done, Restarted, Stall as DiskStall}
+use Rattle.usb_disk.specs.declared.Answer.TheVariants.{Data, Done, Restarted, BulkReset, Stall as DiskStall}
 use Rattle.usb_disk.specs.Answers.{controlled, is_halted}
 use Rattle.usb_disk.specs.Requests.{pipe_at}
 use Rattle.usb_places.specs.declared.Kept.{Kept}
@@ -43,36 +43,42 @@ forgot_same id tags = mapped id forgotten_tag (forgotten_tag_same id) tags
 disk_same : (id : ℕ) (device : UsbTags) (answer : DiskAnswer) → held_under id (after_answer device answer).places ≡ held_under id device.places
 disk_same id device (Data bytes) = refl
 disk_same id device Done = refl
+disk_same id device BulkReset = refl
 disk_same id device Restarted = forgot_same id device.places
 disk_same id device DiskStall = refl
 
 configuration_none : (id came value : ℕ) (answer : DiskAnswer) → sending_under id (configuration_told came value answer) ≡ 0
 configuration_none id came value (Data bytes) = refl
 configuration_none id came value Done = refl
+configuration_none id came value BulkReset = refl
 configuration_none id came value Restarted = refl
 configuration_none id came value DiskStall = refl
 
 configuration_in_none : (id came : ℕ) (answer : DiskAnswer) → told_under id (told came (configuration_in answer)) ≡ 0
 configuration_in_none id came (Data bytes) = refl
 configuration_in_none id came Done = refl
+configuration_in_none id came BulkReset = refl
 configuration_in_none id came Restarted = refl
 configuration_in_none id came DiskStall = refl
 
 interface_none : (id came interface setting : ℕ) (answer : DiskAnswer) → sending_under id (interface_told came interface setting answer) ≡ 0
 interface_none id came interface setting (Data bytes) = refl
 interface_none id came interface setting Done = refl
+interface_none id came interface setting BulkReset = refl
 interface_none id came interface setting Restarted = refl
 interface_none id came interface setting DiskStall = refl
 
 alternate_none : (id came interface : ℕ) (answer : DiskAnswer) → told_under id (told came (alternate_in interface answer)) ≡ 0
 alternate_none id came interface (Data bytes) = refl
 alternate_none id came interface Done = refl
+alternate_none id came interface BulkReset = refl
 alternate_none id came interface Restarted = refl
 alternate_none id came interface DiskStall = refl
 
 control_one : (id came : ℕ) (request : ControlRequest) (answer : DiskAnswer) → told_under id (control_told came request answer) ≡ one_if (came == id)
 control_one id came request (Data bytes) = refl
 control_one id came request Done = refl
+control_one id came request BulkReset = refl
 control_one id came request Restarted = refl
 control_one id came request DiskStall = refl
 

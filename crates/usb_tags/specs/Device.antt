@@ -2,9 +2,9 @@
 use Rattle.std.specs.Prelude.{ℕ, ◌*◌, ◌/◌, ◌%◌, ◌==◌, nat_lt, nat_le, Bool, ◌&&◌, if◌then◌else◌, slice_index, length}
 use Rattle.arrayvec.specs.ArrayVec.{array_vec_len}
 use Rattle.usb_disk.specs.declared.Answer.{Answer as DiskAnswer}
-use Rattle.usb_disk.specs.declared.Answer.TheVariants.{Data, Done, Restarted, Stall as DiskStall}
+use Rattle.usb_disk.specs.declared.Answer.TheVariants.{Data, Done, Restarted, BulkReset, Stall as DiskStall}
 use Rattle.usb_disk.specs.declared.Setup.{Setup}
-use Rattle.usb_disk.specs.Answers.{controlled, reset_with}
+use Rattle.usb_disk.specs.Answers.{controlled, reset_of}
 use Rattle.usbredir.specs.declared.fields.ControlRequest.{ControlRequest}
 use Rattle.usbredir.specs.declared.kinds.Status.{Status}
 use Rattle.usbredir.specs.declared.kinds.Status.TheVariants.{Success, Invalid, Stall}
@@ -32,9 +32,9 @@ forgot device = record device { places = all_forgotten device.places }
 
 -- a reset of the device: not configured, no task, an attention of each logical unit; the transfers that are held stay
 abbrev pub reset : UsbTags → UsbTags
-reset device = forgot (record device { disk = reset_with device.disk.strings; tasks = powered_machine device.tasks })
+reset device = forgot (record device { disk = reset_of device.disk.settings device.disk.strings; tasks = powered_machine device.tasks })
 
--- each task is gone, and what was kept
+-- each task is gone, and what was kept; a disk of UAS alone has no Bulk-Only reset
 abbrev pub restarted : UsbTags → UsbTags
 restarted device = forgot (record device { tasks = tasks_ended device.tasks })
 
@@ -42,6 +42,7 @@ abbrev pub after_answer : UsbTags → DiskAnswer → UsbTags
 after_answer device (Data bytes) = device
 after_answer device Done = device
 after_answer device Restarted = restarted device
+after_answer device BulkReset = device
 after_answer device DiskStall = device
 
 -- a request of endpoint 0
@@ -59,6 +60,7 @@ abbrev pub configuration_told : ℕ → ℕ → DiskAnswer → Sending
 configuration_told id value (Data bytes) = Last (told id (ConfigurationStatus Stall value))
 configuration_told id value Done = Last (told id (ConfigurationStatus Stall value))
 configuration_told id value Restarted = Interfaces (told id (ConfigurationStatus Success value))
+configuration_told id value BulkReset = Last (told id (ConfigurationStatus Stall value))
 configuration_told id value DiskStall = Last (told id (ConfigurationStatus Stall value))
 
 abbrev pub configuration_set : UsbTags → ℕ → ℕ → UsbTags
@@ -70,6 +72,7 @@ abbrev pub configuration_in : DiskAnswer → DevicePacket
 configuration_in (Data bytes) = ConfigurationStatus Success (slice_index bytes.items 0)
 configuration_in Done = ConfigurationStatus Stall 0
 configuration_in Restarted = ConfigurationStatus Stall 0
+configuration_in BulkReset = ConfigurationStatus Stall 0
 configuration_in DiskStall = ConfigurationStatus Stall 0
 
 abbrev pub configuration_got : UsbTags → ℕ → UsbTags
@@ -81,6 +84,7 @@ abbrev pub interface_told : ℕ → ℕ → ℕ → DiskAnswer → Sending
 interface_told id interface setting (Data bytes) = Last (told id (AltSettingStatus Stall interface setting))
 interface_told id interface setting Done = Last (told id (AltSettingStatus Stall interface setting))
 interface_told id interface setting Restarted = Endpoints (told id (AltSettingStatus Success interface setting))
+interface_told id interface setting BulkReset = Last (told id (AltSettingStatus Stall interface setting))
 interface_told id interface setting DiskStall = Last (told id (AltSettingStatus Stall interface setting))
 
 abbrev pub interface_set : UsbTags → ℕ → ℕ → ℕ → UsbTags
@@ -92,6 +96,7 @@ abbrev pub alternate_in : ℕ → DiskAnswer → DevicePacket
 alternate_in interface (Data bytes) = AltSettingStatus Success interface (slice_index bytes.items 0)
 alternate_in interface Done = AltSettingStatus Stall interface 0
 alternate_in interface Restarted = AltSettingStatus Stall interface 0
+alternate_in interface BulkReset = AltSettingStatus Stall interface 0
 alternate_in interface DiskStall = AltSettingStatus Stall interface 0
 
 abbrev pub interface_got : UsbTags → ℕ → ℕ → UsbTags
@@ -139,6 +144,7 @@ control_told id request (Data bytes) =
     record { id = id; packet = told_control request Success (array_vec_len bytes); body = ControlData bytes }
 control_told id request Done = told id (told_control request Success request.length)
 control_told id request Restarted = told id (told_control request Success request.length)
+control_told id request BulkReset = told id (told_control request Success request.length)
 control_told id request DiskStall = told id (told_control request Stall 0)
 
 abbrev pub control_asked : ℕ → ControlRequest → UsbTags × DiskAnswer → UsbTags

@@ -123,7 +123,7 @@ fn configuration_told(id: u64, value: u8, answer: &DiskAnswer) -> Sending
             let status = Status::Success;
             Sending::Interfaces(told(id, DevicePacket::ConfigurationStatus { status, value }))
         }
-        DiskAnswer::Data(_) | DiskAnswer::Done | DiskAnswer::Stall => {
+        DiskAnswer::Data(_) | DiskAnswer::Done | DiskAnswer::BulkReset | DiskAnswer::Stall => {
             let status = Status::Stall;
             Sending::Last(told(id, DevicePacket::ConfigurationStatus { status, value }))
         }
@@ -138,7 +138,7 @@ fn configuration_in(answer: &DiskAnswer) -> DevicePacket
             status: Status::Success,
             value: first_of(bytes),
         },
-        DiskAnswer::Done | DiskAnswer::Restarted | DiskAnswer::Stall => {
+        DiskAnswer::Done | DiskAnswer::Restarted | DiskAnswer::BulkReset | DiskAnswer::Stall => {
             DevicePacket::ConfigurationStatus {
                 status: Status::Stall,
                 value: 0,
@@ -169,14 +169,15 @@ fn interface_told(id: u64, interface: u8, setting: u8, answer: &DiskAnswer) -> S
                 setting,
             },
         )),
-        DiskAnswer::Data(_) | DiskAnswer::Done | DiskAnswer::Stall => Sending::Last(told(
-            id,
-            DevicePacket::AltSettingStatus {
-                status: Status::Stall,
-                interface,
-                setting,
-            },
-        )),
+        DiskAnswer::Data(_) | DiskAnswer::Done | DiskAnswer::BulkReset | DiskAnswer::Stall =>
+            Sending::Last(told(
+                id,
+                DevicePacket::AltSettingStatus {
+                    status: Status::Stall,
+                    interface,
+                    setting,
+                },
+            )),
     }
 }
 
@@ -189,7 +190,7 @@ fn alternate_in(interface: u8, answer: &DiskAnswer) -> DevicePacket
             interface,
             setting: first_of(bytes),
         },
-        DiskAnswer::Done | DiskAnswer::Restarted | DiskAnswer::Stall => {
+        DiskAnswer::Done | DiskAnswer::Restarted | DiskAnswer::BulkReset | DiskAnswer::Stall => {
             DevicePacket::AltSettingStatus {
                 status: Status::Stall,
                 interface,
@@ -263,7 +264,7 @@ fn control_told(id: u64, request: &ControlRequest, answer: DiskAnswer) -> Answer
             packet: told_control(request, Status::Success, bytes.len() as u16),
             body: AnswerData::Control(bytes),
         },
-        DiskAnswer::Done | DiskAnswer::Restarted => {
+        DiskAnswer::Done | DiskAnswer::Restarted | DiskAnswer::BulkReset => {
             told(id, told_control(request, Status::Success, request.length))
         }
         DiskAnswer::Stall => told(id, told_control(request, Status::Stall, 0)),

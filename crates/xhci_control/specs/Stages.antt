@@ -1,7 +1,7 @@
 -- Where a control transfer is (xHCI 4.11.2.2), and what its Data Stage gives.
 use Rattle.std.specs.Prelude.{ℕ, ◌+◌, ◌-◌, ◌^◌, ◌==◌, min, Bool, true, false, if◌then◌else◌, List, [], drop}
 use Rattle.usb_disk.specs.declared.Answer.{Answer}
-use Rattle.usb_disk.specs.declared.Answer.TheVariants.{Data as DataAnswer, Done, Restarted, Stall as StallAnswer}
+use Rattle.usb_disk.specs.declared.Answer.TheVariants.{Data as DataAnswer, Done, Restarted, BulkReset, Stall as StallAnswer}
 use Rattle.xhci_control.specs.declared.stage.Given.{Given}
 use Rattle.xhci_control.specs.declared.stage.Given.TheVariants.{Bytes, Nothing, Taken, Stall}
 use Rattle.xhci_control.specs.declared.stage.Stage.{Stage}
@@ -11,6 +11,7 @@ abbrev pub given_of : Answer → Given
 given_of (DataAnswer bytes) = Bytes bytes 0
 given_of Done = Nothing
 given_of Restarted = Nothing
+given_of BulkReset = Nothing
 given_of StallAnswer = Stall
 
 -- whether it ends every task of the disk
@@ -18,7 +19,16 @@ abbrev pub is_restarted : Answer → Bool
 is_restarted (DataAnswer bytes) = false
 is_restarted Done = false
 is_restarted Restarted = true
+is_restarted BulkReset = false
 is_restarted StallAnswer = false
+
+-- whether it ends the command of Bulk-Only Transport
+abbrev pub is_bulk_reset : Answer → Bool
+is_bulk_reset (DataAnswer bytes) = false
+is_bulk_reset Done = false
+is_bulk_reset Restarted = false
+is_bulk_reset BulkReset = true
+is_bulk_reset StallAnswer = false
 
 abbrev pub given_stalls : Given → Bool
 given_stalls (Bytes bytes gone) = false

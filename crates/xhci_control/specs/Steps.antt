@@ -25,14 +25,17 @@ use Rattle.guest_pipes.specs.Step.{World, about, data_told, erred, failed, fille
 use Rattle.guest_pipes.specs.Gate.{gate, stop_event, took_other as pipe_took_other}
 use Rattle.guest_pipes.specs.Unserved.{stuck}
 use Rattle.usb_disk.specs.declared.Setup.{Setup as SetupPacket}
-use Rattle.usb_disk.specs.Answers.{controlled, reset_disk}
+use Rattle.usb_disk.specs.declared.Answer.{Answer}
+use Rattle.usb_disk.specs.declared.UsbDisk.{UsbDisk}
+use Rattle.usb_disk.specs.Answers.{controlled, halted as disk_halted, reset_disk, reset_of}
+use Rattle.uas_profile.specs.declared.Pipe.{Pipe}
 use Rattle.xhci_control.specs.declared.pipe.ControlPipe.{ControlPipe}
 use Rattle.xhci_control.specs.declared.pipe.Served.{Served}
 use Rattle.xhci_control.specs.declared.stage.Stage.{Stage}
 use Rattle.xhci_control.specs.declared.stage.Stage.TheVariants.{Setup}
 use Rattle.xhci_control.specs.declared.trb.ControlTrb.{ControlTrb}
 use Rattle.xhci_control.specs.declared.trb.ControlTrb.TheVariants.{SetupStage, DataStage, StatusStage, Other}
-use Rattle.xhci_control.specs.Stages.{advanced, after_setup, behind_data, behind_data_if, directed, is_data, is_restarted, is_setup, left, stalls, takes}
+use Rattle.xhci_control.specs.Stages.{advanced, after_setup, behind_data, behind_data_if, directed, is_bulk_reset, is_data, is_restarted, is_setup, left, stalls, takes}
 use Rattle.xhci_control.specs.Trbs.{control_in}
 
 -- all that a step may change
@@ -55,8 +58,12 @@ in_stage w stage = record w { pipe = record w.pipe { stage = stage } }
 abbrev pub consumer_in : EndpointState → Consumer
 consumer_in state = record { endpoint = 1; state = state; rung = false; progress = fresh }
 
+abbrev pub opened_over : UsbDisk → ControlPipe
+opened_over disk = record { consumer = consumer_in Disabled; home = 0; disk = disk; stage = Setup }
+
+-- over a disk with UAS alone
 abbrev pub opened : ControlPipe
-opened = record { consumer = consumer_in Disabled; home = 0; disk = reset_disk; stage = Setup }
+opened = opened_over reset_disk
 
 abbrev pub configured : ControlPipe → ℕ → ControlPipe
 configured pipe home = record pipe { consumer = consumer_in Running; home = home; stage = Setup }
@@ -65,7 +72,11 @@ abbrev pub disabled : ControlPipe → ControlPipe
 disabled pipe = record pipe { consumer = consumer_in Disabled; home = 0; stage = Setup }
 
 abbrev pub disk_reset : ControlPipe → ControlPipe
-disk_reset pipe = record pipe { disk = reset_disk; stage = Setup }
+disk_reset pipe = record pipe { disk = reset_of pipe.disk.settings pipe.disk.strings; stage = Setup }
+
+-- the disk halts the endpoint of one of its pipes
+abbrev pub pipe_halted : ControlPipe → Pipe → ControlPipe
+pipe_halted pipe which = record pipe { disk = disk_halted pipe.disk which }
 
 -- a doorbell starts an endpoint that is stopped
 abbrev pub rung_in : EndpointState → ControlPipe → ControlPipe
@@ -127,8 +138,15 @@ stalled w front rest = in_stage (with_ring w (stall_told w front rest)) Setup
 abbrev pub sets_address : SetupPacket → Bool
 sets_address setup = setup.request_type == 0 && setup.request == 5
 
-abbrev pub worked : Bool → Served
-worked restarted = record { acted = Worked; restarted = restarted }
+abbrev pub told : Acted → Served
+told acted = record { acted = acted; restarted = false; bulk_reset = false }
+
+abbrev pub worked : Served
+worked = told Worked
+
+-- a request was done, which may have ended something of the disk
+abbrev pub told_done : Answer → Served
+told_done answer = record { acted = Worked; restarted = is_restarted answer; bulk_reset = is_bulk_reset answer }
 
 -- the disk does what a Setup Stage asks
 unfoldable pub asked : ControlWorld → Front → SetupPacket → Flags → ControlWorld × Served
@@ -140,12 +158,12 @@ asked w front setup flags =
         events = ring.events;
         pipe = record w.pipe { consumer = ring.consumer; disk = after.0; stage = after_setup after.1 setup.length };
       },
-      worked (is_restarted after.1),
+      told_done after.1,
     )
 
 abbrev pub took_setup : ControlWorld → Front → SetupPacket → Flags → ControlWorld × Served
 took_setup w front setup flags =
-    if sets_address setup then (with_ring w (erred (ring_of w) front), worked false) else asked w front setup flags
+    if sets_address setup then (with_ring w (erred (ring_of w) front), worked) else asked w front setup flags
 
 -- so many bytes of the answer go to an address
 unfoldable pub gone_to : ControlWorld → ℕ → ℕ → ControlWorld
@@ -158,9 +176,9 @@ abbrev pub trb_ended : ControlWorld → Front → ℕ → Flags → ControlWorld
 trb_ended w front rest flags =
     if rest == 0 then with_ring w (filled (ring_of w) front flags) else with_ring w (shortened (ring_of w) front rest flags)
 
--- how many bytes of the answer a TRB takes; no answer has more than 86
+-- how many bytes of the answer a TRB takes; no answer has more than 121
 abbrev pub taken_count : ControlWorld → ℕ → ℕ
-taken_count w room = min (min (list_length (left w.pipe.stage)) 86) room
+taken_count w room = min (min (list_length (left w.pipe.stage)) 121) room
 
 unfoldable pub gave : ControlWorld → Front → ℕ → ℕ → Flags → ControlWorld
 gave w front pointer room flags =
@@ -218,9 +236,9 @@ took_other w front Foreign = with_ring w (pipe_took_other (ring_of w) front Fore
 
 abbrev pub took : ControlWorld → Front → ControlTrb → ControlWorld × Served
 took w front (SetupStage setup flags) = took_setup w front setup flags
-took w front (DataStage pointer room to_host flags) = (took_data w front pointer room to_host flags, worked false)
-took w front (StatusStage flags) = (took_status w front flags, worked false)
-took w front (Other trb) = (took_other w front trb, worked false)
+took w front (DataStage pointer room to_host flags) = (took_data w front pointer room to_host flags, worked)
+took w front (StatusStage flags) = (took_status w front flags, worked)
+took w front (Other trb) = (took_other w front trb, worked)
 
 -- WHERE NOTHING ANSWERS ON THE BUS: a TRB that moves bytes is told with what is left of it and this code, the dequeue pointer stays, and the
 -- endpoint halts (4.8.3, 4.10.2.3)
@@ -246,7 +264,7 @@ unanswered w front code (Other trb) = unanswered_other w front code trb
 
 abbrev pub took_by : Option ℕ → ControlWorld → Front → ControlTrb → ControlWorld × Served
 took_by None w front trb = took w front trb
-took_by (Some code) w front trb = (unanswered w front code trb, worked false)
+took_by (Some code) w front trb = (unanswered w front code trb, worked)
 
 abbrev pub front_at : ℕ → Cursor → Front
 front_at home cursor = record { home = Endpoint home; cursor = cursor; found = NotYet }
@@ -255,7 +273,7 @@ abbrev pub cursor_at : Memory → ℕ → Option Cursor
 cursor_at memory home = option_map cursor_in (option_map (little_number 8) (bytes_from memory home 8))
 
 abbrev pub taken_by : Option ℕ → ControlWorld → Cursor → Option Words → ControlWorld × Served
-taken_by fault w cursor None = (with_ring w (used_up (ring_of w)), record { acted = Emptied; restarted = false })
+taken_by fault w cursor None = (with_ring w (used_up (ring_of w)), told Emptied)
 taken_by fault w cursor (Some words) = took_by fault w (front_at w.pipe.home cursor) (control_in words)
 
 abbrev pub served_by : Option ℕ → ControlWorld → Option Cursor → Option (ControlWorld × Served)
@@ -265,7 +283,7 @@ served_by fault w (Some cursor) = option_map (taken_by fault w cursor) (fetched 
 abbrev pub through : Option ℕ → ControlWorld → Option (Option Acted) → Option (ControlWorld × Served)
 through fault w None = None
 through fault w (Some None) = served_by fault w (cursor_at w.memory w.pipe.home)
-through fault w (Some (Some acted)) = Some (w, record { acted = acted; restarted = false })
+through fault w (Some (Some acted)) = Some (w, told acted)
 
 -- a refused step leaves the world
 abbrev pub after : ControlWorld → Option (ControlWorld × Served) → ControlWorld × Option Served

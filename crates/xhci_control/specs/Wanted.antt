@@ -20,7 +20,7 @@ use Rattle.xhci_control.specs.Trbs.{control_in}
 
 -- where the answer's next bytes go, in a TRB of this length
 abbrev pub given_range : ControlPipe → ℕ → ℕ → Range
-given_range pipe pointer room = record { at = pointer; count = min (min (list_length (left pipe.stage)) 86) room }
+given_range pipe pointer room = record { at = pointer; count = min (min (list_length (left pipe.stage)) 121) room }
 
 -- of a TRB of a Data Stage, in the order of `moved_by`
 abbrev pub moved_wanted : Memory → ControlPipe → ℕ → ℕ → Option Range

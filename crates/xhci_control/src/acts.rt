@@ -6,9 +6,8 @@ ghost use Rattle.xhci_control.specs.Stages.{left};
 ghost use Rattle.xhci_control.specs.Steps.{ControlWorld, asked, data_ended, gave, gone_to, is_in_data, moved_by, moved_data, stalled, taken_count};
 ghost use Rattle.xhci_control.specs.Steps.{took_data, took_normal, took_other, took_setup, took_status, trb_ended};
 
-use crate::pipe::{
-    CONTROL_ENDPOINT, ControlPipe, STALL_ERROR, Served, is_restarted, sets_address, worked,
-};
+use crate::pipe::{CONTROL_ENDPOINT, ControlPipe, STALL_ERROR, Served, sets_address};
+use crate::served::{worked, worked_by};
 use crate::stage::Stage;
 use guest_memory::GuestMemory;
 use guest_memory::rings::{Event, EventRing, Flags, Front, PipeTrb};
@@ -60,9 +59,9 @@ impl ControlPipe {
     {
         self.consumer.fill(memory, events, front, flags);
         let answer = self.disk.control(setup);
-        let restarted = is_restarted(&answer);
+        let served = worked_by(&answer);
         self.stage = Stage::after_setup(answer, setup.length);
-        worked(restarted)
+        served
     }
 
     /// Takes a Setup Stage.
@@ -82,7 +81,7 @@ impl ControlPipe {
     {
         if sets_address(setup) {
             self.consumer.err(memory, events, front);
-            worked(false)
+            worked()
         } else {
             self.ask(memory, events, front, setup, flags)
         }
@@ -193,9 +192,9 @@ impl ControlPipe {
 
     /// How many bytes of the answer a TRB of this length takes.
     pub(crate) fn taken_count(&self, length: u32) -> usize
-        ensures count { result ≡ min (min (list_length (left self.now.stage)) 86) length }
+        ensures count { result ≡ min (min (list_length (left self.now.stage)) 121) length }
         ensures has { result ≤ list_length (left self.now.stage) }
-        ensures most { result ≤ 86 }
+        ensures most { result ≤ 121 }
         ensures room { result ≤ length }
     {
         self.stage
@@ -217,7 +216,7 @@ impl ControlPipe {
         requires room { has_place (M.contents memory.old) events.old ≡ true }
         requires there { is_there (M.contents memory.old) to count ≡ true }
         requires has { count ≤ list_length (left self.old.stage) }
-        requires most { count ≤ 86 }
+        requires most { count ≤ 121 }
         ensures step { record { memory = M.contents memory.new; events = events.new; pipe = self.new }
             ≡ gone_to (record { memory = M.contents memory.old; events = events.old; pipe = self.old }) to count }
         ensures same_loan { M.loan memory.new ≡ M.loan memory.old }

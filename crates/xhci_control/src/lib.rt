@@ -20,6 +20,7 @@
 
 mod acts;
 mod pipe;
+mod served;
 mod stage;
 mod trb;
 mod unanswered;

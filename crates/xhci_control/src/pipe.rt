@@ -6,18 +6,21 @@ ghost use Rattle.guest_memory.specs.Bytes.{bytes_from, is_there};
 ghost use Rattle.guest_pipes.specs.Step.{has_home, has_place};
 ghost use Rattle.guest_memory.specs.declared.rings.context.Home.TheVariants.{Endpoint};
 ghost use Rattle.guest_memory.specs.rings.Ends.{cursor_in, fetched, looked};
-ghost use Rattle.xhci_control.specs.Stages.{is_restarted, left};
-ghost use Rattle.xhci_control.specs.Steps.{ControlWorld, asked, configured, consumer_in, control_stopped, cursor_at, data_ended, disabled, disk_reset, forgotten, front_at};
+ghost use Rattle.usb_disk.specs.Answers.{alternate_of, is_halted};
+ghost use Rattle.xhci_control.specs.Stages.{left};
+ghost use Rattle.xhci_control.specs.Steps.{ControlWorld, asked, configured, consumer_in, control_stopped, cursor_at, data_ended, disabled, disk_reset, opened_over, pipe_halted, forgotten, front_at};
 ghost use Rattle.xhci_control.specs.Steps.{gave, gone_to, halt_reset, is_in_data, left_in, moved_by, moved_data, opened, rung_in, served_by, sets_address, stalled, stepped, stopped};
-ghost use Rattle.xhci_control.specs.Steps.{taken_by, taken_count, took, took_by, took_data, took_normal, took_other, took_setup, took_status, trb_ended, after, worked};
+ghost use Rattle.xhci_control.specs.Steps.{taken_by, taken_count, took, took_by, took_data, took_normal, took_other, took_setup, took_status, trb_ended, after};
 
+use crate::served::{idle, worked};
 use crate::stage::Stage;
 use crate::trb::{ControlTrb, read_control};
 use byteorder::{ByteOrder, LittleEndian};
 use guest_memory::rings::{Cursor, Event, EventRing, Found, Front, Home, Words, fetch, look};
 use guest_memory::{GuestMemory, Outside};
 use guest_pipes::{Acted, Consumer, EndpointState, Progress};
-use usb_disk::{Answer, Setup, UsbDisk};
+use uas_profile::Pipe;
+use usb_disk::{Alternate, Answer, Setup, UsbDisk};
 
 /// Stall Error (table 6-90).
 pub(crate) const STALL_ERROR: u8 = 6;
@@ -31,11 +34,12 @@ const SHORT_PACKET: u8 = 13;
 /// Endpoint 0's ID.
 pub(crate) const CONTROL_ENDPOINT: u8 = 1;
 
-/// What a step did, and whether it ended every task of the disk.
+/// What a step did, whether it ended every task of the disk, and whether it ended Bulk-Only Transport's command alone.
 #[derive(Clone, Copy, Debug, PartialEq, Eq)]
 pub struct Served {
     pub acted: Acted,
     pub restarted: bool,
+    pub bulk_reset: bool,
 }
 
 /// Endpoint 0: its consumer, the address of its dequeue pointer, the disk's answers, and where its control transfer is.
@@ -75,21 +79,22 @@ pub(crate) fn sets_address(setup: &Setup) -> bool
     setup.request_type == 0 && setup.request == 5
 }
 
-pub(crate) fn is_restarted(answer: &Answer) -> bool
-    ensures { result ≡ is_restarted answer.now }
-{
-    matches!(answer, Answer::Restarted)
-}
-
 impl ControlPipe {
-    /// Disabled, over a disk that isn't configured.
+    /// Disabled, over a disk of UAS alone that isn't configured.
     pub fn new() -> ControlPipe
         ensures { result ≡ opened }
+    {
+        ControlPipe::over(UsbDisk::uas_alone())
+    }
+
+    /// Disabled, over this disk.
+    pub fn over(disk: UsbDisk) -> ControlPipe
+        ensures { result ≡ opened_over disk }
     {
         ControlPipe {
             consumer: consumer_in(EndpointState::Disabled),
             home: 0,
-            disk: UsbDisk::new(),
+            disk,
             stage: Stage::Setup,
         }
     }
@@ -106,6 +111,27 @@ impl ControlPipe {
         ensures { result ≡ self.now.disk.configured }
     {
         self.disk.configured
+    }
+
+    /// What carries commands in the disk's current alternate setting.
+    pub fn alternate(&self) -> Alternate
+        ensures { result ≡ alternate_of self.now.disk.settings }
+    {
+        self.disk.alternate()
+    }
+
+    /// Whether a pipe's endpoint is halted, by the host's SET_FEATURE or by the disk.
+    pub fn is_halted(&self, pipe: Pipe) -> bool
+        ensures { result ≡ is_halted self.now.disk.halts pipe }
+    {
+        self.disk.halts.has(pipe)
+    }
+
+    /// The disk halts a pipe's endpoint (USB 3.2, 9.4.5).
+    pub fn halt(&mut self, pipe: Pipe)
+        ensures { self.new ≡ pipe_halted self.old pipe }
+    {
+        self.disk.halt(pipe);
     }
 
     /// Whether its TD in front was begun.
@@ -133,11 +159,11 @@ impl ControlPipe {
         self.stage = Stage::Setup;
     }
 
-    /// The device was reset: it isn't configured.
+    /// The device was reset: it isn't configured, and is in its first alternate setting.
     pub fn reset_disk(&mut self)
         ensures { self.new ≡ disk_reset self.old }
     {
-        self.disk = UsbDisk::new();
+        self.disk.reset();
         self.stage = Stage::Setup;
     }
 
@@ -310,7 +336,7 @@ impl ControlPipe {
             None => self.take(memory, events, front, trb),
             Some(code) => {
                 self.tell_unanswered(memory, events, front, code, trb);
-                worked(false)
+                worked()
             }
         }
     }
@@ -339,15 +365,15 @@ impl ControlPipe {
                 flags,
             } => {
                 self.take_data(memory, events, front, pointer, length, to_host, flags);
-                worked(false)
+                worked()
             }
             ControlTrb::StatusStage { flags } => {
                 self.take_status(memory, events, front, flags);
-                worked(false)
+                worked()
             }
             ControlTrb::Other(trb) => {
                 self.take_other(memory, events, front, trb);
-                worked(false)
+                worked()
             }
         }
     }
@@ -361,23 +387,5 @@ fn front_at(home: u64, cursor: Cursor) -> Front
         home: Home::Endpoint { at: home },
         cursor,
         found: Found::NotYet,
-    }
-}
-
-fn idle(acted: Acted) -> Served
-    ensures { result ≡ record { acted = acted; restarted = false } }
-{
-    Served {
-        acted,
-        restarted: false,
-    }
-}
-
-pub(crate) fn worked(restarted: bool) -> Served
-    ensures { result ≡ worked restarted }
-{
-    Served {
-        acted: Acted::Worked,
-        restarted,
     }
 }

@@ -39,7 +39,7 @@ impl Given {
     {
         match answer {
             Answer::Data(bytes) => Given::Bytes { bytes, gone: 0 },
-            Answer::Done | Answer::Restarted => Given::Nothing,
+            Answer::Done | Answer::Restarted | Answer::BulkReset => Given::Nothing,
             Answer::Stall => Given::Stall,
         }
     }

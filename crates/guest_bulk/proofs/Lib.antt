@@ -1,0 +1,4 @@
+pub mod Zeros
+pub mod Counted
+pub mod Moving
+pub mod Lacking

@@ -80,15 +80,15 @@ UAS_TASKS_ASSERT(sizeof(struct uas_disk) == 152 && offsetof(struct uas_disk, ser
 
 enum {
     UAS_DISK_READ_ONLY = 1,
-    UAS_DISK_THIN = 2,          /* UNMAP; refused, since it isn't served yet, as the next three */
+    UAS_DISK_THIN = 2,          /* UNMAP; refused, since it isn't served yet, as REMOVABLE and QUIET */
     UAS_DISK_REMOVABLE = 4,     /* the medium can be taken out */
-    UAS_DISK_WRITE_THROUGH = 8, /* writes aren't cached */
+    UAS_DISK_WRITE_THROUGH = 8, /* with UAS_SET_DISK each WRITE's request is through, and MODE SENSE tells so (WCE 0) */
     UAS_DISK_QUIET = 16         /* a change of it isn't told */
 };
 
 /* The same of logical units that say what there is to tell of them: one behind another in `bytes` bytes, so an array and its sizeof. With
- * UAS_SET_DISK INQUIRY, vital product data and READ CAPACITY(16) tell it, and `most` isn't looked at; the other sets tell the names, the block
- * length and whether it is read only.
+ * UAS_SET_DISK INQUIRY, vital product data, READ CAPACITY(16) and MODE SENSE tell it, WRITE AND VERIFY, PRE-FETCH and SEND DIAGNOSTIC are taken, NACA is a
+ * fault, and `most` isn't looked at; the other sets tell the names, the block length and whether it is read only.
  * Faults: UAS_UNITS; of the first logical unit with one UAS_UNITS (the sixteenth), UAS_TASKS_SIZE (it isn't whole, too), UAS_BLOCKS,
  * UAS_TASKS_BLOCK_BYTES, UAS_TASKS_DISK; UAS_TASKS_SET, UAS_TASKS_CHUNK, UAS_NO_MEMORY. */
 uint8_t uas_tasks_new_disks(const struct uas_disk *disks, size_t bytes, uint8_t set, uint16_t most, uint16_t chunk, uas_tasks **tasks);
@@ -213,7 +213,9 @@ enum {
     UAS_WORK_WRITES = 3,
     UAS_WORK_SYNCHRONIZES = 4, /* `count` 0: all blocks from `lba` on */
     UAS_WORK_VERIFIES = 5,
-    UAS_WORK_COMPARES = 6
+    UAS_WORK_COMPARES = 6,
+    UAS_WORK_WRITES_AND_VERIFIES = 7, /* of UAS_SET_DISK: written through, and then found to be readable */
+    UAS_WORK_WRITES_AND_COMPARES = 8  /* or to be these bytes */
 };
 
 struct uas_tasks_work {
@@ -232,7 +234,7 @@ UAS_TASKS_ASSERT(sizeof(struct uas_tasks_work) == 24 && offsetof(struct uas_task
  * Faults: UAS_UNITS, UAS_BLOCKS, UAS_TASKS_BLOCK_BYTES, UAS_TASKS_SERIAL, UAS_TASKS_SET, UAS_CDB_CHECK. */
 uint8_t uas_tasks_cdb_parse(const uint8_t cdb[16], const struct uas_tasks_target *target, struct uas_tasks_work *work, struct uas_sense *sense);
 
-enum { UAS_TASKS_DATA_BYTES = 484 /* always do for uas_tasks_cdb_data */ };
+enum { UAS_TASKS_DATA_BYTES = 604 /* always do for uas_tasks_cdb_data */ };
 
 /* The data that a CDB asks for, cut to its allocation length, into the first *length of `room` bytes: none where it asks for no data, or for
  * blocks.

@@ -54,8 +54,6 @@ pub enum DiskFault {
     Thin,
     #[error("the medium can't be taken out")]
     Removable,
-    #[error("what is written is cached")]
-    WriteThrough,
     #[error("a change of it is told")]
     Quiet,
     #[error("a block of the medium that has neither as many bytes as a logical block nor 4096")]

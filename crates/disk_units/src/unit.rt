@@ -192,8 +192,6 @@ impl DiskUnit {
             Some(DiskFault::Thin)
         } else if self.removable {
             Some(DiskFault::Removable)
-        } else if self.write_through {
-            Some(DiskFault::WriteThrough)
         } else if self.quiet {
             Some(DiskFault::Quiet)
         } else if !has_physical_bytes(self.physical_bytes, block_bytes) {

@@ -8,7 +8,7 @@ use guest_pipes::Progress;
 use guest_tags::{Buffer, Gather};
 
 /// Whether the bytes are in the TRB itself (Immediate Data).
-pub(crate) fn is_immediate(buffer: Buffer) -> bool
+pub fn is_immediate(buffer: Buffer) -> bool
     ensures { result ≡ is_immediate buffer }
 {
     buffer.flags.idt && buffer.length <= 8
@@ -53,7 +53,7 @@ fn draw_ahead<M: GuestMemory>(
 
 /// Gathers so many bytes of a TRB behind those that were moved. Refused where one of them isn't there, and then nothing changes.
 #[tactic(auto, using(crate::proofs::Drawn::drop_front, crate::proofs::Drawn::immediate_length, crate::proofs::Drawn::none_drawn, crate::proofs::Drawn::none_taken, crate::proofs::Drawn::none_length), unfolding(crate::specs::Immediate::bytes_out))]
-pub(crate) fn draw<M: GuestMemory>(
+pub fn draw<M: GuestMemory>(
     memory: &M,
     taken: &mut Gather,
     buffer: Buffer,

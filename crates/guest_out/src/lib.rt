@@ -25,4 +25,5 @@ mod wanting;
 
 pub use command::command_step;
 pub use data_out::data_out_step;
+pub use immediate::{draw, is_immediate};
 pub use wanting::{command_wants, data_out_wants};

@@ -3,6 +3,7 @@ ghost use Rattle.std.specs.Prelude.{◌≡◌, ◌+◌, ◌-◌, ◌<◌, ◌≤
 ghost use Rattle.guest_tags.specs.Devices.{Kind};
 
 use crate::device::{Phase, UasDevice};
+use crate::gather::put_at;
 use std::alloc::{AllocError, Global};
 use std::marker::Model;
 
@@ -71,6 +72,16 @@ impl Chunk {
         ensures { self.new ≡ drop count self.old }
     {
         self.from += count;
+    }
+
+    /// Holds these bytes. What was held is dropped.
+    pub fn hold(&mut self, bytes: &[u8])
+        requires { length bytes.now ≤ 4096 }
+        ensures { self.new ≡ bytes.now }
+    {
+        put_at(&mut self.bytes, 0, bytes);
+        self.from = 0;
+        self.to = bytes.len();
     }
 
     /// Holds the next chunk of a tag that gives so many bytes, or nothing at a bad block. What was held is dropped.

@@ -85,7 +85,7 @@ impl Gather {
 
 /// Puts bytes in the place of as many, from a place on.
 #[tactic(auto, using(crate::proofs::Gathered::gathered))]
-fn put_at(cells: &mut [u8], start: usize, bytes: &[u8])
+pub(crate) fn put_at(cells: &mut [u8], start: usize, bytes: &[u8])
     requires { start + length bytes.now ≤ length cells.old }
     ensures len { length cells.new ≡ length cells.old }
     ensures bytes { take (start + length bytes.now) cells.new ≡ take start cells.old ++ bytes.now }

@@ -20,7 +20,7 @@ use Rattle.uas_tasks.specs.declared.Wants.TheVariants.{Absent, Waits}
 use Rattle.uas_tasks.specs.declared.slot.Out.{Out}
 use Rattle.uas_tasks.specs.declared.Job.{Job}
 use Rattle.uas_tasks.specs.declared.JobKind.{JobKind}
-use Rattle.uas_tasks.specs.declared.JobKind.TheVariants.{Reads, Writes, Compares, Verifies, Synchronizes}
+use Rattle.uas_tasks.specs.declared.JobKind.TheVariants.{Reads, Writes, Compares, Verifies, Synchronizes, WritesAndVerifies}
 use Rattle.uas_tasks.specs.declared.Stage.{Stage}
 use Rattle.uas_tasks.specs.declared.Stage.TheVariants.{Asking, Waiting, Moving}
 use Rattle.uas_tasks.specs.Slots.{SlotState, answered_slot, is_wrong_length, moved_way, slot_wants, spared_slot, stage_wants, task_wants, is_tag}
@@ -44,6 +44,7 @@ way_wants (Writes through) bytes absent = false≢true absent
 way_wants Compares bytes absent = false≢true absent
 way_wants Verifies bytes absent = false≢true absent
 way_wants Synchronizes bytes absent = false≢true absent
+way_wants (WritesAndVerifies compares has_written) bytes absent = false≢true absent
 
 stage_some : (chunk : ℕ) (job : Job) (out : Bool) (stage : Stage) → is_absent (cond out Waits (stage_wants chunk job stage)) ≡ true → ⊥
 stage_some chunk job true stage absent = false≢true absent

@@ -3,6 +3,7 @@ pub mod Kept
 pub mod ReadOnly
 pub mod Told
 pub mod ToldBits
+pub mod ToldDiskBits
 pub mod Used
 pub mod UsedBits
 mod Rows

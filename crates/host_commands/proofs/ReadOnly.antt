@@ -1,5 +1,5 @@
 -- Nothing asked of a read-only logical unit changes blocks. Cited by the law `read_only_is_kept`.
-use Rattle.std.proofs.Common.{◌≡◌, ℕ, ◌+◌, ◌^◌, ◌%◌, ◌==◌, Bool, true, false, cond, ◌||◌, List, Option, Some, None, Result, Ok, Err, IfOk, refl, sym, subst}
+use Rattle.std.proofs.Common.{◌≡◌, ℕ, ◌+◌, ◌/◌, ◌^◌, ◌%◌, ◌==◌, Bool, true, false, cond, ◌||◌, List, Option, Some, None, Result, Ok, Err, IfOk, refl, sym, subst}
 use Rattle.std.specs.Prelude.{nat_lt, nat_le, slice_index}
 use Rattle.scsi_cmd.specs.declared.Op.{Op}
 use Rattle.scsi_cmd.specs.declared.Sense.{Sense}
@@ -21,14 +21,17 @@ use Rattle.disk_units.specs.declared.names.UnitNames.{UnitNames}
 use Rattle.host_commands.specs.declared.UnitAttention.{UnitAttention}
 use Rattle.host_commands.specs.declared.VitalPage.{VitalPage}
 use Rattle.host_commands.specs.declared.Work.{Work}
-use Rattle.host_commands.specs.declared.Work.TheVariants.{Nothing, Gives, Reads, Writes, Synchronizes, Verifies, Compares}
-use Rattle.host_commands.specs.declared.Data.TheVariants.{LogicalUnits, OperationCodes, OperationCode, TaskManagementFunctions}
+use Rattle.host_commands.specs.declared.Work.TheVariants.{Nothing, Gives, Reads, Writes, Synchronizes, Verifies, Compares, WritesAndVerifies}
+use Rattle.host_commands.specs.declared.Data.TheVariants.{LogicalUnits, OperationCodes, OperationCode, DiskOperationCodes, DiskOperationCode, TaskManagementFunctions}
+use Rattle.host_commands.specs.declared.DiskCommand.{DiskCommand}
+use Rattle.host_commands.specs.declared.DiskCommand.TheVariants.{Host as HostOne, SendDiagnostic, PreFetch10, PreFetch16, WriteAndVerify10, WriteAndVerify12, WriteAndVerify16}
+use Rattle.host_commands.specs.DiskCommands.{asks_for_naca, named_in_disk}
 use Rattle.host_commands.specs.declared.ModeForm.TheVariants.{Six, Ten}
 use Rattle.host_commands.specs.Commands.{has_service_actions, named_command}
-use Rattle.host_commands.specs.OperationCodes.{named_action, named_either}
+use Rattle.host_commands.specs.OperationCodes.{disk_action, disk_either, named_action, named_either}
 use Rattle.host_commands.specs.Fields.{action_in, code_in, short_extent, sixteen_extent, ten_extent, twelve_extent}
 use Rattle.host_commands.specs.Laws.{ReadOnlyIsKept}
-use Rattle.host_commands.specs.Meaning.{asked_of, codes_asked, command_asked, disk_command_asked, disk_named_asked, disk_page_asked, goes_through, one_code, report_luns_asked, in_range, inquiry_asked, mode_sense_asked, named_asked, page_asked, pages_asked, reads, synchronizes, transferred, verifies, writes}
+use Rattle.host_commands.specs.Meaning.{asked_of, codes_asked, command_asked, disk_codes_asked, disk_command_asked, disk_named_asked, disk_page_asked, host_asked_in_disk, one_disk_code, uncached, uncached_if, goes_through, one_code, report_luns_asked, in_range, inquiry_asked, mode_sense_asked, named_asked, page_asked, pages_asked, reads, synchronizes, transferred, verifies, writes, writes_and_verifies}
 use Rattle.host_commands.specs.Profile.{profile_work, profile_works}
 use Rattle.host_commands.specs.Protection.{allowed, changes_blocks, write_protected}
 use Rattle.host_commands.specs.Shapes.{Shape}
@@ -160,17 +163,74 @@ disk-page-keeps : (present : Bool) (allocation : ℕ) (page : Option DiskPage) �
 disk-page-keeps present allocation None = refused _
 disk-page-keeps present allocation (Some page) = done _ refl
 
-disk-command-keeps : (command : HostCommand) (cdb : List ℕ) (shape : Shape) (count : ℕ) (attention : Option UnitAttention) → shape.read_only ≡ true
-    → Keeps (disk_command_asked command cdb shape count attention)
-disk-command-keeps Inquiry cdb shape count attention is =
-    one_of _ _ _ (disk-page-keeps true _ _) (one_of _ _ _ (done _ refl) (refused _))
-disk-command-keeps ReadCapacity16 cdb shape count attention is = one_of _ _ _ (refused _) (done _ refl)
-disk-command-keeps command cdb shape count attention is = command-keeps command cdb shape.disk.most shape count attention is
+disk-code-keeps : (allocation : ℕ) (timeouts : Bool) (command : Option DiskCommand) → Keeps (one_disk_code allocation timeouts command)
+disk-code-keeps allocation timeouts command = done (Gives (DiskOperationCode command timeouts) allocation) refl
 
-disk-named-keeps : (command : Option HostCommand) (cdb : List ℕ) (shape : Shape) (count : ℕ) (attention : Option UnitAttention) → shape.read_only ≡ true
+disk-codes-keeps : (option code action allocation : ℕ) (timeouts : Bool) → Keeps (disk_codes_asked option code action allocation timeouts)
+disk-codes-keeps option code action allocation timeouts =
+    let fault : Result Work Sense = Err invalid_field_in_cdb in
+    let plain : Result Work Sense = cond (has_service_actions code) fault (one_disk_code allocation timeouts (named_in_disk code 0)) in
+    let acting : Result Work Sense = cond (has_service_actions code) (one_disk_code allocation timeouts (disk_action code action)) fault in
+    let either : Result Work Sense = cond (option == 3) (one_disk_code allocation timeouts (disk_either code action)) fault in
+    one_of (option == 0) (Ok (Gives (DiskOperationCodes timeouts) allocation)) (cond (option == 1) plain (cond (option == 2) acting either))
+    (done (Gives (DiskOperationCodes timeouts) allocation) refl)
+    (one_of (option == 1) plain (cond (option == 2) acting either)
+    (one_of (has_service_actions code) fault (one_disk_code allocation timeouts (named_in_disk code 0)) (refused invalid_field_in_cdb)
+    (disk-code-keeps allocation timeouts (named_in_disk code 0)))
+    (one_of (option == 2) acting either
+    (one_of (has_service_actions code) (one_disk_code allocation timeouts (disk_action code action)) fault
+    (disk-code-keeps allocation timeouts (disk_action code action)) (refused invalid_field_in_cdb))
+    (one_of (option == 3) (one_disk_code allocation timeouts (disk_either code action)) fault
+    (disk-code-keeps allocation timeouts (disk_either code action)) (refused invalid_field_in_cdb))))
+
+host-in-disk-keeps : (command : HostCommand) (cdb : List ℕ) (shape : Shape) (count : ℕ) (attention : Option UnitAttention) → shape.read_only ≡ true
+    → Keeps (host_asked_in_disk command cdb shape count attention)
+host-in-disk-keeps Inquiry cdb shape count attention is =
+    one_of _ _ _ (disk-page-keeps true _ _) (one_of _ _ _ (done _ refl) (refused _))
+host-in-disk-keeps ReadCapacity16 cdb shape count attention is = one_of _ _ _ (refused _) (done _ refl)
+host-in-disk-keeps ReportSupportedOperationCodes cdb shape count attention is =
+    disk-codes-keeps (slice_index cdb 2 % 2 ^ 3) (slice_index cdb 3) (field_of_two cdb 4) (field_of_four cdb 6) (is_bit_set (slice_index cdb 2) 7)
+host-in-disk-keeps command cdb shape count attention is = command-keeps command cdb shape.disk.most shape count attention is
+
+-- without a cache a work changes blocks just where it does with one
+uncached-changes : (work : Work) → changes_blocks work ≡ false → changes_blocks (uncached work) ≡ false
+uncached-changes Nothing is = is
+uncached-changes (Gives given allocation) is = refl
+uncached-changes (Reads lba count) is = is
+uncached-changes (Writes lba count through) is = is
+uncached-changes (Synchronizes lba count) is = is
+uncached-changes (Verifies lba count) is = is
+uncached-changes (Compares lba count) is = is
+uncached-changes (WritesAndVerifies lba count compares) is = is
+
+uncached-keeps : (write_through : Bool) (asked : Result Work Sense) → Keeps asked → Keeps (uncached_if write_through asked)
+uncached-keeps false asked keeps = keeps
+uncached-keeps true (Ok work) keeps = done (uncached work) (uncached-changes work keeps.so)
+uncached-keeps true (Err sense) keeps = refused sense
+
+-- a WRITE AND VERIFY on a read-only one
+writes-and-verifies-keeps : (cdb : List ℕ) (extent : Extent) (shape : Shape) → shape.read_only ≡ true → Keeps (writes_and_verifies cdb extent shape)
+writes-and-verifies-keeps cdb extent shape is =
+    one_of _ _ _ (refused _)
+    (subst (λ read_only. Keeps (cond read_only (Err write_protected) (in_range shape.blocks extent.lba extent.count (WritesAndVerifies extent.lba extent.count (slice_index cdb 1 / 2 % 4 == 1)))))
+    (sym is) (refused _))
+
+disk-command-keeps : (command : DiskCommand) (cdb : List ℕ) (shape : Shape) (count : ℕ) (attention : Option UnitAttention) → shape.read_only ≡ true
+    → Keeps (disk_command_asked command cdb shape count attention)
+disk-command-keeps (HostOne command) cdb shape count attention is =
+    uncached-keeps shape.disk.write_through (host_asked_in_disk command cdb shape count attention) (host-in-disk-keeps command cdb shape count attention is)
+disk-command-keeps SendDiagnostic cdb shape count attention is = one_of _ _ _ (refused _) (done _ refl)
+disk-command-keeps WriteAndVerify10 cdb shape count attention is = writes-and-verifies-keeps cdb (ten_extent cdb) shape is
+disk-command-keeps WriteAndVerify16 cdb shape count attention is = writes-and-verifies-keeps cdb (sixteen_extent cdb) shape is
+disk-command-keeps WriteAndVerify12 cdb shape count attention is = writes-and-verifies-keeps cdb (twelve_extent cdb) shape is
+disk-command-keeps PreFetch10 cdb shape count attention is = in_range-keeps shape.blocks (ten_extent cdb).lba (ten_extent cdb).count Nothing refl
+disk-command-keeps PreFetch16 cdb shape count attention is = in_range-keeps shape.blocks (sixteen_extent cdb).lba (sixteen_extent cdb).count Nothing refl
+
+disk-named-keeps : (command : Option DiskCommand) (cdb : List ℕ) (shape : Shape) (count : ℕ) (attention : Option UnitAttention) → shape.read_only ≡ true
     → Keeps (disk_named_asked command cdb shape count attention)
 disk-named-keeps None cdb shape count attention is = refused _
-disk-named-keeps (Some command) cdb shape count attention is = disk-command-keeps command cdb shape count attention is
+disk-named-keeps (Some command) cdb shape count attention is =
+    one_of (asks_for_naca cdb) _ _ (refused _) (disk-command-keeps command cdb shape count attention is)
 
 -- THE PROFILE'S SET
 
@@ -182,6 +242,7 @@ allowed-keeps (Writes lba count through) = refused _
 allowed-keeps (Synchronizes lba count) = done _ refl
 allowed-keeps (Verifies lba count) = done _ refl
 allowed-keeps (Compares lba count) = done _ refl
+allowed-keeps (WritesAndVerifies lba count compares) = refused _
 
 works-keeps : (asks : Result Op Sense) (shape : Shape) → shape.read_only ≡ true → Keeps (profile_works shape asks)
 works-keeps (Ok op) shape is = subst (λ read_only. Keeps (allowed read_only (profile_work op shape))) (sym is) (allowed-keeps (profile_work op shape))
@@ -192,4 +253,4 @@ unfolding asked_of
 kept cdb Profile shape count attention is = (works-keeps (asked cdb shape.blocks) shape is).so
 kept cdb (Host maximum) shape count attention is =
     (named-keeps (named_command (code_in cdb) (action_in cdb)) cdb maximum shape count attention is).so
-kept cdb Disk shape count attention is = (disk-named-keeps (named_command (code_in cdb) (action_in cdb)) cdb shape count attention is).so
+kept cdb Disk shape count attention is = (disk-named-keeps (named_in_disk (code_in cdb) (action_in cdb)) cdb shape count attention is).so

@@ -1,14 +1,14 @@
 -- Worked rows of the host set: what the definitions give, byte by byte.
-use Rattle.std.proofs.Common.{◌≡◌, ℕ, false, true, List, [], ◌∷◌, ◌++◌, codes, Some, None, Result, Ok, Err, refl}
+use Rattle.std.proofs.Common.{◌≡◌, ℕ, false, true, List, [], ◌∷◌, ◌++◌, replicate, codes, Some, None, Result, Ok, Err, refl}
 use Rattle.scsi_cmd.specs.declared.Sense.{Sense}
 use Rattle.scsi_cmd.specs.Fields.{zeros}
-use Rattle.scsi_cmd.specs.Sense.{invalid_field_in_cdb}
+use Rattle.scsi_cmd.specs.Sense.{invalid_field_in_cdb, invalid_operation_code, out_of_range}
 use Rattle.host_commands.specs.Protection.{write_protected}
 use Rattle.host_commands.specs.declared.BlockLength.TheVariants.{Bytes512}
 use Rattle.host_commands.specs.declared.CommandSet.TheVariants.{Host, Disk}
 use Rattle.host_commands.specs.declared.UnitAttention.TheVariants.{Reset}
 use Rattle.host_commands.specs.declared.Work.{Work}
-use Rattle.host_commands.specs.declared.Work.TheVariants.{Nothing, Gives, Reads, Writes, Synchronizes, Verifies, Compares}
+use Rattle.host_commands.specs.declared.Work.TheVariants.{Nothing, Gives, Reads, Writes, Synchronizes, Verifies, Compares, WritesAndVerifies}
 use Rattle.disk_units.specs.Data.{disk_page_bytes, inquiry_data}
 use Rattle.disk_units.specs.Units.{usual_unit}
 use Rattle.host_commands.specs.Data.{given_bytes}
@@ -37,6 +37,7 @@ bytes_told (Ok (Writes lba count through)) = []
 bytes_told (Ok (Synchronizes lba count)) = []
 bytes_told (Ok (Verifies lba count)) = []
 bytes_told (Ok (Compares lba count)) = []
+bytes_told (Ok (WritesAndVerifies lba count compares)) = []
 bytes_told (Err sense) = []
 
 -- INQUIRY of page B0h, allocation length 64
@@ -179,3 +180,69 @@ disk_caching : bytes_told (asked_of ((0x1a ∷ 0 ∷ 8 ∷ 0 ∷ 255 ∷ []) ++ 
     ≡ (0x1f ∷ 0 ∷ 0x90 ∷ 8 ∷ 0 ∷ 1 ∷ 0 ∷ 0 ∷ 0 ∷ 0 ∷ 2 ∷ 0 ∷ 8 ∷ 0x12 ∷ 4 ∷ []) ++ zeros 17
 unfolding asked_of mode_bytes read_only_disk disk
 disk_caching = refl
+
+-- THE DISK SET
+
+-- PRE-FETCH(10) of two blocks from 98 on; with NACA; from 99 on
+pre_fetch : asked_of ((0x34 ∷ 0 ∷ 0 ∷ 0 ∷ 0 ∷ 98 ∷ 0 ∷ 0 ∷ 2 ∷ 0 ∷ []) ++ zeros 6) Disk disk 3 None ≡ Ok Nothing
+unfolding asked_of disk
+pre_fetch = refl
+
+with_naca : asked_of ((0x34 ∷ 0 ∷ 0 ∷ 0 ∷ 0 ∷ 98 ∷ 0 ∷ 0 ∷ 2 ∷ 4 ∷ []) ++ zeros 6) Disk disk 3 None ≡ Err invalid_field_in_cdb
+unfolding asked_of disk
+with_naca = refl
+
+past_the_end : asked_of ((0x34 ∷ 0 ∷ 0 ∷ 0 ∷ 0 ∷ 99 ∷ 0 ∷ 0 ∷ 2 ∷ 0 ∷ []) ++ zeros 6) Disk disk 3 None ≡ Err out_of_range
+unfolding asked_of disk
+past_the_end = refl
+
+-- in the host set there is none, and NACA isn't looked at
+no_pre_fetch : asked_of ((0x34 ∷ 0 ∷ 0 ∷ 0 ∷ 0 ∷ 98 ∷ 0 ∷ 0 ∷ 2 ∷ 0 ∷ []) ++ zeros 6) (Host 128) disk 3 None ≡ Err invalid_operation_code
+unfolding asked_of disk
+no_pre_fetch = refl
+
+-- SEND DIAGNOSTIC of the default self-test, and of another
+self_test : asked_of ((0x1d ∷ 4 ∷ 0 ∷ 0 ∷ 0 ∷ 0 ∷ []) ++ zeros 10) Disk disk 3 None ≡ Ok Nothing
+unfolding asked_of disk
+self_test = refl
+
+other_test : asked_of ((0x1d ∷ 0x24 ∷ 0 ∷ 0 ∷ 0 ∷ 0 ∷ []) ++ zeros 10) Disk disk 3 None ≡ Err invalid_field_in_cdb
+unfolding asked_of disk
+other_test = refl
+
+-- its usage data, and PRE-FETCH(16)'s
+pre_fetch_told : bytes_told (asked_of ((0xa3 ∷ 0x0c ∷ 1 ∷ 0x90 ∷ 0 ∷ 0 ∷ 0 ∷ 0 ∷ 1 ∷ 0 ∷ []) ++ zeros 6) Disk disk 3 None)
+    ≡ (0 ∷ 3 ∷ 0 ∷ 0x10 ∷ 0x90 ∷ 0 ∷ []) ++ replicate 12 0xff ++ (0 ∷ 4 ∷ [])
+unfolding asked_of disk
+pre_fetch_told = refl
+
+diagnostic_told : bytes_told (asked_of ((0xa3 ∷ 0x0c ∷ 1 ∷ 0x1d ∷ 0 ∷ 0 ∷ 0 ∷ 0 ∷ 1 ∷ 0 ∷ []) ++ zeros 6) Disk disk 3 None)
+    ≡ 0 ∷ 3 ∷ 0 ∷ 6 ∷ 0x1d ∷ 0xf3 ∷ 0 ∷ 0xff ∷ 0xff ∷ 4 ∷ []
+unfolding asked_of disk
+diagnostic_told = refl
+
+-- one that is written through: its caching page, and a WRITE(10) without FUA
+through_disk : Shape
+through_disk = record disk { disk = record usual_unit { write_through = true } }
+
+uncached_page : bytes_told (asked_of ((0x1a ∷ 0 ∷ 8 ∷ 0 ∷ 255 ∷ []) ++ zeros 11) Disk through_disk 3 None)
+    ≡ (0x1f ∷ 0 ∷ 0x10 ∷ 8 ∷ 0 ∷ 0 ∷ 0 ∷ 0x64 ∷ 0 ∷ 0 ∷ 2 ∷ 0 ∷ 8 ∷ 0x12 ∷ 0 ∷ []) ++ zeros 17
+unfolding asked_of mode_bytes through_disk disk
+uncached_page = refl
+
+written_through : asked_of ((0x2a ∷ 0 ∷ 0 ∷ 0 ∷ 0 ∷ 8 ∷ 0 ∷ 0 ∷ 2 ∷ 0 ∷ []) ++ zeros 6) Disk through_disk 3 None ≡ Ok (Writes 8 2 true)
+unfolding asked_of through_disk disk
+written_through = refl
+
+-- WRITE AND VERIFY(10) of two blocks from 8 on with BYTCHK 1, and with 2; (12) of a read-only one
+compared : asked_of ((0x2e ∷ 2 ∷ 0 ∷ 0 ∷ 0 ∷ 8 ∷ 0 ∷ 0 ∷ 2 ∷ 0 ∷ []) ++ zeros 6) Disk disk 3 None ≡ Ok (WritesAndVerifies 8 2 true)
+unfolding asked_of disk
+compared = refl
+
+check_of_two : asked_of ((0x2e ∷ 4 ∷ 0 ∷ 0 ∷ 0 ∷ 8 ∷ 0 ∷ 0 ∷ 2 ∷ 0 ∷ []) ++ zeros 6) Disk disk 3 None ≡ Err invalid_field_in_cdb
+unfolding asked_of disk
+check_of_two = refl
+
+protected_from : asked_of ((0xae ∷ 0 ∷ 0 ∷ 0 ∷ 0 ∷ 8 ∷ 0 ∷ 0 ∷ 0 ∷ 2 ∷ []) ++ zeros 6) Disk read_only_disk 3 None ≡ Err write_protected
+unfolding asked_of read_only_disk disk
+protected_from = refl

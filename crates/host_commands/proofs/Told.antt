@@ -1,5 +1,5 @@
 -- What a host is told. Cited by the law `lists_are_true`.
-use Rattle.std.proofs.Common.{◌≡◌, ℕ, ◌/◌, ◌^◌, ◌==◌, Bool, true, false, cond, ◌||◌, Option, Some, None, IfSome, is_some, drop, length, refl, sym, arith, length-append}
+use Rattle.std.proofs.Common.{◌≡◌, ℕ, ◌/◌, ◌^◌, ◌==◌, Bool, true, false, cond, ◌||◌, Option, Some, None, IfSome, is_some, option_map, drop, length, refl, sym, arith, length-append}
 use Rattle.std.proofs.lemmas.Bool.{eqb-true}
 use Rattle.host_commands.specs.declared.HostCommand.{HostCommand}
 use Rattle.host_commands.specs.declared.HostCommand.TheVariants.{TestUnitReady, RequestSense, Read6, Write6, Inquiry, ModeSense6, StartStopUnit, ReadCapacity10}
@@ -13,7 +13,10 @@ use Rattle.host_commands.specs.Commands.{of_maintenance, of_six, of_sixteen, of_
 use Rattle.disk_units.specs.declared.names.UnitNames.{UnitNames}
 use Rattle.disk_units.specs.Names.{AreNames}
 use Rattle.host_commands.specs.Pages.{page_bytes}
-use Rattle.host_commands.specs.Told.{IsTold, PagesAreListed, PagesTellThemselves, TakenAreTold, TellsItself, ToldAreTaken}
+use Rattle.host_commands.specs.declared.DiskCommand.{DiskCommand}
+use Rattle.host_commands.specs.declared.DiskCommand.TheVariants.{Host as HostOne, SendDiagnostic, PreFetch10, PreFetch16, WriteAndVerify10, WriteAndVerify12, WriteAndVerify16}
+use Rattle.host_commands.specs.Commands.{named_command}
+use Rattle.host_commands.specs.Told.{DiskTakenAreTold, DiskToldAreTaken, IsTold, IsToldInDisk, PagesAreListed, PagesTellThemselves, TakenAreTold, TellsItself, ToldAreTaken, is_told_in_disk}
 
 -- PAGES
 
@@ -126,3 +129,81 @@ told_taken ReportSupportedTaskManagementFunctions = refl
 told_taken Read12 = refl
 told_taken Write12 = refl
 told_taken Verify12 = refl
+
+-- THE DISK SET
+
+told_too : (command : HostCommand) → is_told_in_disk (HostOne command) ≡ true
+told_too TestUnitReady = refl
+told_too RequestSense = refl
+told_too Read6 = refl
+told_too Write6 = refl
+told_too Inquiry = refl
+told_too ModeSense6 = refl
+told_too StartStopUnit = refl
+told_too ReadCapacity10 = refl
+told_too Read10 = refl
+told_too Write10 = refl
+told_too Verify10 = refl
+told_too SynchronizeCache10 = refl
+told_too ModeSense10 = refl
+told_too Read16 = refl
+told_too Write16 = refl
+told_too Verify16 = refl
+told_too SynchronizeCache16 = refl
+told_too ReadCapacity16 = refl
+told_too ReportLuns = refl
+told_too ReportSupportedOperationCodes = refl
+told_too ReportSupportedTaskManagementFunctions = refl
+told_too Read12 = refl
+told_too Write12 = refl
+told_too Verify12 = refl
+
+host_told : (code : ℕ) (command : Option HostCommand) → IfSome command (IsTold code) → IfSome (option_map HostOne command) (IsToldInDisk code)
+host_told code None told = told
+host_told code (Some command) told = (told.0, told_too command)
+
+named_in : (code one : ℕ) (command : DiskCommand) (rest : Option DiskCommand) → IsToldInDisk one command → IfSome rest (IsToldInDisk code)
+    → IfSome (cond (code == one) (Some command) rest) (IsToldInDisk code)
+named_in code one command rest so others =
+    elim (code == one) as (λ b. code == one ≡ b → IfSome (cond b (Some command) rest) (IsToldInDisk code)) [
+      | true ↦ λ is. rw (eqb-true code one is) so
+      | false ↦ λ is. others
+    ] refl
+
+pub disk_taken_told : DiskTakenAreTold
+disk_taken_told code action =
+    named_in code 0x1d SendDiagnostic _ (refl, refl) (named_in code 0x2e WriteAndVerify10 _ (refl, refl) (named_in code 0x34 PreFetch10 _ (refl, refl)
+    (named_in code 0x8e WriteAndVerify16 _ (refl, refl) (named_in code 0x90 PreFetch16 _ (refl, refl) (named_in code 0xae WriteAndVerify12 _ (refl, refl)
+    (host_told code (named_command code action) (taken_told code action)))))))
+
+pub disk_told_taken : DiskToldAreTaken
+disk_told_taken (HostOne TestUnitReady) = refl
+disk_told_taken (HostOne RequestSense) = refl
+disk_told_taken (HostOne Read6) = refl
+disk_told_taken (HostOne Write6) = refl
+disk_told_taken (HostOne Inquiry) = refl
+disk_told_taken (HostOne ModeSense6) = refl
+disk_told_taken (HostOne StartStopUnit) = refl
+disk_told_taken (HostOne ReadCapacity10) = refl
+disk_told_taken (HostOne Read10) = refl
+disk_told_taken (HostOne Write10) = refl
+disk_told_taken (HostOne Verify10) = refl
+disk_told_taken (HostOne SynchronizeCache10) = refl
+disk_told_taken (HostOne ModeSense10) = refl
+disk_told_taken (HostOne Read16) = refl
+disk_told_taken (HostOne Write16) = refl
+disk_told_taken (HostOne Verify16) = refl
+disk_told_taken (HostOne SynchronizeCache16) = refl
+disk_told_taken (HostOne ReadCapacity16) = refl
+disk_told_taken (HostOne ReportLuns) = refl
+disk_told_taken (HostOne ReportSupportedOperationCodes) = refl
+disk_told_taken (HostOne ReportSupportedTaskManagementFunctions) = refl
+disk_told_taken (HostOne Read12) = refl
+disk_told_taken (HostOne Write12) = refl
+disk_told_taken (HostOne Verify12) = refl
+disk_told_taken SendDiagnostic = refl
+disk_told_taken PreFetch10 = refl
+disk_told_taken PreFetch16 = refl
+disk_told_taken WriteAndVerify10 = refl
+disk_told_taken WriteAndVerify12 = refl
+disk_told_taken WriteAndVerify16 = refl

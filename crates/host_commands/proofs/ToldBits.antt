@@ -9,7 +9,10 @@ use Rattle.host_commands.specs.declared.BlockLength.TheVariants.{Bytes512}
 use Rattle.host_commands.specs.declared.CommandSet.TheVariants.{Host}
 use Rattle.host_commands.specs.declared.Data.{Data}
 use Rattle.host_commands.specs.declared.Data.TheVariants.{Inquiry as InquiryData, VitalProductData, RequestSense as SenseData, LogicalUnits, Mode, OperationCodes}
-use Rattle.host_commands.specs.declared.Data.TheVariants.{OperationCode, TaskManagementFunctions, Capacity, LongCapacity, Disk as DiskSet}
+use Rattle.host_commands.specs.declared.Data.TheVariants.{OperationCode, DiskOperationCodes, DiskOperationCode, TaskManagementFunctions, Capacity, LongCapacity, Disk as DiskSet}
+use Rattle.disk_units.specs.declared.pages.DiskData.{DiskData}
+use Rattle.disk_units.specs.declared.pages.DiskData.TheVariants.{Inquiry as DiskInquiry, Page as DiskPageData, LongCapacity as DiskCapacity}
+use Rattle.host_commands.specs.declared.DiskCommand.{DiskCommand}
 use Rattle.host_commands.specs.declared.HostCommand.{HostCommand}
 use Rattle.host_commands.specs.declared.HostCommand.TheVariants.{TestUnitReady, RequestSense, Read6, Write6, Inquiry, ModeSense6, StartStopUnit, ReadCapacity10}
 use Rattle.host_commands.specs.declared.HostCommand.TheVariants.{Read10, Write10, Verify10, SynchronizeCache10, ModeSense10, Read16, Write16, Verify16}
@@ -18,12 +21,12 @@ use Rattle.host_commands.specs.declared.HostCommand.TheVariants.{ReportSupported
 use Rattle.host_commands.specs.declared.ModePages.{ModePages}
 use Rattle.host_commands.specs.declared.ModePages.TheVariants.{Caching, Control, All}
 use Rattle.host_commands.specs.declared.Work.{Work}
-use Rattle.host_commands.specs.declared.Work.TheVariants.{Nothing, Gives, Reads, Writes, Synchronizes, Verifies, Compares}
+use Rattle.host_commands.specs.declared.Work.TheVariants.{Nothing, Gives, Reads, Writes, Synchronizes, Verifies, Compares, WritesAndVerifies}
 use Rattle.host_commands.specs.Fields.{action_in, code_in}
 use Rattle.host_commands.specs.Meaning.{asked_of}
 use Rattle.host_commands.specs.OperationCodes.{action_of}
 use Rattle.host_commands.specs.Shapes.{Shape, plain_shape}
-use Rattle.host_commands.specs.Told.{code_of}
+use Rattle.host_commands.specs.Told.{code_of, disk_code_of}
 use Rattle.host_commands.specs.Usage.{IsLookedAt, ToldBitsAreRead, is_of_name, is_read, with_bit}
 
 -- WHAT IS ASKED, AS NUMBERS
@@ -35,6 +38,15 @@ one_if false = 0
 abbrev command_number : Option HostCommand → ℕ
 command_number None = 0
 command_number (Some command) = 1 + code_of command
+
+abbrev disk_number : Option DiskCommand → ℕ
+disk_number None = 0
+disk_number (Some command) = 1 + disk_code_of command
+
+abbrev disk_data_number : DiskData → ℕ
+disk_data_number (DiskInquiry present removable names) = 0
+disk_data_number (DiskPageData page present) = 1
+disk_data_number (DiskCapacity last_block block_bytes exponent thin) = 2
 
 abbrev pages_number : ModePages → ℕ
 pages_number Caching = 0
@@ -52,9 +64,11 @@ data_numbers (OperationCode command timeouts) = 6 ∷ command_number command ∷
 data_numbers (TaskManagementFunctions extended) = 7 ∷ one_if extended ∷ []
 data_numbers (Capacity last_block block_length) = 8 ∷ []
 data_numbers (LongCapacity last_block block_length) = 9 ∷ []
-data_numbers (DiskSet given) = 10 ∷ []
+data_numbers (DiskSet given) = 10 ∷ disk_data_number given ∷ []
+data_numbers (DiskOperationCodes timeouts) = 11 ∷ one_if timeouts ∷ []
+data_numbers (DiskOperationCode command timeouts) = 12 ∷ disk_number command ∷ []
 
-abbrev numbers : Result Work Sense → List ℕ
+abbrev pub numbers : Result Work Sense → List ℕ
 numbers (Ok Nothing) = 0 ∷ []
 numbers (Ok (Gives given allocation)) = 1 ∷ allocation ∷ data_numbers given
 numbers (Ok (Reads lba count)) = 2 ∷ lba ∷ count ∷ []
@@ -62,9 +76,10 @@ numbers (Ok (Writes lba count through)) = 3 ∷ lba ∷ count ∷ one_if through
 numbers (Ok (Synchronizes lba count)) = 4 ∷ lba ∷ count ∷ []
 numbers (Ok (Verifies lba count)) = 5 ∷ lba ∷ count ∷ []
 numbers (Ok (Compares lba count)) = 6 ∷ lba ∷ count ∷ []
+numbers (Ok (WritesAndVerifies lba count compares)) = 8 ∷ lba ∷ count ∷ one_if compares ∷ []
 numbers (Err sense) = 7 ∷ []
 
-abbrev are_same : List ℕ → List ℕ → Bool
+abbrev pub are_same : List ℕ → List ℕ → Bool
 are_same [] [] = true
 are_same [] (y ∷ ys) = false
 are_same (x ∷ xs) [] = false
@@ -92,7 +107,7 @@ select place bit = if place == 2 && bit == 1 then 1 else 0
 abbrev reporting : ℕ → ℕ
 reporting place = if place == 3 then 1 else (if place == 4 || place == 5 then 3 else 0)
 
-abbrev cdb_for : HostCommand → ℕ → ℕ → List ℕ
+abbrev pub cdb_for : HostCommand → ℕ → ℕ → List ℕ
 cdb_for ModeSense6 place bit = slice_set (plain ModeSense6) 2 (mode_page place bit)
 cdb_for ModeSense10 place bit = slice_set (plain ModeSense10) 2 (mode_page place bit)
 cdb_for ReportLuns place bit = slice_set (slice_set (plain ReportLuns) 2 (select place bit)) 9 (least_room place bit)
@@ -109,7 +124,7 @@ answer cdb = asked_of cdb (Host 256) unit 1 None
 
 -- TRIED BIT BY BIT
 
-abbrev all_below : ℕ → (ℕ → Bool) → Bool
+abbrev pub all_below : ℕ → (ℕ → Bool) → Bool
 all_below zero f = true
 all_below (suc n) f = f n && all_below n f
 
@@ -159,16 +174,16 @@ tried Verify12 = refl
 
 -- AND READ BACK
 
-both : (a b : Bool) → (a && b) ≡ true → (a ≡ true) × (b ≡ true)
+pub both : (a b : Bool) → (a && b) ≡ true → (a ≡ true) × (b ≡ true)
 both true true is = (refl, refl)
 both true false is = (refl, is)
 both false b is = let no : false ≡ true = is in absurd (cc)
 
-denied : (b : Bool) → not b ≡ true → b ≡ false
+pub denied : (b : Bool) → not b ≡ true → b ≡ false
 denied true is = let no : false ≡ true = is in absurd (cc)
 denied false is = refl
 
-below_all : (n : ℕ) (f : ℕ → Bool) (k : ℕ) → all_below n f ≡ true → k < n → f k ≡ true
+pub below_all : (n : ℕ) (f : ℕ → Bool) (k : ℕ) → all_below n f ≡ true → k < n → f k ≡ true
 below_all zero f k all below = absurd (omega (arith, below))
 below_all (suc n) f k all below =
     let parts = both (f n) (all_below n f) all in
@@ -184,13 +199,13 @@ same_itself (x ∷ xs) = rw (equal x, same_itself xs) refl
     equal : (n : ℕ) → (n == n) ≡ true
     equal n = eq-eqb n n refl
 
-different : (one other : Result Work Sense) → are_same (numbers one) (numbers other) ≡ false → one ≢ other
+pub different : (one other : Result Work Sense) → are_same (numbers one) (numbers other) ≡ false → one ≢ other
 different one other apart same =
     let yes : are_same (numbers one) (numbers other) ≡ true =
     ap (λ (a : Result Work Sense). are_same (numbers one) (numbers a)) (sym same) ∙ same_itself (numbers one) in
     let no : false ≡ true = sym apart ∙ yes in absurd (cc)
 
-small : (cdb : List ℕ) → length cdb ≡ 16 → all_below 16 (λ place. nat_lt (slice_index cdb place) (2 ^ 8)) ≡ true → (place : ℕ) → slice_index cdb place < 2 ^ 8
+pub small : (cdb : List ℕ) → length cdb ≡ 16 → all_below 16 (λ place. nat_lt (slice_index cdb place) (2 ^ 8)) ≡ true → (place : ℕ) → slice_index cdb place < 2 ^ 8
 small cdb size all place =
     elim (cases_lt place 16) [
       | inl lt ↦ ltb-true (slice_index cdb place) (2 ^ 8) (below_all 16 (λ at. nat_lt (slice_index cdb at) (2 ^ 8)) place all lt)
@@ -222,7 +237,7 @@ shown command place bit is =
       differs = different (answer cdb) (answer (with_bit cdb place bit)) (denied changed rest.1);
     }
 
-left_to_try : (read named tried : Bool) → ((not read || named) || tried) ≡ true → read ≡ true → named ≡ false → tried ≡ true
+pub left_to_try : (read named tried : Bool) → ((not read || named) || tried) ≡ true → read ≡ true → named ≡ false → tried ≡ true
 left_to_try true false tried is reads unnamed = is
 left_to_try true true tried is reads unnamed = let no : true ≡ false = unnamed in absurd (cc)
 left_to_try false named tried is reads unnamed = let no : false ≡ true = reads in absurd (cc)

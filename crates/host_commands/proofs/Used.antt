@@ -182,8 +182,11 @@ start_same one other pair =
     high_four x y (pair.agree 4 4 (omega arith) refl) (high_three x y (pair.agree 4 5 (omega arith) refl) high) in
     three start_by s1 power (ap₂ ◌||◌ s0 s2)
 
-codes_same : (one other : List ℕ) → Pair ReportSupportedOperationCodes one other → operation_codes_asked one ≡ operation_codes_asked other
-codes_same one other pair =
+-- of whatever set
+pub codes_fields : (asked : ℕ → ℕ → ℕ → ℕ → Bool → Result Work Sense) (one other : List ℕ) → Pair ReportSupportedOperationCodes one other
+    → asked (slice_index one 2 % 2 ^ 3) (slice_index one 3) (field_of_two one 4) (field_of_four one 6) (is_bit_set (slice_index one 2) 7)
+    ≡ asked (slice_index other 2 % 2 ^ 3) (slice_index other 3) (field_of_two other 4) (field_of_four other 6) (is_bit_set (slice_index other 2) 7)
+codes_fields asked one other pair =
     let at = byte ReportSupportedOperationCodes one other pair (usage_of ReportSupportedOperationCodes) refl in
     let x : ℕ = slice_index one 2 in
     let y : ℕ = slice_index other 2 in
@@ -193,8 +196,11 @@ codes_same one other pair =
     let action : field_of_two one 4 ≡ field_of_two other 4 = two one other 4 (at 4 refl refl) (at 5 refl refl) in
     let allocation : field_of_four one 6 ≡ field_of_four other 6 =
     four one other 6 (two one other 6 (at 6 refl refl) (at 7 refl refl)) (two one other 8 (at 8 refl refl) (at 9 refl refl)) in
-    three (λ (o c a : ℕ). codes_asked o c a (field_of_four one 6) (is_bit_set x 7)) option (at 3 refl refl) action
-    ∙ ap₂ (codes_asked (y % 2 ^ 3) (slice_index other 3) (field_of_two other 4)) allocation timeouts
+    three (λ (o c a : ℕ). asked o c a (field_of_four one 6) (is_bit_set x 7)) option (at 3 refl refl) action
+    ∙ ap₂ (asked (y % 2 ^ 3) (slice_index other 3) (field_of_two other 4)) allocation timeouts
+
+codes_same : (one other : List ℕ) → Pair ReportSupportedOperationCodes one other → operation_codes_asked one ≡ operation_codes_asked other
+codes_same one other pair = codes_fields codes_asked one other pair
 
 abbrev functions_by : Bool → ℕ → Result Work Sense
 functions_by extended allocation =

@@ -7,7 +7,9 @@ use Rattle.host_commands.specs.declared.fields.Extent.{Extent}
 use Rattle.host_commands.specs.declared.HostCommand.{HostCommand}
 use Rattle.host_commands.specs.Commands.{usage_of}
 use Rattle.host_commands.specs.Fields.{sixteen_extent, ten_extent, twelve_extent}
-use Rattle.host_commands.specs.Usage.{AgreeWhereRead, IsCdbOf}
+use Rattle.host_commands.specs.declared.DiskCommand.{DiskCommand}
+use Rattle.host_commands.specs.DiskCommands.{disk_usage}
+use Rattle.host_commands.specs.Usage.{AgreeWhereRead, AgreeWhereReadInDisk, IsCdbOf, IsDiskCdbOf}
 
 -- BITS OF A BYTE
 
@@ -31,6 +33,13 @@ low_three x y s0 s1 s2 =
     let b1 : x / 2 ^ 1 % 2 ≡ y / 2 ^ 1 % 2 = number x y 1 s1 in
     let b2 : x / 2 ^ 2 % 2 ≡ y / 2 ^ 2 % 2 = number x y 2 s2 in
     omega (arith, b0, b1, b2)
+
+-- bits 1 and 0
+pub low_two : (x y : ℕ) → is_bit_set x 0 ≡ is_bit_set y 0 → is_bit_set x 1 ≡ is_bit_set y 1 → x % 2 ^ 2 ≡ y % 2 ^ 2
+low_two x y s0 s1 =
+    let b0 : x / 2 ^ 0 % 2 ≡ y / 2 ^ 0 % 2 = number x y 0 s0 in
+    let b1 : x / 2 ^ 1 % 2 ≡ y / 2 ^ 1 % 2 = number x y 1 s1 in
+    omega (arith, b0, b1)
 
 -- bits 2 and 1
 pub middle_two : (x y : ℕ) → is_bit_set x 1 ≡ is_bit_set y 1 → is_bit_set x 2 ≡ is_bit_set y 2 → x / 2 % 4 ≡ y / 2 % 4
@@ -70,20 +79,33 @@ high_four x y s4 high =
 joined : (x y : ℕ) → x % 2 ^ 5 ≡ y % 2 ^ 5 → x / 2 ^ 5 ≡ y / 2 ^ 5 → x ≡ y
 joined x y low high = omega (arith, low, high)
 
+-- bytes with the same bits
+pub all_bits : (x y : ℕ) → x < 2 ^ 8 → y < 2 ^ 8 → is_bit_set x 0 ≡ is_bit_set y 0 → is_bit_set x 1 ≡ is_bit_set y 1 → is_bit_set x 2 ≡ is_bit_set y 2
+    → is_bit_set x 3 ≡ is_bit_set y 3 → is_bit_set x 4 ≡ is_bit_set y 4 → is_bit_set x 5 ≡ is_bit_set y 5 → is_bit_set x 6 ≡ is_bit_set y 6
+    → is_bit_set x 7 ≡ is_bit_set y 7 → x ≡ y
+all_bits x y x_small y_small s0 s1 s2 s3 s4 s5 s6 s7 =
+    joined x y (low_five x y (low_three x y s0 s1 s2) s3 s4) (high_three x y s5 (high_two x y x_small y_small s6 s7))
+
 -- a byte of which all bits are told as used, and which isn't byte 1
 pub whole : (command : HostCommand) (one other : List ℕ) → IsCdbOf command one → IsCdbOf command other → AgreeWhereRead command one other
     → (place : ℕ) → slice_index (usage_of command) place ≡ 0xff → (place == 1) ≡ false → slice_index one place ≡ slice_index other place
 whole command one other first second agree place full behind =
-    let x : ℕ = slice_index one place in
-    let y : ℕ = slice_index other place in
-    let low : x % 2 ^ 3 ≡ y % 2 ^ 3 =
-    low_three x y (agree place 0 (omega arith) (rw (full, behind) refl)) (agree place 1 (omega arith) (rw (full, behind) refl))
-    (agree place 2 (omega arith) (rw (full, behind) refl)) in
-    let high : x / 2 ^ 6 ≡ y / 2 ^ 6 =
-    high_two x y (first.bytes place) (second.bytes place) (agree place 6 (omega arith) (rw (full, behind) refl))
-    (agree place 7 (omega arith) (rw (full, behind) refl)) in
-    joined x y (low_five x y low (agree place 3 (omega arith) (rw (full, behind) refl)) (agree place 4 (omega arith) (rw (full, behind) refl)))
-    (high_three x y (agree place 5 (omega arith) (rw (full, behind) refl)) high)
+    all_bits (slice_index one place) (slice_index other place) (first.bytes place) (second.bytes place)
+    (agree place 0 (omega arith) (rw (full, behind) refl)) (agree place 1 (omega arith) (rw (full, behind) refl))
+    (agree place 2 (omega arith) (rw (full, behind) refl)) (agree place 3 (omega arith) (rw (full, behind) refl))
+    (agree place 4 (omega arith) (rw (full, behind) refl)) (agree place 5 (omega arith) (rw (full, behind) refl))
+    (agree place 6 (omega arith) (rw (full, behind) refl)) (agree place 7 (omega arith) (rw (full, behind) refl))
+
+-- likewise of the disk set
+pub whole_in_disk : (command : DiskCommand) (one other : List ℕ) → IsDiskCdbOf command one → IsDiskCdbOf command other
+    → AgreeWhereReadInDisk command one other → (place : ℕ) → slice_index (disk_usage command) place ≡ 0xff → (place == 1) ≡ false
+    → slice_index one place ≡ slice_index other place
+whole_in_disk command one other first second agree place full behind =
+    all_bits (slice_index one place) (slice_index other place) (first.bytes place) (second.bytes place)
+    (agree place 0 (omega arith) (rw (full, behind) refl)) (agree place 1 (omega arith) (rw (full, behind) refl))
+    (agree place 2 (omega arith) (rw (full, behind) refl)) (agree place 3 (omega arith) (rw (full, behind) refl))
+    (agree place 4 (omega arith) (rw (full, behind) refl)) (agree place 5 (omega arith) (rw (full, behind) refl))
+    (agree place 6 (omega arith) (rw (full, behind) refl)) (agree place 7 (omega arith) (rw (full, behind) refl))
 
 -- FIELDS
 

@@ -7,11 +7,11 @@ use Rattle.uas_profile.specs.declared.TheConstants.{MAX_UNITS}
 use Rattle.disk_units.specs.Data.{disk_bytes}
 use Rattle.host_commands.specs.declared.Data.{Data}
 use Rattle.host_commands.specs.declared.Data.TheVariants.{Inquiry, VitalProductData, RequestSense, LogicalUnits, Mode, OperationCodes, OperationCode}
-use Rattle.host_commands.specs.declared.Data.TheVariants.{TaskManagementFunctions, Capacity, LongCapacity, Disk}
+use Rattle.host_commands.specs.declared.Data.TheVariants.{DiskOperationCodes, DiskOperationCode, TaskManagementFunctions, Capacity, LongCapacity, Disk}
 use Rattle.disk_units.specs.declared.names.UnitNames.{UnitNames}
 use Rattle.host_commands.specs.Fields.{four_bytes_at_most}
 use Rattle.host_commands.specs.ModeData.{mode_bytes}
-use Rattle.host_commands.specs.OperationCodes.{all_commands_bytes, one_command, task_functions}
+use Rattle.host_commands.specs.OperationCodes.{all_commands_bytes, disk_commands_bytes, one_command, one_disk_command, task_functions}
 use Rattle.host_commands.specs.Pages.{page_bytes}
 use Rattle.host_commands.specs.Shapes.{block_bytes}
 
@@ -40,6 +40,8 @@ data_bytes (LogicalUnits count) = report_luns count
 data_bytes (Mode mode) = mode_bytes mode
 data_bytes (OperationCodes timeouts) = all_commands_bytes timeouts
 data_bytes (OperationCode command timeouts) = one_command command timeouts
+data_bytes (DiskOperationCodes timeouts) = disk_commands_bytes timeouts
+data_bytes (DiskOperationCode command timeouts) = one_disk_command command timeouts
 data_bytes (TaskManagementFunctions extended) = task_functions extended
 data_bytes (Capacity last_block block_length) = four_bytes_at_most last_block ++ four_bytes (block_bytes block_length)
 data_bytes (LongCapacity last_block block_length) = eight_bytes last_block ++ four_bytes (block_bytes block_length) ++ zeros 20
@@ -54,6 +56,8 @@ IsOfDevice (LogicalUnits count) = count ≤ MAX_UNITS
 IsOfDevice (Mode mode) = Unit {0}
 IsOfDevice (OperationCodes timeouts) = Unit {0}
 IsOfDevice (OperationCode command timeouts) = Unit {0}
+IsOfDevice (DiskOperationCodes timeouts) = Unit {0}
+IsOfDevice (DiskOperationCode command timeouts) = Unit {0}
 IsOfDevice (TaskManagementFunctions extended) = Unit {0}
 IsOfDevice (Capacity last_block block_length) = Unit {0}
 IsOfDevice (LongCapacity last_block block_length) = Unit {0}

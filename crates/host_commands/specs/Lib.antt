@@ -3,6 +3,7 @@ pub mod Shapes
 pub mod Protection
 pub mod Fields
 pub mod Commands
+pub mod DiskCommands
 pub mod Pages
 pub mod ModeData
 pub mod OperationCodes

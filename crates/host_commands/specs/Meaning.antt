@@ -1,5 +1,5 @@
 -- What 16 bytes ask of a logical unit in a command set: the work, or the sense that tells the first fault.
-use Rattle.std.specs.Prelude.{ℕ, ◌+◌, ◌-◌, ◌/◌, ◌%◌, ◌^◌, ◌≤◌, ◌==◌, nat_lt, nat_le, Bool, true, false, not, ◌||◌, if◌then◌else◌, List, slice_index}
+use Rattle.std.specs.Prelude.{ℕ, ◌+◌, ◌-◌, ◌/◌, ◌%◌, ◌^◌, ◌≤◌, ◌==◌, nat_lt, nat_le, Bool, true, false, not, ◌||◌, ◌&&◌, if◌then◌else◌, List, slice_index}
 use Rattle.std.specs.Prelude.{Option, Some, None, Result, Ok, Err}
 use Rattle.scsi_cmd.specs.declared.Sense.{Sense}
 use Rattle.scsi_cmd.specs.Fields.{field_of_two, field_of_four, is_bit_set}
@@ -7,9 +7,13 @@ use Rattle.scsi_cmd.specs.Meaning.{asks_for_other_action, asks_for_protection}
 use Rattle.scsi_cmd.specs.Sense.{illegal_request, invalid_field_in_cdb, invalid_operation_code, out_of_range, reset_occurred, unit_not_supported}
 use Rattle.host_commands.specs.declared.BlockDescriptor.{BlockDescriptor}
 use Rattle.host_commands.specs.declared.CommandSet.{CommandSet}
+use Rattle.host_commands.specs.declared.Data.{Data}
 use Rattle.host_commands.specs.declared.CommandSet.TheVariants.{Profile, Host, Disk}
 use Rattle.host_commands.specs.declared.Data.TheVariants.{Inquiry as InquiryData, VitalProductData, RequestSense as SenseData, LogicalUnits, Mode, OperationCodes}
 use Rattle.host_commands.specs.declared.Data.TheVariants.{OperationCode, TaskManagementFunctions, Capacity, LongCapacity, Disk as DiskSet}
+use Rattle.host_commands.specs.declared.Data.TheVariants.{DiskOperationCodes, DiskOperationCode}
+use Rattle.host_commands.specs.declared.DiskCommand.{DiskCommand}
+use Rattle.host_commands.specs.declared.DiskCommand.TheVariants.{Host as HostOne, SendDiagnostic, PreFetch10, PreFetch16, WriteAndVerify10, WriteAndVerify12, WriteAndVerify16}
 use Rattle.host_commands.specs.declared.HostCommand.{HostCommand}
 use Rattle.host_commands.specs.declared.HostCommand.TheVariants.{TestUnitReady, RequestSense, Read6, Write6, Inquiry, ModeSense6, StartStopUnit, ReadCapacity10}
 use Rattle.host_commands.specs.declared.HostCommand.TheVariants.{Read10, Write10, Verify10, SynchronizeCache10, ModeSense10, Read16, Write16, Verify16}
@@ -22,9 +26,10 @@ use Rattle.host_commands.specs.declared.UnitAttention.{UnitAttention}
 use Rattle.host_commands.specs.declared.UnitAttention.TheVariants.{PowerOn, Reset}
 use Rattle.host_commands.specs.declared.VitalPage.{VitalPage}
 use Rattle.host_commands.specs.declared.Work.{Work}
-use Rattle.host_commands.specs.declared.Work.TheVariants.{Nothing, Gives, Reads, Writes, Synchronizes, Verifies, Compares}
+use Rattle.host_commands.specs.declared.Work.TheVariants.{Nothing, Gives, Reads, Writes, Synchronizes, Verifies, Compares, WritesAndVerifies}
 use Rattle.host_commands.specs.Commands.{has_service_actions, named_command}
 use Rattle.host_commands.specs.Data.{IsOfDevice}
+use Rattle.host_commands.specs.DiskCommands.{asks_for_naca, named_in_disk}
 use Rattle.host_commands.specs.declared.fields.Extent.{Extent}
 use Rattle.disk_units.specs.declared.names.UnitNames.{UnitNames}
 use Rattle.host_commands.specs.Fields.{action_in, code_in, short_extent, sixteen_extent, ten_extent, twelve_extent}
@@ -35,7 +40,7 @@ use Rattle.disk_units.specs.Units.{usual_unit}
 use Rattle.disk_units.specs.declared.pages.DiskData.TheVariants.{Page}
 use Rattle.disk_units.specs.declared.pages.DiskPage.{DiskPage}
 use Rattle.disk_units.specs.declared.unit.DiskUnit.{DiskUnit}
-use Rattle.host_commands.specs.OperationCodes.{named_action, named_either}
+use Rattle.host_commands.specs.OperationCodes.{disk_action, disk_either, named_action, named_either}
 use Rattle.host_commands.specs.Pages.{page_of}
 use Rattle.host_commands.specs.Profile.{profile_asked, profile_asked_of_none}
 use Rattle.host_commands.specs.Protection.{write_protected}
@@ -127,7 +132,7 @@ descriptor_asked false shape = Some (record { blocks = shape.blocks; block_lengt
 abbrev pub pages_asked : ModeForm → ℕ → Bool → Bool → Option BlockDescriptor → Option ModePages → Result Work Sense
 pages_asked form allocation read_only changeable descriptor None = Err invalid_field_in_cdb
 pages_asked form allocation read_only changeable descriptor (Some pages) =
-    Ok (Gives (Mode (record { form = form; read_only = read_only; descriptor = descriptor; pages = pages; changeable = changeable })) allocation)
+    Ok (Gives (Mode (record { form = form; read_only = read_only; descriptor = descriptor; pages = pages; changeable = changeable; writes_cached = true })) allocation)
 
 abbrev pub mode_sense_asked : ModeForm → ℕ → List ℕ → Shape → Result Work Sense
 mode_sense_asked form allocation cdb shape =
@@ -162,6 +167,25 @@ codes_asked option code action allocation timeouts =
 abbrev pub operation_codes_asked : List ℕ → Result Work Sense
 operation_codes_asked cdb =
     codes_asked (slice_index cdb 2 % 2 ^ 3) (slice_index cdb 3) (field_of_two cdb 4) (field_of_four cdb 6)
+    (is_bit_set (slice_index cdb 2) 7)
+
+-- the same in the disk set
+abbrev pub one_disk_code : ℕ → Bool → Option DiskCommand → Result Work Sense
+one_disk_code allocation timeouts command = Ok (Gives (DiskOperationCode command timeouts) allocation)
+
+abbrev pub disk_codes_asked : ℕ → ℕ → ℕ → ℕ → Bool → Result Work Sense
+disk_codes_asked option code action allocation timeouts =
+    if option == 0 then Ok (Gives (DiskOperationCodes timeouts) allocation)
+    else (if option == 1
+    then (if has_service_actions code then Err invalid_field_in_cdb else one_disk_code allocation timeouts (named_in_disk code 0))
+    else (if option == 2
+    then (if has_service_actions code then one_disk_code allocation timeouts (disk_action code action) else Err invalid_field_in_cdb)
+    else (if option == 3 then one_disk_code allocation timeouts (disk_either code action)
+    else Err invalid_field_in_cdb)))
+
+abbrev pub disk_operation_codes_asked : List ℕ → Result Work Sense
+disk_operation_codes_asked cdb =
+    disk_codes_asked (slice_index cdb 2 % 2 ^ 3) (slice_index cdb 3) (field_of_two cdb 4) (field_of_four cdb 6)
     (is_bit_set (slice_index cdb 2) 7)
 
 -- REPORT SUPPORTED TASK MANAGEMENT FUNCTIONS: the allocation length has room for all of the data
@@ -243,15 +267,63 @@ disk_capacity_asked cdb shape =
     if asks_for_other_action cdb then Err invalid_field_in_cdb
     else Ok (Gives (DiskSet (long_capacity shape.disk (shape.blocks - 1) (block_bytes shape.block_length))) (field_of_four cdb 10))
 
-abbrev pub disk_command_asked : HostCommand → List ℕ → Shape → ℕ → Option UnitAttention → Result Work Sense
-disk_command_asked Inquiry cdb shape count attention =
+abbrev pub host_asked_in_disk : HostCommand → List ℕ → Shape → ℕ → Option UnitAttention → Result Work Sense
+host_asked_in_disk Inquiry cdb shape count attention =
     disk_inquiry_asked cdb true shape.disk shape.names shape.serial (block_bytes shape.block_length)
-disk_command_asked ReadCapacity16 cdb shape count attention = disk_capacity_asked cdb shape
-disk_command_asked command cdb shape count attention = command_asked command cdb shape.disk.most shape count attention
+host_asked_in_disk ReadCapacity16 cdb shape count attention = disk_capacity_asked cdb shape
+host_asked_in_disk ReportSupportedOperationCodes cdb shape count attention = disk_operation_codes_asked cdb
+host_asked_in_disk command cdb shape count attention = command_asked command cdb shape.disk.most shape count attention
 
-abbrev pub disk_named_asked : Option HostCommand → List ℕ → Shape → ℕ → Option UnitAttention → Result Work Sense
+-- of a logical unit without a cache of writes: each WRITE goes through to the medium, and the caching page says so (WCE 0)
+abbrev pub uncached_data : Data → Data
+uncached_data (Mode mode) = Mode (record mode { writes_cached = false })
+uncached_data given = given
+
+abbrev pub uncached : Work → Work
+uncached (Writes lba count through) = Writes lba count true
+uncached (Gives given allocation) = Gives (uncached_data given) allocation
+uncached work = work
+
+abbrev pub uncached_if : Bool → Result Work Sense → Result Work Sense
+uncached_if true (Ok work) = Ok (uncached work)
+uncached_if write_through asked = asked
+
+-- SEND DIAGNOSTIC: SELF-TEST CODE and PF, bits 7 to 4 of byte 1, DEVOFFL and UNITOFFL, bits 1 and 0, and the length of a list, 3-4, are faults
+-- where they aren't 0. The default self-test, SELFTEST, bit 2, is passed.
+abbrev pub diagnostic_asked : List ℕ → Result Work Sense
+diagnostic_asked cdb =
+    if not (slice_index cdb 1 / 2 ^ 4 == 0) || (not (slice_index cdb 1 % 2 ^ 2 == 0) || not (field_of_two cdb 3 == 0)) then Err invalid_field_in_cdb
+    else Ok Nothing
+
+-- PRE-FETCH: the blocks are there, and nothing is fetched
+abbrev pub pre_fetched : Extent → ℕ → Result Work Sense
+pre_fetched extent blocks = in_range blocks extent.lba extent.count Nothing
+
+-- WRITE AND VERIFY: its fields are VERIFY's, and it moves as many blocks as a WRITE may. What is written through is then read, or compared with
+-- BYTCHK 1.
+abbrev pub writes_and_verifies : List ℕ → Extent → Shape → Result Work Sense
+writes_and_verifies cdb extent shape =
+    let check = slice_index cdb 1 / 2 % 4 in
+    if (asks_for_protection cdb || nat_lt 1 check) || nat_lt shape.disk.most extent.count then Err invalid_field_in_cdb
+    else (if shape.read_only then Err write_protected
+    else in_range shape.blocks extent.lba extent.count (WritesAndVerifies extent.lba extent.count (check == 1)))
+
+abbrev pub disk_command_asked : DiskCommand → List ℕ → Shape → ℕ → Option UnitAttention → Result Work Sense
+disk_command_asked (HostOne command) cdb shape count attention =
+    uncached_if shape.disk.write_through (host_asked_in_disk command cdb shape count attention)
+disk_command_asked SendDiagnostic cdb shape count attention = diagnostic_asked cdb
+disk_command_asked WriteAndVerify10 cdb shape count attention = writes_and_verifies cdb (ten_extent cdb) shape
+disk_command_asked WriteAndVerify16 cdb shape count attention = writes_and_verifies cdb (sixteen_extent cdb) shape
+disk_command_asked WriteAndVerify12 cdb shape count attention = writes_and_verifies cdb (twelve_extent cdb) shape
+disk_command_asked PreFetch10 cdb shape count attention = pre_fetched (ten_extent cdb) shape.blocks
+disk_command_asked PreFetch16 cdb shape count attention = pre_fetched (sixteen_extent cdb) shape.blocks
+
+-- NACA is a field: it is a fault behind an operation code that isn't there, and before all others. Worked: of 100 blocks 34 00 00 00 00 62 00 00
+-- 02 00 is GOOD, with 04 at its end 5/24/00, and 34 00 00 00 00 63 00 00 02 00 is 5/21/00.
+abbrev pub disk_named_asked : Option DiskCommand → List ℕ → Shape → ℕ → Option UnitAttention → Result Work Sense
 disk_named_asked None cdb shape count attention = Err invalid_operation_code
-disk_named_asked (Some command) cdb shape count attention = disk_command_asked command cdb shape count attention
+disk_named_asked (Some command) cdb shape count attention =
+    if asks_for_naca cdb then Err invalid_field_in_cdb else disk_command_asked command cdb shape count attention
 
 -- THE QUESTION
 
@@ -261,7 +333,7 @@ unfoldable pub asked_of : List ℕ → CommandSet → Shape → ℕ → Option U
 asked_of cdb Profile shape count attention = profile_asked cdb shape
 asked_of cdb (Host maximum) shape count attention =
     named_asked (named_command (code_in cdb) (action_in cdb)) cdb maximum shape count attention
-asked_of cdb Disk shape count attention = disk_named_asked (named_command (code_in cdb) (action_in cdb)) cdb shape count attention
+asked_of cdb Disk shape count attention = disk_named_asked (named_in_disk (code_in cdb) (action_in cdb)) cdb shape count attention
 
 -- where no logical unit is: INQUIRY, REPORT LUNS and REQUEST SENSE are answered, and nothing else is
 abbrev pub host_asked_of_none : List ℕ → ℕ → ℕ → Result Work Sense
@@ -271,10 +343,14 @@ host_asked_of_none cdb maximum count =
     else (if code_in cdb == 0x03 then request_sense_asked cdb unit_not_supported
     else Err unit_not_supported))
 
--- the same in the disk set, where INQUIRY has the data of a disk of which nothing is said
+-- the same in the disk set, where INQUIRY has the data of a disk of which nothing is said, and NACA is a fault of what is answered
+abbrev pub is_answered_of_none : ℕ → Bool
+is_answered_of_none code = code == 0x12 || (code == 0xa0 || code == 0x03)
+
 abbrev pub disk_asked_of_none : List ℕ → ℕ → Result Work Sense
 disk_asked_of_none cdb count =
-    if code_in cdb == 0x12 then disk_inquiry_asked cdb false usual_unit usual_names 0 512 else host_asked_of_none cdb 128 count
+    if is_answered_of_none (code_in cdb) && asks_for_naca cdb then Err invalid_field_in_cdb
+    else (if code_in cdb == 0x12 then disk_inquiry_asked cdb false usual_unit usual_names 0 512 else host_asked_of_none cdb 128 count)
 
 unfoldable pub asked_of_none : List ℕ → CommandSet → ℕ → Result Work Sense
 asked_of_none cdb Profile count = profile_asked_of_none cdb
@@ -298,3 +374,4 @@ IsWorkOn blocks most (Writes lba count through) = (lba + count ≤ blocks) × (c
 IsWorkOn blocks most (Synchronizes lba count) = lba + count ≤ blocks
 IsWorkOn blocks most (Verifies lba count) = lba + count ≤ blocks
 IsWorkOn blocks most (Compares lba count) = (lba + count ≤ blocks) × (count ≤ most)
+IsWorkOn blocks most (WritesAndVerifies lba count compares) = (lba + count ≤ blocks) × (count ≤ most)

@@ -23,18 +23,22 @@ abbrev pub in_effect : Bool → ℕ → ℕ
 in_effect true bits = 0
 in_effect false bits = bits
 
--- 08h: writes are cached (WCE, bit 2 of byte 2)
-abbrev pub caching_page : Bool → List ℕ
-caching_page changeable = (0x08 ∷ 0x12 ∷ in_effect changeable 4 ∷ []) ++ zeros 17
+-- 08h: whether writes are cached (WCE, bit 2 of byte 2)
+abbrev pub write_cache : Bool → ℕ
+write_cache false = 0
+write_cache true = 4
+
+abbrev pub caching_page : Bool → Bool → List ℕ
+caching_page changeable cached = (0x08 ∷ 0x12 ∷ in_effect changeable (write_cache cached) ∷ []) ++ zeros 17
 
 -- 0Ah: no log parameter is saved by itself (GLTSD, bit 1 of byte 2), and commands may be reordered (1 in bits 7 to 4 of byte 3)
 abbrev pub control_page : Bool → List ℕ
 control_page changeable = (0x0a ∷ 0x0a ∷ in_effect changeable 2 ∷ in_effect changeable 0x10 ∷ []) ++ zeros 8
 
-abbrev pub mode_pages : ModePages → Bool → List ℕ
-mode_pages Caching changeable = caching_page changeable
-mode_pages Control changeable = control_page changeable
-mode_pages All changeable = caching_page changeable ++ control_page changeable
+abbrev pub mode_pages : ModePages → Bool → Bool → List ℕ
+mode_pages Caching changeable cached = caching_page changeable cached
+mode_pages Control changeable cached = control_page changeable
+mode_pages All changeable cached = caching_page changeable cached ++ control_page changeable
 
 -- the number of blocks in four bytes, 0, the bytes of a block in three
 abbrev pub descriptor_bytes : Option BlockDescriptor → List ℕ
@@ -59,5 +63,5 @@ mode_header Ten read_only descriptors rest =
 unfoldable pub mode_bytes : ModeData → List ℕ
 mode_bytes mode =
     mode_header mode.form mode.read_only (length (descriptor_bytes mode.descriptor))
-    (length (descriptor_bytes mode.descriptor) + length (mode_pages mode.pages mode.changeable))
-    ++ descriptor_bytes mode.descriptor ++ mode_pages mode.pages mode.changeable
+    (length (descriptor_bytes mode.descriptor) + length (mode_pages mode.pages mode.changeable mode.writes_cached))
+    ++ descriptor_bytes mode.descriptor ++ mode_pages mode.pages mode.changeable mode.writes_cached

@@ -2,7 +2,7 @@
 use Rattle.std.specs.Prelude.{Bool, true, false, if◌then◌else◌, Result, Ok, Err}
 use Rattle.scsi_cmd.specs.declared.Sense.{Sense}
 use Rattle.host_commands.specs.declared.Work.{Work}
-use Rattle.host_commands.specs.declared.Work.TheVariants.{Nothing, Gives, Reads, Writes, Synchronizes, Verifies, Compares}
+use Rattle.host_commands.specs.declared.Work.TheVariants.{Nothing, Gives, Reads, Writes, Synchronizes, Verifies, Compares, WritesAndVerifies}
 
 -- WRITE PROTECTED, a DATA PROTECT, which is key 7
 abbrev pub write_protected : Sense
@@ -17,6 +17,7 @@ changes_blocks (Writes lba count through) = true
 changes_blocks (Synchronizes lba count) = false
 changes_blocks (Verifies lba count) = false
 changes_blocks (Compares lba count) = false
+changes_blocks (WritesAndVerifies lba count compares) = true
 
 -- a read-only logical unit refuses those
 abbrev pub allowed : Bool → Work → Result Work Sense

@@ -1,7 +1,7 @@
 //! The commands on blocks: READ, WRITE, VERIFY and SYNCHRONIZE CACHE.
 ghost use Rattle.std.specs.Prelude.{◌≡◌, ℕ, ◌+◌, ◌≤◌, IfOk};
 ghost use Rattle.scsi_cmd.specs.Meaning.{asks_for_protection};
-ghost use Rattle.host_commands.specs.Meaning.{IsWorkOn, goes_through, in_range, reads, synchronizes, transferred, verifies, writes};
+ghost use Rattle.host_commands.specs.Meaning.{IsWorkOn, goes_through, in_range, reads, synchronizes, transferred, verifies, writes, writes_and_verifies};
 
 use crate::fields::{Extent, has_bit};
 use crate::{LogicalUnitShape, TransferLength, Work};
@@ -87,6 +87,34 @@ pub(crate) fn verifies(
     }
 }
 
+/// WRITE AND VERIFY: what is written through is read, or with BYTCHK 1 compared; a read-only logical unit refuses it.
+pub(crate) fn writes_and_verifies(
+    cdb: &[u8; 16],
+    extent: Extent,
+    shape: &LogicalUnitShape,
+) -> Result<Work, Sense>
+    ensures work { result ≡ writes_and_verifies cdb.now extent shape.now }
+    ensures on { IfOk result (IsWorkOn shape.now.blocks shape.now.disk.most) }
+{
+    let Extent { lba, count } = extent;
+    let check = cdb[1] >> 1 & 3;
+    if protects(cdb) || check > 1 || count > u32::from(shape.disk().most.blocks()) {
+        return Err(Sense::INVALID_FIELD_IN_CDB);
+    }
+    if shape.is_read_only() {
+        return Err(WRITE_PROTECTED);
+    }
+    in_range(
+        shape.blocks(),
+        extent,
+        Work::WritesAndVerifies {
+            lba,
+            count,
+            compares: check == 1,
+        },
+    )
+}
+
 /// SYNCHRONIZE CACHE.
 pub(crate) fn synchronizes(extent: Extent, blocks: u64) -> Result<Work, Sense>
     ensures work { result ≡ synchronizes extent blocks }
@@ -128,7 +156,7 @@ fn transferred(
 }
 
 /// This work, where its blocks are on the logical unit.
-fn in_range(blocks: u64, extent: Extent, work: Work) -> Result<Work, Sense>
+pub(crate) fn in_range(blocks: u64, extent: Extent, work: Work) -> Result<Work, Sense>
     ensures work { result ≡ in_range blocks extent.lba extent.count work }
     ensures range { IfOk result (λ _. extent.lba + extent.count ≤ blocks) }
 {

@@ -3,7 +3,7 @@ ghost use Rattle.std.specs.Prelude.{◌≡◌, ◌≤◌, length};
 ghost use Rattle.host_commands.specs.Commands.{attention_of, has_service_actions, host_attention, named_command};
 ghost use Rattle.host_commands.specs.Commands.{of_maintenance, of_six, of_sixteen, of_ten, of_twelve, usage_of};
 
-use crate::{Attention, CommandSet, HostCommand};
+use crate::{Attention, CommandSet, DiskCommand, HostCommand};
 
 const TEST_UNIT_READY: u8 = 0x00;
 
@@ -59,31 +59,31 @@ const REPORT_SUPPORTED_TASK_MANAGEMENT_FUNCTIONS: u16 = 0x0d;
 const GROUP_BIT: u8 = 5;
 
 /// All commands, by rising operation code and service action.
-pub(crate) const ALL_COMMANDS: [HostCommand; 24] = [
-    HostCommand::TestUnitReady,
-    HostCommand::RequestSense,
-    HostCommand::Read6,
-    HostCommand::Write6,
-    HostCommand::Inquiry,
-    HostCommand::ModeSense6,
-    HostCommand::StartStopUnit,
-    HostCommand::ReadCapacity10,
-    HostCommand::Read10,
-    HostCommand::Write10,
-    HostCommand::Verify10,
-    HostCommand::SynchronizeCache10,
-    HostCommand::ModeSense10,
-    HostCommand::Read16,
-    HostCommand::Write16,
-    HostCommand::Verify16,
-    HostCommand::SynchronizeCache16,
-    HostCommand::ReadCapacity16,
-    HostCommand::ReportLuns,
-    HostCommand::ReportSupportedOperationCodes,
-    HostCommand::ReportSupportedTaskManagementFunctions,
-    HostCommand::Read12,
-    HostCommand::Write12,
-    HostCommand::Verify12,
+pub(crate) const ALL_COMMANDS: [DiskCommand; 24] = [
+    DiskCommand::Host(HostCommand::TestUnitReady),
+    DiskCommand::Host(HostCommand::RequestSense),
+    DiskCommand::Host(HostCommand::Read6),
+    DiskCommand::Host(HostCommand::Write6),
+    DiskCommand::Host(HostCommand::Inquiry),
+    DiskCommand::Host(HostCommand::ModeSense6),
+    DiskCommand::Host(HostCommand::StartStopUnit),
+    DiskCommand::Host(HostCommand::ReadCapacity10),
+    DiskCommand::Host(HostCommand::Read10),
+    DiskCommand::Host(HostCommand::Write10),
+    DiskCommand::Host(HostCommand::Verify10),
+    DiskCommand::Host(HostCommand::SynchronizeCache10),
+    DiskCommand::Host(HostCommand::ModeSense10),
+    DiskCommand::Host(HostCommand::Read16),
+    DiskCommand::Host(HostCommand::Write16),
+    DiskCommand::Host(HostCommand::Verify16),
+    DiskCommand::Host(HostCommand::SynchronizeCache16),
+    DiskCommand::Host(HostCommand::ReadCapacity16),
+    DiskCommand::Host(HostCommand::ReportLuns),
+    DiskCommand::Host(HostCommand::ReportSupportedOperationCodes),
+    DiskCommand::Host(HostCommand::ReportSupportedTaskManagementFunctions),
+    DiskCommand::Host(HostCommand::Read12),
+    DiskCommand::Host(HostCommand::Write12),
+    DiskCommand::Host(HostCommand::Verify12),
 ];
 
 /// The command of an operation code and a service action, which only A3h looks at.

@@ -164,6 +164,7 @@ pub(crate) fn read_mode_sense(
                 descriptor: descriptor_asked(has_bit(cdb[1], 3), shape),
                 pages,
                 changeable: control == 1,
+                writes_cached: true,
             }),
             allocation,
         }),
@@ -292,7 +293,7 @@ fn codes_asked(
 }
 
 /// The command of an operation code with service actions.
-fn named_action(code: u8, action: u16) -> Option<HostCommand>
+pub(crate) fn named_action(code: u8, action: u16) -> Option<HostCommand>
     ensures { result ≡ named_action code action }
 {
     match code {

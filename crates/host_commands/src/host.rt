@@ -1,12 +1,11 @@
 //! What the CDBs of a command set ask.
 ghost use Rattle.std.specs.Prelude.{◌≡◌, ◌≤◌, IfOk};
-ghost use Rattle.host_commands.specs.Meaning.{IsWorkOn, asked_of, asked_of_none, command_asked, disk_asked_of_none, disk_command_asked};
-ghost use Rattle.host_commands.specs.Meaning.{host_asked_of_none, most_moved};
+ghost use Rattle.host_commands.specs.Meaning.{IsWorkOn, asked_of, asked_of_none, command_asked, host_asked_of_none, most_moved};
 ghost use Rattle.uas_profile.specs.declared.TheConstants.{MAX_UNITS};
 
 use crate::blocks::{goes_through, protects, reads, synchronizes, verifies, writes};
 use crate::commands::{INQUIRY, REPORT_LUNS, REQUEST_SENSE, named_command};
-use crate::disk::{read_disk_capacity, read_disk_inquiry};
+use crate::disk::{read_disk, read_disk_of_none};
 use crate::fields::{action_in, short_extent, sixteen_extent, ten_extent, twelve_extent, two_at};
 use crate::given::{
     read_capacity, read_inquiry, read_long_capacity, read_mode_sense, read_operation_codes,
@@ -14,7 +13,7 @@ use crate::given::{
 };
 use crate::profile::{read_profile, read_profile_of_none};
 use crate::{
-    CommandSet, DiskUnit, HostCommand, LogicalUnitShape, ModeForm, SerialNumber, TransferLength,
+    CommandSet, HostCommand, LogicalUnitShape, ModeForm, SerialNumber, TransferLength,
     UnitAttention, UnitNames, Work,
 };
 use scsi_cmd::Sense;
@@ -44,10 +43,7 @@ pub fn read(
                 None => Err(Sense::INVALID_OPERATION_CODE),
             }
         }
-        CommandSet::Disk => match named_command(cdb[0], action_in(cdb)) {
-            Some(command) => read_disk_command(command, cdb, shape, logical_units, attention),
-            None => Err(Sense::INVALID_OPERATION_CODE),
-        }
+        CommandSet::Disk => read_disk(cdb, shape, logical_units, attention),
     }
 }
 
@@ -70,20 +66,8 @@ pub fn read_without_logical_unit(
     }
 }
 
-fn read_disk_of_none(cdb: &[u8; 16], logical_units: u8) -> Result<Work, Sense>
-    requires { logical_units ≤ MAX_UNITS }
-    ensures work { result ≡ disk_asked_of_none cdb.now logical_units }
-    ensures on { IfOk result (IsWorkOn 0 0) }
-{
-    let usual = DiskUnit::usual();
-    if cdb[0] == INQUIRY {
-        read_disk_inquiry(cdb, false, &usual, UnitNames::usual(), 0, 512)
-    } else {
-        read_host_of_none(cdb, usual.most, logical_units)
-    }
-}
-
-fn read_host_of_none(
+/// What 16 bytes ask in the host set where no logical unit is.
+pub(crate) fn read_host_of_none(
     cdb: &[u8; 16],
     maximum: TransferLength,
     logical_units: u8,
@@ -106,41 +90,8 @@ fn read_host_of_none(
     }
 }
 
-/// What a command of the disk set asks.
-fn read_disk_command(
-    command: HostCommand,
-    cdb: &[u8; 16],
-    shape: &LogicalUnitShape,
-    logical_units: u8,
-    attention: Option<UnitAttention>,
-) -> Result<Work, Sense>
-    requires { logical_units ≤ MAX_UNITS }
-    ensures work { result ≡ disk_command_asked command cdb.now shape.now logical_units attention }
-    ensures on { IfOk result (IsWorkOn shape.now.blocks shape.now.disk.most) }
-{
-    match command {
-        HostCommand::Inquiry => read_disk_inquiry(
-            cdb,
-            true,
-            shape.disk(),
-            shape.names(),
-            shape.serial().number(),
-            shape.block_length().bytes(),
-        ),
-        HostCommand::ReadCapacity16 => read_disk_capacity(cdb, shape),
-        _ => read_command(
-            command,
-            cdb,
-            shape.disk().most,
-            shape,
-            logical_units,
-            attention,
-        ),
-    }
-}
-
 /// What a command of the host set asks.
-fn read_command(
+pub(crate) fn read_command(
     command: HostCommand,
     cdb: &[u8; 16],
     maximum: TransferLength,

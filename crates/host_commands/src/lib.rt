@@ -4,11 +4,11 @@
 //! | Set | Commands |
 //! |---|---|
 //! | `Profile` | the nine of `scsi_cmd`, with the same answers byte for byte |
-//! | `Disk` | those of `Host`; INQUIRY and READ CAPACITY(16) tell what `disk_units` has of a logical unit, and its own number of blocks moves |
+//! | `Disk` | those of `Host`, WRITE AND VERIFY, PRE-FETCH and SEND DIAGNOSTIC; INQUIRY, READ CAPACITY(16) and MODE SENSE tell what `disk_units` has of a logical unit, its own number of blocks moves, and NACA is a fault |
 //! | `Host` | those, and VERIFY, REPORT LUNS, MODE SENSE, REQUEST SENSE, START STOP UNIT, READ and WRITE of 6 and 12 bytes, SYNCHRONIZE CACHE(16), vital product data, supported operation codes and task management functions (SPC, SBC) |
 //!
 //! A command is a [`Work`], whichever CDB asked for it: nothing, data of the logical unit, blocks that are read, written,
-//! synchronized, verified or compared. The faults are tested in this order:
+//! synchronized, verified, compared, or written and verified. The faults are tested in this order:
 //!
 //! 1. an operation code, or a service action of A3h, that the set hasn't: INVALID COMMAND OPERATION CODE;
 //! 2. a field of the CDB, too many blocks and another service action of 9Eh among them: INVALID FIELD IN CDB; saved mode
@@ -33,6 +33,7 @@
 mod blocks;
 mod commands;
 mod disk;
+mod disk_commands;
 mod fields;
 mod given;
 mod host;
@@ -45,6 +46,7 @@ mod shapes;
 mod writer;
 
 pub use commands::{attention_of, named_command};
+pub use disk_commands::named_in_disk;
 pub use disk_units::{
     DiskData, DiskFault, DiskPage, DiskUnit, Eui, FormFactor, Naa, NameFault, Product, Revision,
     Rotation, SerialText, TransferLength, UnitNames, Uuid, Vendor,
@@ -170,6 +172,19 @@ pub enum HostCommand {
     Verify12,
 }
 
+/// A command of the disk set, by its CDB.
+#[derive(Clone, Copy, Debug, PartialEq, Eq)]
+pub enum DiskCommand {
+    /// One that the host set has too.
+    Host(HostCommand),
+    SendDiagnostic,
+    WriteAndVerify10,
+    PreFetch10,
+    WriteAndVerify16,
+    PreFetch16,
+    WriteAndVerify12,
+}
+
 /// What a command has to do with a unit attention (SAM).
 #[derive(Clone, Copy, Debug, PartialEq, Eq)]
 pub enum Attention {
@@ -256,6 +271,8 @@ pub struct ModeData {
     pub descriptor: Option<BlockDescriptor>,
     pub pages: ModePages,
     pub changeable: bool,
+    /// Whether what is written may be cached (WCE).
+    pub writes_cached: bool,
 }
 
 /// The data that a command gives, before it is cut to the allocation length.
@@ -288,6 +305,14 @@ pub enum Data {
         command: Option<HostCommand>,
         timeouts: bool,
     },
+    /// Both of the disk set.
+    DiskOperationCodes {
+        timeouts: bool,
+    },
+    DiskOperationCode {
+        command: Option<DiskCommand>,
+        timeouts: bool,
+    },
     /// REPORT SUPPORTED TASK MANAGEMENT FUNCTIONS, in 4 bytes or extended in 16.
     TaskManagementFunctions {
         extended: bool,
@@ -307,7 +332,7 @@ pub enum Data {
 }
 
 /// The most bytes of data: all operation codes with their timeouts.
-pub const MOST_DATA_BYTES: usize = 484;
+pub const MOST_DATA_BYTES: usize = 604;
 
 /// What a command does, whichever CDB asked for it.
 #[derive(Clone, Copy, Debug, PartialEq, Eq)]
@@ -315,15 +340,40 @@ pub enum Work {
     /// Nothing.
     Nothing,
     /// It gives data, at most `allocation` bytes of them.
-    Gives { given: Data, allocation: u32 },
+    Gives {
+        given: Data,
+        allocation: u32,
+    },
     /// It gives `count` blocks from `lba` on.
-    Reads { lba: u64, count: u32 },
+    Reads {
+        lba: u64,
+        count: u32,
+    },
     /// It takes `count` blocks from `lba` on, and where it goes `through` they are on the medium when it ends (FUA).
-    Writes { lba: u64, count: u32, through: bool },
+    Writes {
+        lba: u64,
+        count: u32,
+        through: bool,
+    },
     /// It brings `count` blocks from `lba` on to the medium, or all from there for 0.
-    Synchronizes { lba: u64, count: u32 },
+    Synchronizes {
+        lba: u64,
+        count: u32,
+    },
     /// It finds out whether `count` blocks from `lba` on can be read.
-    Verifies { lba: u64, count: u32 },
+    Verifies {
+        lba: u64,
+        count: u32,
+    },
     /// It takes as many blocks and compares them with the `count` blocks from `lba` on.
-    Compares { lba: u64, count: u32 },
+    Compares {
+        lba: u64,
+        count: u32,
+    },
+    /// It takes `count` blocks from `lba` on, writes them through to the medium, and finds out whether they can be read, or are these bytes.
+    WritesAndVerifies {
+        lba: u64,
+        count: u32,
+        compares: bool,
+    },
 }

@@ -1,7 +1,7 @@
 //! The bytes of mode data (SPC, SBC).
 ghost use Rattle.std.specs.Prelude.{◌≡◌, ◌+◌, ◌≤◌, ◌++◌, Bool, length};
 ghost use Rattle.arrayvec.specs.ArrayVec.{array_vec_len};
-ghost use Rattle.host_commands.specs.ModeData.{caching_page, control_page, descriptor_bytes, device_parameter, in_effect, mode_bytes, mode_header, mode_pages};
+ghost use Rattle.host_commands.specs.ModeData.{caching_page, control_page, descriptor_bytes, device_parameter, in_effect, mode_bytes, mode_header, mode_pages, write_cache};
 ghost use Rattle.host_commands.specs.declared.TheConstants.{MOST_DATA_BYTES};
 
 use crate::fields::{four_bytes_at_most, put};
@@ -30,7 +30,7 @@ pub(crate) fn write_mode(mode: &ModeData, into: &mut ArrayVec<u8, MOST_DATA_BYTE
     ensures { into.new.items ≡ mode_bytes mode.now }
 {
     let descriptors = descriptors_len(&mode.descriptor);
-    let pages = pages_len(mode.pages, mode.changeable);
+    let pages = pages_len(mode.pages);
     write_header(
         mode.form,
         mode.read_only,
@@ -39,7 +39,7 @@ pub(crate) fn write_mode(mode: &ModeData, into: &mut ArrayVec<u8, MOST_DATA_BYTE
         into,
     );
     write_descriptor(&mode.descriptor, into);
-    write_pages(mode.pages, mode.changeable, into);
+    write_pages(mode.pages, mode.changeable, mode.writes_cached, into);
 }
 
 fn descriptors_len(descriptor: &Option<BlockDescriptor>) -> u8
@@ -52,8 +52,8 @@ fn descriptors_len(descriptor: &Option<BlockDescriptor>) -> u8
     }
 }
 
-fn pages_len(pages: ModePages, changeable: bool) -> u8
-    ensures len { result ≡ length (mode_pages pages changeable) }
+fn pages_len(pages: ModePages) -> u8
+    ensures len { (changeable cached : Bool) → result ≡ length (mode_pages pages changeable cached) }
     ensures most { result ≤ 32 }
 {
     match pages {
@@ -105,27 +105,32 @@ fn write_descriptor(descriptor: &Option<BlockDescriptor>, into: &mut ArrayVec<u8
     }
 }
 
-fn write_pages(pages: ModePages, changeable: bool, into: &mut ArrayVec<u8, MOST_DATA_BYTES>)
+fn write_pages(
+    pages: ModePages,
+    changeable: bool,
+    cached: bool,
+    into: &mut ArrayVec<u8, MOST_DATA_BYTES>,
+)
     requires { array_vec_len into.old ≤ 16 }
-    ensures { into.new.items ≡ into.old.items ++ mode_pages pages changeable }
+    ensures { into.new.items ≡ into.old.items ++ mode_pages pages changeable cached }
 {
     match pages {
-        ModePages::Caching => put(into, &caching_page(changeable)),
+        ModePages::Caching => put(into, &caching_page(changeable, cached)),
         ModePages::Control => put(into, &control_page(changeable)),
         ModePages::All => {
-            put(into, &caching_page(changeable));
+            put(into, &caching_page(changeable, cached));
             put(into, &control_page(changeable));
         }
     }
 }
 
-fn caching_page(changeable: bool) -> [u8; 20]
-    ensures { result ≡ caching_page changeable }
+fn caching_page(changeable: bool, cached: bool) -> [u8; 20]
+    ensures { result ≡ caching_page changeable cached }
 {
     let mut page = [0; 20];
     page[0] = 0x08;
     page[1] = 0x12;
-    page[2] = in_effect(changeable, WRITES_CACHED);
+    page[2] = in_effect(changeable, write_cache(cached));
     page
 }
 
@@ -135,6 +140,13 @@ fn control_page(changeable: bool) -> [u8; 12]
     let log = in_effect(changeable, NO_LOG_SAVED);
     let order = in_effect(changeable, UNRESTRICTED_ORDER);
     [0x0a, 0x0a, log, order, 0, 0, 0, 0, 0, 0, 0, 0]
+}
+
+/// WCE, where writes are cached.
+fn write_cache(cached: bool) -> u8
+    ensures { result ≡ write_cache cached }
+{
+    if cached { WRITES_CACHED } else { 0 }
 }
 
 /// Bits that are set in the values in effect and can't be changed.

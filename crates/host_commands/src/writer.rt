@@ -9,7 +9,9 @@ ghost use Rattle.uas_profile.specs.declared.TheConstants.{MAX_UNITS};
 
 use crate::fields::{four_bytes_at_most, put};
 use crate::mode::write_mode;
-use crate::operation_codes::{write_all_commands, write_one_command};
+use crate::operation_codes::{
+    write_all_commands, write_disk_command, write_disk_commands, write_one_command,
+};
 use crate::pages::{peripheral_byte, write_page};
 use crate::{Data, MOST_DATA_BYTES, UnitNames};
 use arrayvec::ArrayVec;
@@ -43,6 +45,10 @@ fn write_whole(given: &Data, into: &mut ArrayVec<u8, MOST_DATA_BYTES>)
         Data::OperationCodes { timeouts } => write_all_commands(*timeouts, into),
         Data::OperationCode { command, timeouts } => {
             write_one_command(*command, *timeouts, into);
+        }
+        Data::DiskOperationCodes { timeouts } => write_disk_commands(*timeouts, into),
+        Data::DiskOperationCode { command, timeouts } => {
+            write_disk_command(*command, *timeouts, into);
         }
         Data::TaskManagementFunctions { extended } => write_task_functions(*extended, into),
         Data::Capacity {

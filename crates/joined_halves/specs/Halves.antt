@@ -7,15 +7,17 @@ use Rattle.shared_machine.specs.declared.Step.TheVariants.{Submit, CommandPipe, 
 use Rattle.uas_profile.specs.declared.Pipe.{Pipe}
 use Rattle.uas_profile.specs.declared.Pipe.TheVariants as Pipe
 use Rattle.uas_target.specs.Device.{Device}
+use Rattle.block_unit.specs.BlockMaps.{BlockMaps}
+use Rattle.stream_array.specs.Rings.{LinesState, IsOpeningLines}
 use Rattle.xhci_ctl.specs.Pipes.{ControllerState}
 use Rattle.uas_host.specs.Retirement.{is_held}
 use Rattle.uas_driver.specs.Driver.{DriverState}
 use Rattle.uas_driver.specs.Calls.{is_ticket, is_under, submit_by}
 use Rattle.uas_driver.specs.Room.{lacks_room}
-use Rattle.uas_controller.specs.Machine.{MachineState}
+use Rattle.uas_controller.specs.Machine.{IsOpening, MachineState}
 use Rattle.uas_controller.specs.Steps.{command_by, data_by, engine_by, event_by, rung, status_by}
 use Rattle.bus_core.specs.World.{World, world_of}
-use Rattle.bus_core.specs.WorldSteps.{event_sides, rung_all}
+use Rattle.bus_core.specs.WorldSteps.{event_sides, opening_world, rung_all}
 use Rattle.bus_core.specs.WholeStep.{world_after}
 use Rattle.bus_core.specs.Fits.{Fits}
 
@@ -24,6 +26,12 @@ use Rattle.bus_core.specs.Fits.{Fits}
 -- of a bus, the rings, buffers, controller and device, without its host
 abbrev pub controller_half : World → MachineState
 controller_half world = record { lines = world.lines; frames = world.frames; controller = world.controller; device = world.device }
+
+-- Law: of a new bus, with any number of tags of each client, it is a new controller of the same units.
+abbrev pub ControllersBeginAsTheBus : Type 0
+ControllersBeginAsTheBus =
+    (tags clients : ℕ) (units : List BlockMaps) (lines : LinesState) → IsOpeningLines lines
+    → IsOpening units (controller_half (opening_world tags units clients lines))
 
 -- Each step of the controller's leaves this half as the bus has it after that step. The oldest event is given out, and the rings are left as
 -- the host finds them when it handles that event. Doorbells, in their order, are those of the bus.

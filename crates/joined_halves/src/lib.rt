@@ -4,7 +4,7 @@
 //! laws say which of their calls are the bus's own steps ([`bus_core`]'s `world_after`), byte for byte:
 //!
 //! ```text
-//!     controller   command pipe, data, status, command ring, doorbells, the oldest event given out
+//!     controller   its beginning; command pipe, data, status, command ring, doorbells, the oldest event given out
 //!     driver       a submission with its doorbells
 //! ```
 //!
@@ -14,7 +14,12 @@
 //! It has laws alone, over the definitions of both halves and of the bus.
 #![tactic(auto)]
 
-ghost use Rattle.joined_halves.specs.Halves.{ControllersStepAsTheBus, DriversSubmitAsTheBus};
+ghost use Rattle.joined_halves.specs.Halves.{ControllersBeginAsTheBus, ControllersStepAsTheBus, DriversSubmitAsTheBus};
+
+/// Law: a new bus's half is a new controller of the same units.
+pub fn controllers_begin_as_the_bus()
+    ensures { ControllersBeginAsTheBus }
+{}
 
 /// Law: each step of a controller's half is the bus's own.
 pub fn controllers_step_as_the_bus()

@@ -20,7 +20,7 @@ use Rattle.uas_target.specs.Soundness.{counts_of}
 use Rattle.uas_target.specs.Tasks.{task_wants as target_wants}
 use Rattle.uas_tasks.specs.declared.Job.{Job}
 use Rattle.uas_tasks.specs.declared.JobKind.{JobKind}
-use Rattle.uas_tasks.specs.declared.JobKind.TheVariants.{Reads, Writes, Compares, Verifies, Synchronizes}
+use Rattle.uas_tasks.specs.declared.JobKind.TheVariants.{Reads, Writes, Compares, Verifies, Synchronizes, WritesAndVerifies}
 use Rattle.uas_tasks.specs.declared.Stage.TheVariants.{Asking, Waiting, Moving}
 use Rattle.uas_tasks.specs.declared.Task.{Task}
 use Rattle.uas_tasks.specs.declared.Task.TheVariants.{Giving, Blocks, Ended, Held}
@@ -120,6 +120,8 @@ reading_on slot unit job at few rest (Writes through) is some wants = gives_apar
 reading_on slot unit job at few rest Compares is some wants = gives_apart _ (Takes (chunk_bytes slot.chunk job - at)) (few + rest) tt wants
 reading_on slot unit job at few rest Verifies is some wants = gives_apart _ Waits (few + rest) tt wants
 reading_on slot unit job at few rest Synchronizes is some wants = gives_apart _ Waits (few + rest) tt wants
+reading_on slot unit job at few rest (WritesAndVerifies compares has_written) is some wants =
+    gives_apart _ (Takes (chunk_bytes slot.chunk job - at)) (few + rest) tt wants
 
 task_on : (slot : SlotState) (out : Option Out) (task : Task) (few rest : ℕ) → 0 < rest → slot_wants (slot_at_task slot out task) ≡ Gives (few + rest) →
     GivesOn (slot_at_task slot out task) few rest

@@ -40,7 +40,7 @@ use std::alloc::{AllocError, Global};
 use std::marker::Model;
 use stream_array::Lines;
 use thiserror::Error;
-use uas_profile::MAX_CLIENTS;
+use uas_profile::{MAX_CLIENTS, STREAMS};
 use uas_target::Target;
 use xhci_ctl::Controller;
 
@@ -91,14 +91,14 @@ impl Model for Machine {
 }
 
 impl Machine {
-    /// A machine whose device has these logical units, 1 to 31 (`MAX_CLIENTS`). Rings and buffers are zeros, every endpoint runs and no
-    /// doorbell was rung. The error is want of memory.
+    /// A machine whose device has these logical units, 1 to 31 (`MAX_CLIENTS`), and a place for each tag that has a stream, 1 to 248
+    /// (`STREAMS`). Rings and buffers are zeros, every endpoint runs and no doorbell was rung. The error is want of memory.
     pub fn new(alloc: Global, units: Vec<Unit>) -> Result<Machine, AllocError>
         requires some { 1 ≤ vec_len units }
         requires most { vec_len units ≤ MAX_CLIENTS }
         ensures { IfOk result (IsOpening units.items) }
     {
-        let target = Target::new(alloc, units)?;
+        let target = Target::with_tags(alloc, units, STREAMS)?;
         Ok(Machine {
             lines: Lines::new(alloc)?,
             frames: Frames::new(alloc)?,

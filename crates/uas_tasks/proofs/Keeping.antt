@@ -12,7 +12,7 @@ use Rattle.host_commands.specs.declared.BlockLength.{BlockLength}
 use Rattle.host_commands.specs.declared.CommandSet.{CommandSet}
 use Rattle.host_commands.specs.declared.Work.{Work}
 use Rattle.host_commands.specs.declared.Work.TheVariants.{Nothing, Gives as GivesWork, Reads as ReadsWork, Writes as WritesWork, Synchronizes as SynchronizesWork}
-use Rattle.host_commands.specs.declared.Work.TheVariants.{Verifies as VerifiesWork, Compares as ComparesWork}
+use Rattle.host_commands.specs.declared.Work.TheVariants.{Verifies as VerifiesWork, Compares as ComparesWork, WritesAndVerifies as WritesAndVerifiesWork}
 use Rattle.host_commands.specs.Commands.{attention_of}
 use Rattle.host_commands.specs.Data.{given_bytes}
 use Rattle.host_commands.specs.Meaning.{asked_of}
@@ -21,7 +21,7 @@ use Rattle.uas_target.specs.declared.DeviceAnswer.TheVariants.{Status}
 use Rattle.device_server.specs.declared.Answer.TheVariants.{Good}
 use Rattle.uas_tasks.specs.declared.Job.{Job}
 use Rattle.uas_tasks.specs.declared.JobKind.{JobKind}
-use Rattle.uas_tasks.specs.declared.JobKind.TheVariants.{Reads, Writes, Compares, Verifies, Synchronizes}
+use Rattle.uas_tasks.specs.declared.JobKind.TheVariants.{Reads, Writes, Compares, Verifies, Synchronizes, WritesAndVerifies}
 use Rattle.uas_tasks.specs.declared.LogicalUnit.{LogicalUnit}
 use Rattle.uas_tasks.specs.declared.Outcome.{Outcome}
 use Rattle.uas_tasks.specs.declared.Outcome.TheVariants.{Done, Differs, MediumError, NotReady}
@@ -72,6 +72,7 @@ first_stage-rests many unit job (Writes through) there = (refl, there)
 first_stage-rests many unit job Compares there = (refl, there)
 first_stage-rests many unit job Verifies there = (refl, there)
 first_stage-rests many unit job Synchronizes there = (refl, there)
+first_stage-rests many unit job (WritesAndVerifies compares has_written) there = (refl, there)
 
 either-rests : (many : ℕ) (b : Bool) (one other : Task) → Rests many one → Rests many other → Rests many (cond b one other)
 either-rests many true one other first second = first
@@ -155,6 +156,9 @@ request_of-written many unit chunk job (Writes through) there = there
 request_of-written many unit chunk job Compares there = tt
 request_of-written many unit chunk job Verifies there = tt
 request_of-written many unit chunk job Synchronizes there = tt
+request_of-written many unit chunk job (WritesAndVerifies compares false) there = there
+request_of-written many unit chunk job (WritesAndVerifies true true) there = tt
+request_of-written many unit chunk job (WritesAndVerifies false true) there = tt
 
 asked_task : (many chunk : ℕ) (task : Option Task) → IfSome task (IsTaskWithin many) →
     IfSome (option_map waiting task) (IsTaskWithin many)
@@ -244,6 +248,9 @@ work-keeps many slot unit shape (SynchronizesWork lba count) there still =
     (job-rests many unit Synchronizes shape.block_length lba (blocks_synchronized shape lba count) there)
 work-keeps many slot unit shape (VerifiesWork lba count) there still =
     rests-keeps many slot (started_work slot unit shape (VerifiesWork lba count)) refl still (job-rests many unit Verifies shape.block_length lba count there)
+work-keeps many slot unit shape (WritesAndVerifiesWork lba count compares) there still =
+    rests-keeps many slot (started_work slot unit shape (WritesAndVerifiesWork lba count compares)) refl still
+    (job-rests many unit (WritesAndVerifies compares false) shape.block_length lba count there)
 work-keeps many slot unit shape (ComparesWork lba count) there still =
     rests-keeps many slot (started_work slot unit shape (ComparesWork lba count)) refl still (job-rests many unit Compares shape.block_length lba count there)
 
@@ -272,6 +279,8 @@ none-keeps many slot (ReadsWork lba count) still = rests-keeps many slot (starte
 none-keeps many slot (WritesWork lba count through) still = rests-keeps many slot (started_none_work slot (WritesWork lba count through)) refl still (refl, tt)
 none-keeps many slot (SynchronizesWork lba count) still = rests-keeps many slot (started_none_work slot (SynchronizesWork lba count)) refl still (refl, tt)
 none-keeps many slot (VerifiesWork lba count) still = rests-keeps many slot (started_none_work slot (VerifiesWork lba count)) refl still (refl, tt)
+none-keeps many slot (WritesAndVerifiesWork lba count compares) still =
+    rests-keeps many slot (started_none_work slot (WritesAndVerifiesWork lba count compares)) refl still (refl, tt)
 none-keeps many slot (ComparesWork lba count) still = rests-keeps many slot (started_none_work slot (ComparesWork lba count)) refl still (refl, tt)
 
 pub started_none-keeps : (many : ℕ) (slot : SlotState) (asked : Result Work Sense) → waits slot.task ≡ false → Keeps many slot (started_none slot asked)
@@ -293,6 +302,8 @@ after_answer-within many outcome chunk (Some (Blocks unit job Waiting)) within =
     done Compares = (next_chunk-rests many chunk unit job within).1
     done Verifies = tt
     done Synchronizes = tt
+    done (WritesAndVerifies compares false) = within
+    done (WritesAndVerifies compares true) = (next_chunk-rests many chunk unit (record job { kind = WritesAndVerifies compares false }) within).1
 
     by_outcome : (outcome : Outcome) → IsTaskWithin many (after_outcome outcome chunk unit job)
     by_outcome Done = done job.kind

@@ -12,7 +12,7 @@ use Rattle.uas_tasks.specs.declared.AnswerFault.{AnswerFault}
 use Rattle.uas_tasks.specs.declared.AnswerFault.TheVariants.{NotOut, WrongLength}
 use Rattle.uas_tasks.specs.declared.Job.{Job}
 use Rattle.uas_tasks.specs.declared.JobKind.{JobKind}
-use Rattle.uas_tasks.specs.declared.JobKind.TheVariants.{Reads, Writes, Compares, Verifies, Synchronizes}
+use Rattle.uas_tasks.specs.declared.JobKind.TheVariants.{Reads, Writes, Compares, Verifies, Synchronizes, WritesAndVerifies}
 use Rattle.uas_tasks.specs.declared.Next.{Next}
 use Rattle.uas_tasks.specs.declared.Next.TheVariants.{Absent as NextAbsent, Asks as NextAsks, Waits as NextWaits, Gives as NextGives, Takes as NextTakes, Ends as NextEnds}
 use Rattle.uas_tasks.specs.declared.Outcome.{Outcome}
@@ -40,6 +40,9 @@ request_unit unit chunk job (Writes through) = refl
 request_unit unit chunk job Compares = refl
 request_unit unit chunk job Verifies = refl
 request_unit unit chunk job Synchronizes = refl
+request_unit unit chunk job (WritesAndVerifies compares false) = refl
+request_unit unit chunk job (WritesAndVerifies true true) = refl
+request_unit unit chunk job (WritesAndVerifies false true) = refl
 
 -- where a slot that isn't held is asked, its request is of a logical unit without a stale one
 asks_free : (stale : ℕ → Bool) (slot : SlotState) → slot_wants slot ≡ Asks → option_map_or stale (option_and_then held_by slot.task) false ≡ false →
@@ -58,6 +61,7 @@ asks_free stale slot asks free out is = by_task slot.chunk (length slot.given) s
         by_kind Compares bytes is = let it : ⊥ = cc in it
         by_kind Verifies bytes is = let it : ⊥ = cc in it
         by_kind Synchronizes bytes is = let it : ⊥ = cc in it
+        by_kind (WritesAndVerifies compares has_written) bytes is = let it : ⊥ = cc in it
 
     by_task : (chunk given : ℕ) (own : Option Out) (task : Option Task) → option_map_or (task_wants chunk (is_some own) given) task Absent ≡ Asks →
         option_map_or stale (option_and_then held_by task) false ≡ false → option_and_then (out_of chunk) task ≡ Some out → stale (unit_in out.request) ≡ false

@@ -1,10 +1,10 @@
 -- Slots stay sound. Cited by the answers of a slot's calls.
 use Rattle.std.proofs.Common.{◌≡◌, ℕ, ◌+◌, ◌*◌, ◌<◌, ◌≤◌, true, false, cond, Option, Some, None, IfSome, arith, refl}
-use Rattle.std.specs.Prelude.{nat_lt, option_map}
+use Rattle.std.specs.Prelude.{Bool, nat_lt, option_map}
 use Rattle.std.proofs.lemmas.Bool.Decides.{nat_tests}
 use Rattle.uas_tasks.specs.declared.Job.{Job}
 use Rattle.uas_tasks.specs.declared.JobKind.{JobKind}
-use Rattle.uas_tasks.specs.declared.JobKind.TheVariants.{Reads, Writes, Compares, Verifies, Synchronizes}
+use Rattle.uas_tasks.specs.declared.JobKind.TheVariants.{Reads, Writes, Compares, Verifies, Synchronizes, WritesAndVerifies}
 use Rattle.uas_tasks.specs.declared.Outcome.{Outcome}
 use Rattle.uas_tasks.specs.declared.Outcome.TheVariants.{Done, Differs, MediumError, NotReady}
 use Rattle.uas_tasks.specs.declared.Stage.TheVariants.{Asking, Waiting, Moving}
@@ -28,10 +28,15 @@ first_stage-sound chunk job (Writes through) some sound = chunk_bytes-some chunk
 first_stage-sound chunk job Compares some sound = chunk_bytes-some chunk job some sound
 first_stage-sound chunk job Verifies some sound = tt
 first_stage-sound chunk job Synchronizes some sound = tt
+first_stage-sound chunk job (WritesAndVerifies compares has_written) some sound = chunk_bytes-some chunk job some sound
 
 -- a job of which more blocks are done
 done-sound : (job : Job) (done : ℕ) → IsSoundJob job → done < job.count → IsSoundJob (record job { done = done })
 done-sound job done sound left = record { blocks = sound.blocks; left = left; some = sound.some; most = sound.most }
+
+-- and one whose chunk was written, or found so
+again-sound : (compares has_written : Bool) (job : Job) → IsSoundJob job → IsSoundJob (record job { kind = WritesAndVerifies compares has_written })
+again-sound compares has_written job sound = record { blocks = sound.blocks; left = sound.left; some = sound.some; most = sound.most }
 
 -- this holds of the next chunk where it holds of each task on the same blocks, and of one that has ended
 next_chunk-so : (P : Task → Type 0) (chunk unit : ℕ) (job : Job) → IsSoundJob job → 1 ≤ chunk →
@@ -61,6 +66,9 @@ done_by-sound (Writes through) chunk given unit job some sound = next_chunk-soun
 done_by-sound Compares chunk given unit job some sound = next_chunk-sound chunk given unit job some sound
 done_by-sound Verifies chunk given unit job some sound = tt
 done_by-sound Synchronizes chunk given unit job some sound = tt
+done_by-sound (WritesAndVerifies compares false) chunk given unit job some sound = (again-sound compares true job sound, tt)
+done_by-sound (WritesAndVerifies compares true) chunk given unit job some sound =
+    next_chunk-sound chunk given unit (record job { kind = WritesAndVerifies compares false }) some (again-sound compares false job sound)
 
 done_by-fits : (kind : JobKind) (chunk room unit : ℕ) (job : Job) → 1 ≤ chunk → IsSoundJob job → chunk * job.block_bytes ≤ room →
     FitsRoom chunk room (done_by kind chunk unit job)
@@ -69,6 +77,9 @@ done_by-fits (Writes through) chunk room unit job some sound fits = next_chunk-f
 done_by-fits Compares chunk room unit job some sound fits = next_chunk-fits chunk room unit job some sound fits
 done_by-fits Verifies chunk room unit job some sound fits = tt
 done_by-fits Synchronizes chunk room unit job some sound fits = tt
+done_by-fits (WritesAndVerifies compares false) chunk room unit job some sound fits = fits
+done_by-fits (WritesAndVerifies compares true) chunk room unit job some sound fits =
+    next_chunk-fits chunk room unit (record job { kind = WritesAndVerifies compares false }) some (again-sound compares false job sound) fits
 
 after_outcome-sound : (outcome : Outcome) (chunk given unit : ℕ) (job : Job) → 1 ≤ chunk → IsSoundJob job →
     IsSoundTask chunk given (after_outcome outcome chunk unit job)

@@ -2,7 +2,7 @@
 use Rattle.std.proofs.Common.{ℕ, Result, Ok, Err, IfOk}
 use Rattle.scsi_cmd.specs.declared.Sense.{Sense}
 use Rattle.host_commands.specs.declared.Work.{Work}
-use Rattle.host_commands.specs.declared.Work.TheVariants.{Nothing, Gives, Reads, Writes, Synchronizes, Verifies, Compares}
+use Rattle.host_commands.specs.declared.Work.TheVariants.{Nothing, Gives, Reads, Writes, Synchronizes, Verifies, Compares, WritesAndVerifies}
 use Rattle.host_commands.specs.Meaning.{IsWorkOn}
 use Rattle.uas_tasks.specs.Soundness.{StartsOn}
 
@@ -14,6 +14,7 @@ work_starts blocks most (Writes lba count through) on = on.0
 work_starts blocks most (Synchronizes lba count) on = on
 work_starts blocks most (Verifies lba count) on = on
 work_starts blocks most (Compares lba count) on = on.0
+work_starts blocks most (WritesAndVerifies lba count compares) on = on.0
 
 pub asked_starts : (blocks most : ℕ) (asked : Result Work Sense) → IfOk asked (IsWorkOn blocks most) → IfOk asked (StartsOn blocks)
 asked_starts blocks most (Ok work) on = work_starts blocks most work on

@@ -9,7 +9,7 @@ use Rattle.device_server.specs.declared.Answer.TheVariants.{Good, Check}
 use Rattle.host_commands.specs.declared.BlockLength.{BlockLength}
 use Rattle.host_commands.specs.declared.Work.{Work}
 use Rattle.host_commands.specs.declared.Work.TheVariants.{Nothing, Gives as GivesWork, Reads as ReadsWork, Writes as WritesWork, Synchronizes as SynchronizesWork}
-use Rattle.host_commands.specs.declared.Work.TheVariants.{Verifies as VerifiesWork, Compares as ComparesWork}
+use Rattle.host_commands.specs.declared.Work.TheVariants.{Verifies as VerifiesWork, Compares as ComparesWork, WritesAndVerifies as WritesAndVerifiesWork}
 use Rattle.host_commands.specs.Data.{given_bytes}
 use Rattle.host_commands.specs.Shapes.{Shape, block_bytes}
 use Rattle.uas_iu.specs.declared.Iu.{Iu}
@@ -18,7 +18,7 @@ use Rattle.uas_target.specs.declared.DeviceAnswer.TheVariants.{Status, Response}
 use Rattle.uas_target.specs.Tasks.{answer_unit, is_at}
 use Rattle.uas_tasks.specs.declared.Job.{Job}
 use Rattle.uas_tasks.specs.declared.JobKind.{JobKind}
-use Rattle.uas_tasks.specs.declared.JobKind.TheVariants.{Reads, Writes, Compares, Verifies, Synchronizes}
+use Rattle.uas_tasks.specs.declared.JobKind.TheVariants.{Reads, Writes, Compares, Verifies, Synchronizes, WritesAndVerifies}
 use Rattle.uas_tasks.specs.declared.Outcome.{Outcome}
 use Rattle.uas_tasks.specs.declared.Outcome.TheVariants.{Done, Differs, MediumError, NotReady}
 use Rattle.uas_tasks.specs.declared.Request.{Request}
@@ -70,6 +70,7 @@ moved_way (Writes through) bytes = Takes bytes
 moved_way Compares bytes = Takes bytes
 moved_way Verifies bytes = Waits
 moved_way Synchronizes bytes = Waits
+moved_way (WritesAndVerifies compares has_written) bytes = Takes bytes
 
 abbrev pub stage_wants : ℕ → Job → Stage → Wants
 stage_wants chunk job Asking = Asks
@@ -94,6 +95,9 @@ request_of (Writes through) unit chunk job = Write unit (job.lba + job.done) (ch
 request_of Compares unit chunk job = Compare unit (job.lba + job.done) (chunk_blocks chunk job)
 request_of Verifies unit chunk job = Verify unit job.lba job.count
 request_of Synchronizes unit chunk job = Sync unit job.lba job.count
+request_of (WritesAndVerifies compares false) unit chunk job = Write unit (job.lba + job.done) (chunk_blocks chunk job) true
+request_of (WritesAndVerifies true true) unit chunk job = Compare unit (job.lba + job.done) (chunk_blocks chunk job)
+request_of (WritesAndVerifies false true) unit chunk job = Verify unit (job.lba + job.done) (chunk_blocks chunk job)
 
 -- how many bytes of the chunk buffer belong to it
 abbrev pub request_bytes : JobKind → ℕ → ℕ
@@ -102,6 +106,7 @@ request_bytes (Writes through) bytes = bytes
 request_bytes Compares bytes = bytes
 request_bytes Verifies bytes = 0
 request_bytes Synchronizes bytes = 0
+request_bytes (WritesAndVerifies compares has_written) bytes = if has_written && not compares then 0 else bytes
 
 abbrev pub out_of : ℕ → Task → Option Out
 out_of chunk (Giving unit at) = None
@@ -148,6 +153,8 @@ medium_error (Writes through) = write_error
 medium_error Compares = unrecovered_read_error
 medium_error Verifies = unrecovered_read_error
 medium_error Synchronizes = write_error
+medium_error (WritesAndVerifies compares false) = write_error
+medium_error (WritesAndVerifies compares true) = unrecovered_read_error
 
 -- a command on blocks begins with a request, or with bytes from the host
 abbrev pub first_stage : JobKind → Stage
@@ -156,6 +163,7 @@ first_stage (Writes through) = Moving 0
 first_stage Compares = Moving 0
 first_stage Verifies = Asking
 first_stage Synchronizes = Asking
+first_stage (WritesAndVerifies compares has_written) = Moving 0
 
 -- the chunk is done: the next one, or the end
 abbrev pub next_chunk : ℕ → ℕ → Job → Task
@@ -163,13 +171,16 @@ next_chunk chunk unit job =
     let done = job.done + chunk_blocks chunk job in
     if nat_lt done job.count then Blocks unit (record job { done = done }) (first_stage job.kind) else ended_good unit
 
--- the blocks of a READ were read and its bytes go to the host; a WRITE's chunk is done; the others asked for all at once
+-- The blocks of a READ were read and its bytes go to the host; a WRITE's chunk is done; that of a WRITE AND VERIFY is written, and then found so;
+-- the others asked for all at once.
 abbrev pub done_by : JobKind → ℕ → ℕ → Job → Task
 done_by Reads chunk unit job = Blocks unit job (Moving 0)
 done_by (Writes through) chunk unit job = next_chunk chunk unit job
 done_by Compares chunk unit job = next_chunk chunk unit job
 done_by Verifies chunk unit job = ended_good unit
 done_by Synchronizes chunk unit job = ended_good unit
+done_by (WritesAndVerifies compares false) chunk unit job = Blocks unit (record job { kind = WritesAndVerifies compares true }) Asking
+done_by (WritesAndVerifies compares true) chunk unit job = next_chunk chunk unit (record job { kind = WritesAndVerifies compares false })
 
 abbrev pub after_outcome : Outcome → ℕ → ℕ → Job → Task
 after_outcome Done chunk unit job = done_by job.kind chunk unit job
@@ -333,6 +344,8 @@ started_work slot unit shape (WritesWork lba count through) = with_task slot (So
 started_work slot unit shape (SynchronizesWork lba count) =
     with_task slot (Some (job_task unit Synchronizes shape.block_length lba (blocks_synchronized shape lba count)))
 started_work slot unit shape (VerifiesWork lba count) = with_task slot (Some (job_task unit Verifies shape.block_length lba count))
+started_work slot unit shape (WritesAndVerifiesWork lba count compares) =
+    with_task slot (Some (job_task unit (WritesAndVerifies compares false) shape.block_length lba count))
 started_work slot unit shape (ComparesWork lba count) = with_task slot (Some (job_task unit Compares shape.block_length lba count))
 
 abbrev pub started : SlotState → ℕ → Shape → Result Work Sense → SlotState
@@ -347,6 +360,7 @@ started_none_work slot (ReadsWork lba count) = with_task slot (Some (Ended None 
 started_none_work slot (WritesWork lba count through) = with_task slot (Some (Ended None (Status Good)))
 started_none_work slot (SynchronizesWork lba count) = with_task slot (Some (Ended None (Status Good)))
 started_none_work slot (VerifiesWork lba count) = with_task slot (Some (Ended None (Status Good)))
+started_none_work slot (WritesAndVerifiesWork lba count compares) = with_task slot (Some (Ended None (Status Good)))
 started_none_work slot (ComparesWork lba count) = with_task slot (Some (Ended None (Status Good)))
 
 abbrev pub started_none : SlotState → Result Work Sense → SlotState

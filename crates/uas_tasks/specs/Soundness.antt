@@ -3,7 +3,7 @@ use Rattle.std.specs.Prelude.{◌≡◌, ℕ, ◌+◌, ◌-◌, ◌*◌, ◌^◌
 use Rattle.host_commands.specs.declared.BlockLength.{BlockLength}
 use Rattle.host_commands.specs.declared.Work.{Work}
 use Rattle.host_commands.specs.declared.Work.TheVariants.{Nothing, Gives as GivesWork, Reads as ReadsWork, Writes as WritesWork, Synchronizes as SynchronizesWork}
-use Rattle.host_commands.specs.declared.Work.TheVariants.{Verifies as VerifiesWork, Compares as ComparesWork}
+use Rattle.host_commands.specs.declared.Work.TheVariants.{Verifies as VerifiesWork, Compares as ComparesWork, WritesAndVerifies as WritesAndVerifiesWork}
 use Rattle.host_commands.specs.Data.{IsOfDevice}
 use Rattle.host_commands.specs.Shapes.{block_bytes}
 use Rattle.uas_profile.specs.declared.TheConstants.{GREATEST_TAG, MAX_UNITS}
@@ -92,6 +92,7 @@ StartsOn blocks (WritesWork lba count through) = lba + count ≤ blocks
 StartsOn blocks (SynchronizesWork lba count) = lba + count ≤ blocks
 StartsOn blocks (VerifiesWork lba count) = lba + count ≤ blocks
 StartsOn blocks (ComparesWork lba count) = lba + count ≤ blocks
+StartsOn blocks (WritesAndVerifiesWork lba count compares) = lba + count ≤ blocks
 
 -- the length of each logical unit's blocks
 abbrev pub lengths_of : List LogicalUnit → List BlockLength

@@ -3,8 +3,8 @@ ghost use Rattle.std.specs.Prelude.{◌≡◌, ℕ, ◌+◌, ◌*◌, ◌^◌, �
 ghost use Rattle.std.specs.Option.{option_map_or};
 ghost use Rattle.host_commands.specs.Shapes.{block_bytes};
 ghost use Rattle.uas_tasks.specs.Slots.{after_answer, after_outcome, chunk_blocks, chunk_bytes, done_by, ended_check, ended_good, first_stage};
-ghost use Rattle.uas_tasks.specs.Slots.{gave_task, is_done, is_read, job_task, medium_error, moved_on, moved_way, next_chunk, out_of, request_bytes};
-ghost use Rattle.uas_tasks.specs.Slots.{request_of, stage_wants, task_waits, took_task, waiting};
+ghost use Rattle.uas_tasks.specs.Slots.{is_done, is_read, job_task, medium_error, moved_way, next_chunk, out_of, request_bytes};
+ghost use Rattle.uas_tasks.specs.Slots.{request_of, stage_wants, task_waits, waiting};
 ghost use Rattle.uas_tasks.specs.Soundness.{FitsRoom, IsSoundJob, IsSoundStage, IsSoundTask, IsSoundWork};
 ghost use Rattle.uas_tasks.specs.Stale.{unit_written};
 
@@ -82,7 +82,9 @@ fn first_stage(kind: JobKind) -> Stage
 {
     match kind {
         JobKind::Reads | JobKind::Verifies | JobKind::Synchronizes => Stage::Asking,
-        JobKind::Writes { .. } | JobKind::Compares => Stage::Moving { at: 0 },
+        JobKind::Writes { .. } | JobKind::Compares | JobKind::WritesAndVerifies { .. } => {
+            Stage::Moving { at: 0 }
+        }
     }
 }
 
@@ -122,7 +124,9 @@ fn moved_way(kind: JobKind, bytes: usize) -> Wants
 {
     match kind {
         JobKind::Reads => Wants::Gives(bytes),
-        JobKind::Writes { .. } | JobKind::Compares => Wants::Takes(bytes),
+        JobKind::Writes { .. } | JobKind::Compares | JobKind::WritesAndVerifies { .. } => {
+            Wants::Takes(bytes)
+        }
         JobKind::Verifies | JobKind::Synchronizes => Wants::Waits,
     }
 }
@@ -155,7 +159,24 @@ fn request_of(unit: usize, job: &Job, chunk: u16) -> Request
             count,
             through,
         },
-        JobKind::Compares => Request::Compare { unit, block, count },
+        JobKind::WritesAndVerifies {
+            has_written: false,
+            ..
+        } => Request::Write {
+            unit,
+            block,
+            count,
+            through: true,
+        },
+        JobKind::Compares
+        | JobKind::WritesAndVerifies {
+            compares: true,
+            has_written: true,
+        } => Request::Compare { unit, block, count },
+        JobKind::WritesAndVerifies {
+            compares: false,
+            has_written: true,
+        } => Request::Verify { unit, block, count },
         JobKind::Verifies => Request::Verify {
             unit,
             block: job.lba,
@@ -174,6 +195,10 @@ fn request_bytes(kind: JobKind, bytes: usize) -> usize
 {
     match kind {
         JobKind::Reads | JobKind::Writes { .. } | JobKind::Compares => bytes,
+        JobKind::WritesAndVerifies {
+            compares,
+            has_written,
+        } => if has_written && !compares { 0 } else { bytes },
         JobKind::Verifies | JobKind::Synchronizes => 0,
     }
 }
@@ -193,7 +218,7 @@ pub(crate) fn waiting(task: Option<Task>) -> Option<Task>
 }
 
 /// The chunk is done: the next one, or the end.
-fn next_chunk(chunk: u16, unit: usize, job: Job) -> Task
+pub(crate) fn next_chunk(chunk: u16, unit: usize, job: Job) -> Task
     requires { IsSoundJob job }
     ensures { result ≡ next_chunk chunk unit job }
 {
@@ -249,6 +274,27 @@ fn done_by(chunk: u16, unit: usize, job: Job) -> Task
             stage: Stage::Moving { at: 0 },
         },
         JobKind::Writes { .. } | JobKind::Compares => next_chunk(chunk, unit, job),
+        JobKind::WritesAndVerifies {
+            compares,
+            has_written,
+        } => {
+            let job = Job {
+                kind: JobKind::WritesAndVerifies {
+                    compares,
+                    has_written: !has_written,
+                },
+                ..job
+            };
+            if has_written {
+                next_chunk(chunk, unit, job)
+            } else {
+                Task::Blocks {
+                    unit,
+                    job,
+                    stage: Stage::Asking,
+                }
+            }
+        }
         JobKind::Verifies | JobKind::Synchronizes => ended_good(unit),
     }
 }
@@ -258,7 +304,16 @@ fn medium_error(kind: JobKind) -> Sense
 {
     match kind {
         JobKind::Reads | JobKind::Compares | JobKind::Verifies => Sense::UNRECOVERED_READ_ERROR,
-        JobKind::Writes { .. } | JobKind::Synchronizes => Sense::WRITE_ERROR,
+        JobKind::WritesAndVerifies {
+            has_written: true,
+            ..
+        } => Sense::UNRECOVERED_READ_ERROR,
+        JobKind::Writes { .. }
+        | JobKind::Synchronizes
+        | JobKind::WritesAndVerifies {
+            has_written: false,
+            ..
+        } => Sense::WRITE_ERROR,
     }
 }
 
@@ -296,67 +351,4 @@ pub(crate) fn is_done(outcome: Outcome) -> bool
     ensures { result ≡ is_done outcome }
 {
     matches!(outcome, Outcome::Done)
-}
-
-/// A task that gave so many bytes, of data of the device of `given` bytes or of its chunk.
-pub(crate) fn gave_task(chunk: u16, given: usize, moved: usize, task: Option<Task>) -> Option<Task>
-    requires { IfSome task (IsSoundTask chunk given) }
-    ensures { result ≡ option_map (gave_task chunk given moved) task }
-{
-    match task {
-        Some(Task::Giving { unit, at }) => Some(if moved < given - at {
-            Task::Giving {
-                unit,
-                at: at + moved,
-            }
-        } else {
-            Task::Ended {
-                unit,
-                answer: DeviceAnswer::Status(Answer::Good),
-            }
-        }),
-        Some(Task::Blocks { unit, job, stage }) => {
-            let after = next_chunk(chunk, unit, job);
-            Some(moved_on(chunk, moved, unit, job, after, stage))
-        }
-        other => other,
-    }
-}
-
-/// A task that took so many bytes of its chunk.
-pub(crate) fn took_task(chunk: u16, moved: usize, task: Option<Task>) -> Option<Task>
-    requires { IfSome task (IsSoundWork chunk) }
-    ensures { result ≡ option_map (took_task chunk moved) task }
-{
-    match task {
-        Some(Task::Blocks { unit, job, stage }) => {
-            let after = Task::Blocks {
-                unit,
-                job,
-                stage: Stage::Asking,
-            };
-            Some(moved_on(chunk, moved, unit, job, after, stage))
-        }
-        other => other,
-    }
-}
-
-/// Bytes of a chunk have moved: the rest of it, or what comes then.
-fn moved_on(chunk: u16, moved: usize, unit: usize, job: Job, after: Task, stage: Stage) -> Task
-    requires job { IsSoundJob job }
-    requires stage { IsSoundStage chunk job stage }
-    ensures { result ≡ moved_on chunk moved unit job after stage }
-{
-    let Stage::Moving { at } = stage else {
-        return Task::Blocks { unit, job, stage };
-    };
-    if moved < chunk_bytes(&job, chunk) - at {
-        Task::Blocks {
-            unit,
-            job,
-            stage: Stage::Moving { at: at + moved },
-        }
-    } else {
-        after
-    }
 }

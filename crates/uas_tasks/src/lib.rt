@@ -12,7 +12,7 @@
 //! ```
 //!
 //! READ asks for one chunk of at most so many blocks, gives its bytes in any parts, and asks for the next one. WRITE, and VERIFY
-//! with data, takes a chunk in any parts and then asks. SYNCHRONIZE CACHE, START STOP UNIT and VERIFY without data ask once. What
+//! with data, takes a chunk in any parts and then asks; WRITE AND VERIFY asks twice. SYNCHRONIZE CACHE, START STOP UNIT and VERIFY without data ask once. What
 //! a failed request ends with:
 //!
 //! | Outcome | READ, VERIFY | WRITE, SYNCHRONIZE CACHE |
@@ -46,6 +46,7 @@ mod calls;
 mod jobs;
 mod laws;
 mod management;
+mod moves;
 mod receiver;
 mod slot;
 mod stale;
@@ -132,6 +133,8 @@ pub enum JobKind {
     Compares,
     Verifies,
     Synchronizes,
+    /// Each chunk is written through and then verified, or compared; whether it has been written.
+    WritesAndVerifies { compares: bool, has_written: bool },
 }
 
 /// The blocks of a command, `count` from `lba` on, of which `done` are done.

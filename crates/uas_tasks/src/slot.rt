@@ -11,9 +11,9 @@ ghost use Rattle.uas_tasks.specs.declared.Wants.{Wants};
 ghost use Rattle.uas_tasks.specs.declared.slot.Out.{Out};
 
 use crate::jobs::{
-    after_answer, gave_task, is_done, is_read, is_waiting, out_of, stage_wants, took_task,
-    unit_written, waiting,
+    after_answer, is_done, is_read, is_waiting, out_of, stage_wants, unit_written, waiting,
 };
+use crate::moves::{gave_task, took_task};
 use crate::{Answer, DeviceAnswer, Outcome, Request, Stage, Task, Wants};
 use arrayvec::ArrayVec;
 use host_commands::{Data, MOST_DATA_BYTES, write_data};

@@ -109,6 +109,17 @@ impl Slot {
             Work::Verifies { lba, count } => {
                 self.start_job(unit, shape, JobKind::Verifies, lba, u64::from(count));
             }
+            Work::WritesAndVerifies {
+                lba,
+                count,
+                compares,
+            } => {
+                let kind = JobKind::WritesAndVerifies {
+                    compares,
+                    has_written: false,
+                };
+                self.start_job(unit, shape, kind, lba, u64::from(count));
+            }
             Work::Compares { lba, count } => {
                 self.start_job(unit, shape, JobKind::Compares, lba, u64::from(count));
             }

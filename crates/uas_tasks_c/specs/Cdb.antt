@@ -12,7 +12,7 @@ use Rattle.host_commands.specs.declared.Data.{Data}
 use Rattle.host_commands.specs.declared.UnitAttention.{UnitAttention}
 use Rattle.host_commands.specs.declared.UnitAttention.TheVariants.{PowerOn, Reset}
 use Rattle.host_commands.specs.declared.Work.{Work}
-use Rattle.host_commands.specs.declared.Work.TheVariants.{Nothing, Gives, Reads, Writes, Synchronizes, Verifies, Compares}
+use Rattle.host_commands.specs.declared.Work.TheVariants.{Nothing, Gives, Reads, Writes, Synchronizes, Verifies, Compares, WritesAndVerifies}
 use Rattle.scsi_cmd.specs.declared.Sense.{Sense}
 use Rattle.uas_profile.specs.declared.TheConstants.{MAX_UNITS}
 use Rattle.uas_tasks_c.specs.declared.cdb.Asked.{Asked}
@@ -66,6 +66,7 @@ IsGiven (Does (Writes lba count through)) = Unit {0}
 IsGiven (Does (Synchronizes lba count)) = Unit {0}
 IsGiven (Does (Verifies lba count)) = Unit {0}
 IsGiven (Does (Compares lba count)) = Unit {0}
+IsGiven (Does (WritesAndVerifies lba count compares)) = Unit {0}
 
 -- WHAT C IS TOLD
 
@@ -81,6 +82,7 @@ work_record (Writes lba count through) = record_with 3 lba count 0 (yes through)
 work_record (Synchronizes lba count) = record_with 4 lba count 0 0
 work_record (Verifies lba count) = record_with 5 lba count 0 0
 work_record (Compares lba count) = record_with 6 lba count 0 0
+work_record (WritesAndVerifies lba count compares) = record_with (if compares then 8 else 7) lba count 0 1
 
 -- the number, and what the two records have then
 abbrev pub parsed : Asked → UasTasksWork → UasTasksSense → ℕ × (UasTasksWork × UasTasksSense)
@@ -104,3 +106,4 @@ given_told (Does (Writes lba many through)) bytes count = (0, (bytes, 0))
 given_told (Does (Synchronizes lba many)) bytes count = (0, (bytes, 0))
 given_told (Does (Verifies lba many)) bytes count = (0, (bytes, 0))
 given_told (Does (Compares lba many)) bytes count = (0, (bytes, 0))
+given_told (Does (WritesAndVerifies lba many compares)) bytes count = (0, (bytes, 0))

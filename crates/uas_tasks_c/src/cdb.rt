@@ -103,7 +103,7 @@ pub extern "C" fn uas_tasks_cdb_parse(
 }
 
 /// The data of the logical unit or the device that a CDB asks for, at the front of `bytes`, and how many bytes they are: none where it asks
-/// for no data, or for blocks. The faults of `uas_tasks_cdb_parse`, and `TASKS_LENGTH` where they don't fit: then nothing is written. 484 bytes
+/// for no data, or for blocks. The faults of `uas_tasks_cdb_parse`, and `TASKS_LENGTH` where they don't fit: then nothing is written. 604 bytes
 /// always do.
 #[unsafe(no_mangle)]
 pub extern "C" fn uas_tasks_cdb_data(
@@ -244,6 +244,11 @@ fn record_of(work: &Work) -> UasTasksWork
         Work::Synchronizes { lba, count } => (4, lba, count, 0, false),
         Work::Verifies { lba, count } => (5, lba, count, 0, false),
         Work::Compares { lba, count } => (6, lba, count, 0, false),
+        Work::WritesAndVerifies {
+            lba,
+            count,
+            compares,
+        } => (if compares { 8 } else { 7 }, lba, count, 0, true),
     };
     UasTasksWork {
         lba,

@@ -11,6 +11,8 @@ use Rattle.shared_machine.specs.Drain.{all_tags, retirements, round, rounds, tri
 use Rattle.shared_machine.specs.Laws.{AllDue, LeadsTo}
 use Rattle.shared_machine.specs.Replay.{replayed}
 use Rattle.shared_machine.proofs.Drains.{AllDue-append, ended-so, replayed-append}
+use Rattle.isolation.specs.Isolation.{IsIsolated}
+use Rattle.isolation.proofs.WholeRuns.{replayed-isolated}
 use Rattle.whole_commands.specs.OnTheBus.{DrainTakesBusSteps, IsBusStep}
 
 -- some steps of the bus's own that act lead from here to there, and are what is missing there
@@ -88,4 +90,11 @@ rounds-own (suc more) now =
 pub drain-own : DrainTakesBusSteps
 drain-own state limit =
     let all = rounds-own (suc limit) (state, limit) in
-    record { steps = all.steps; run = all.run; spent = all.spent; own = all.own }
+    record {
+      steps = all.steps;
+      run = all.run;
+      spent = all.spent;
+      own = all.own;
+      isolated = λ client. subst (λ last. IsIsolated state all.steps (replayed state all.steps).1 last client) all.run.state
+          (replayed-isolated state all.steps client);
+    }

@@ -12,7 +12,8 @@ use Rattle.shared_machine.specs.declared.Outcome.{Outcome}
 use Rattle.shared_machine.specs.Shared.{Shared, opening, shared_step}
 use Rattle.shared_machine.specs.Drain.{drained}
 use Rattle.shared_machine.specs.Laws.{LeadsTo}
-use Rattle.isolation.specs.Isolation.{own_state}
+use Rattle.shared_machine.specs.Replay.{replayed}
+use Rattle.isolation.specs.Isolation.{IsIsolated, own_state}
 use Rattle.whole_commands.specs.Reads.{AreItsBlocks}
 use Rattle.whole_commands.specs.Writes.{HasItsBytes}
 
@@ -28,12 +29,13 @@ IsBusStep Event = Unit {0}
 IsBusStep (Retire pipe tag) = Unit {0}
 IsBusStep (Take client) = ⊥
 
--- what a drain takes: steps of the bus's own that act, so many as it took of those that it may
+-- What a drain takes: steps of the bus's own that act, so many as it took of those that it may. To each client they are its own machine's.
 pub record TakesBusSteps (old : Shared) (limit : ℕ) : Type 0 where
   pub steps : List Step
   pub run : LeadsTo old steps (drained old limit).state
   pub spent : length steps + (drained old limit).left ≡ limit
   pub own : All IsBusStep steps
+  pub isolated : (client : ℕ) → IsIsolated old steps (replayed old steps).1 (drained old limit).state client
 
 abbrev pub DrainTakesBusSteps : Type 0
 DrainTakesBusSteps = (state : Shared) (limit : ℕ) → TakesBusSteps state limit

@@ -23,7 +23,8 @@ pub fn good_write_is_written()
     ensures { GoodWriteIsWritten }
 {}
 
-/// Law: a drain takes steps of the bus's own alone: it submits nothing and takes no reply.
+/// Law: a drain takes steps of the bus's own alone: it submits nothing and takes no reply, and to each client its steps are those of the
+/// client's own machine.
 pub fn drain_takes_bus_steps()
     ensures { DrainTakesBusSteps }
 {}

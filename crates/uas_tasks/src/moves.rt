@@ -1,0 +1,70 @@
+//! Bytes that move, to the host or from it: data of the device, and chunks of blocks.
+ghost use Rattle.std.specs.Prelude.{◌≡◌, IfSome, option_map};
+ghost use Rattle.uas_tasks.specs.Slots.{gave_task, moved_on, took_task};
+ghost use Rattle.uas_tasks.specs.Soundness.{IsSoundJob, IsSoundStage, IsSoundTask, IsSoundWork};
+
+use crate::jobs::{chunk_bytes, next_chunk};
+use crate::{Answer, DeviceAnswer, Job, Stage, Task};
+
+/// A task that gave so many bytes, of data of the device of `given` bytes or of its chunk.
+pub(crate) fn gave_task(chunk: u16, given: usize, moved: usize, task: Option<Task>) -> Option<Task>
+    requires { IfSome task (IsSoundTask chunk given) }
+    ensures { result ≡ option_map (gave_task chunk given moved) task }
+{
+    match task {
+        Some(Task::Giving { unit, at }) => Some(if moved < given - at {
+            Task::Giving {
+                unit,
+                at: at + moved,
+            }
+        } else {
+            Task::Ended {
+                unit,
+                answer: DeviceAnswer::Status(Answer::Good),
+            }
+        }),
+        Some(Task::Blocks { unit, job, stage }) => {
+            let after = next_chunk(chunk, unit, job);
+            Some(moved_on(chunk, moved, unit, job, after, stage))
+        }
+        other => other,
+    }
+}
+
+/// A task that took so many bytes of its chunk.
+pub(crate) fn took_task(chunk: u16, moved: usize, task: Option<Task>) -> Option<Task>
+    requires { IfSome task (IsSoundWork chunk) }
+    ensures { result ≡ option_map (took_task chunk moved) task }
+{
+    match task {
+        Some(Task::Blocks { unit, job, stage }) => {
+            let after = Task::Blocks {
+                unit,
+                job,
+                stage: Stage::Asking,
+            };
+            Some(moved_on(chunk, moved, unit, job, after, stage))
+        }
+        other => other,
+    }
+}
+
+/// Bytes of a chunk have moved: the rest of it, or what comes then.
+fn moved_on(chunk: u16, moved: usize, unit: usize, job: Job, after: Task, stage: Stage) -> Task
+    requires job { IsSoundJob job }
+    requires stage { IsSoundStage chunk job stage }
+    ensures { result ≡ moved_on chunk moved unit job after stage }
+{
+    let Stage::Moving { at } = stage else {
+        return Task::Blocks { unit, job, stage };
+    };
+    if moved < chunk_bytes(&job, chunk) - at {
+        Task::Blocks {
+            unit,
+            job,
+            stage: Stage::Moving { at: at + moved },
+        }
+    } else {
+        after
+    }
+}

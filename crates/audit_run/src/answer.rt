@@ -8,7 +8,7 @@ ghost use Rattle.audit_run.specs.Ends.{CantTell, IsTold};
 use crate::accounts::{is_true_of, replies_of};
 use crate::replay::replay_log;
 use crate::texts::file_log;
-use crate::{AuditFault, FileLog, HeadAt, KeptState, Told};
+use crate::{AuditFault, FileLog, HeadAt, KeptState};
 use byte_io::Source;
 use log_text::PlainLog;
 use std::alloc::{AllocError, Global};
@@ -26,9 +26,8 @@ pub(crate) fn answered<S: Source, W: Write>(
     head: Option<u32>,
     notes: &mut W,
     shows_progress: bool,
-) -> Result<Told, AuditFault>
-    ensures ok { IfOk result (λ answer. IfSome (S.left source.old) (λ bytes. IsTold head bytes answer.text.items)) }
-    ensures audited { IfOk result (λ answer. answer.is_true ≡ true) }
+) -> Result<Vec<u8>, AuditFault>
+    ensures ok { IfOk result (λ answer. IfSome (S.left source.old) (λ bytes. IsTold head bytes answer.items)) }
     ensures there { OnOk result (IsTrue (S.is_there source.old)) }
     ensures fault { IfErr result (CantTell head [] (S.left source.old) (S.is_there source.old) (S.can_fail source.old)) }
     ensures quiet { shows_progress ≡ false → notes.new ≡ notes.old }
@@ -66,16 +65,15 @@ fn told(
     log: &PlainLog,
     state: Option<KeptState>,
     head: Option<HeadAt>,
-) -> Result<Told, AllocError>
+) -> Result<Vec<u8>, AllocError>
     requires { IsReplayOf log.now booked.now }
-    ensures text { IfOk result (λ answer. answer.text.items ≡ (audit_text log.now ++ state_text state) ++ found_text head) }
-    ensures audited { IfOk result (λ answer. answer.is_true ≡ true) }
+    ensures text { IfOk result (λ answer. answer.items ≡ (audit_text log.now ++ state_text state) ++ found_text head) }
 {
-    let mut answer = lines(alloc, booked, log)?;
+    let mut text = lines(alloc, booked, log)?;
     let state = state_of(alloc, state)?;
-    answer.text.extend_from_slice(&state)?;
-    push_head(alloc, &mut answer.text, head)?;
-    Ok(answer)
+    text.extend_from_slice(&state)?;
+    push_head(alloc, &mut text, head)?;
+    Ok(text)
 }
 
 /// `beginning of N steps` of a log without an end, and `torn at byte N` where a record was cut off.
@@ -141,37 +139,33 @@ fn head_line(alloc: Global, sum: u32, step: usize) -> Result<String, AllocError>
 }
 
 /// A line for each client. Asks that the bus is booked by the log.
-fn lines(alloc: Global, booked: &Booked, log: &PlainLog) -> Result<Told, AllocError>
+fn lines(alloc: Global, booked: &Booked, log: &PlainLog) -> Result<Vec<u8>, AllocError>
     requires { IsReplayOf log.now booked.now }
-    ensures text { IfOk result (λ answer. answer.text.items ≡ audit_text log.now) }
-    ensures audited { IfOk result (λ answer. answer.is_true ≡ true) }
+    ensures text { IfOk result (λ answer. answer.items ≡ audit_text log.now) }
 {
     let mut text = Vec::new(alloc);
-    let mut is_true = true;
     for client in 0..log.units().len() {
-        is_true = push_line(alloc, &mut text, booked, log, client)? && is_true;
+        push_line(alloc, &mut text, booked, log, client)?;
     }
-    Ok(Told { text, is_true })
+    Ok(text)
 }
 
-/// Adds a client's line, and answers whether its audit is true.
+/// Adds a client's line.
 fn push_line(
     alloc: Global,
     text: &mut Vec<u8>,
     booked: &Booked,
     log: &PlainLog,
     client: usize,
-) -> Result<bool, AllocError>
+) -> Result<(), AllocError>
     requires replay { IsReplayOf log.now booked.now }
     requires client { client < length log.now.units }
     ensures text { OnOk result (text.new.items ≡ text.old.items ++ client_line log.now client) }
-    ensures audited { IfOk result (λ told. told ≡ true) }
 {
     let replies = replies_of(alloc, log.replies(), client)?;
     let told = is_true_of(alloc, booked, log, client, &replies)?;
     let line = line_of(alloc, client, replies.len(), told)?;
-    text.extend_from_slice(line.as_bytes())?;
-    Ok(told)
+    text.extend_from_slice(line.as_bytes())
 }
 
 /// `client C replies R true`, or `false`.

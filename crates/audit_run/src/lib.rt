@@ -32,16 +32,13 @@ const _: () = prove!(MAX_LOG_BYTES == 1_073_741_824);
 /// Every client's audit is true.
 pub const DONE: u8 = 0;
 
-/// A client's audit is false.
-pub const UNTRUE: u8 = 1;
-
 /// A fault of the file, of its text or of the log, or of standard output.
 pub const FAULT: u8 = 3;
 
 /// Want of memory.
 pub const NO_MEMORY: u8 = 4;
 
-const _: () = prove!(DONE == 0 && UNTRUE == 1 && FAULT == 3 && NO_MEMORY == 4);
+const _: () = prove!(DONE == 0 && FAULT == 3 && NO_MEMORY == 4);
 
 /// Why a run gave up.
 #[derive(Clone, Copy, Debug, PartialEq, Eq)]
@@ -91,12 +88,4 @@ pub(crate) struct KeptState {
     pub(crate) has_end: bool,
     /// Where the beginning of a record stands that was cut off.
     pub(crate) torn: Option<usize>,
-}
-
-/// What is told of a log.
-#[derive(Debug, Drop)]
-pub(crate) struct Told {
-    pub(crate) text: Vec<u8>,
-    /// Whether each client's audit is true.
-    pub(crate) is_true: bool,
 }

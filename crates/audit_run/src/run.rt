@@ -4,7 +4,7 @@ ghost use Rattle.std.specs.Io.KnownBytes.{Keeps};
 ghost use Rattle.audit_run.specs.Ends.{GivesUp, IsRefused, Tells};
 
 use crate::answer::answered;
-use crate::{AuditFault, DONE, UNTRUE};
+use crate::{AuditFault, DONE};
 use byte_io::{Sink, Source, StreamFault};
 use std::alloc::Global;
 use std::io::Write;
@@ -32,13 +32,12 @@ pub fn run_audit<S: Source, O: Sink, W: Write>(
     ensures quiet { is_watched ≡ false → result ≡ 0 → faults.new ≡ faults.old }
 {
     match audited(alloc, source, head, output, faults, is_watched) {
-        Ok(true) => DONE,
-        Ok(false) => UNTRUE,
+        Ok(()) => DONE,
         Err(fault) => fault.tell(faults, is_watched),
     }
 }
 
-/// Whether each client's audit is true; `output` gets what is told.
+/// Audits the log: each client's audit is true. `output` gets what is told.
 fn audited<S: Source, O: Sink, W: Write>(
     alloc: Global,
     source: &mut S,
@@ -46,8 +45,7 @@ fn audited<S: Source, O: Sink, W: Write>(
     output: &mut O,
     notes: &mut W,
     shows_progress: bool,
-) -> Result<bool, AuditFault>
-    ensures audited { IfOk result IsTrue }
+) -> Result<(), AuditFault>
     ensures told { OnOk result (IfSome (S.left source.old) (λ bytes. Tells head bytes (O.written output.old) (O.written output.new))) }
     ensures there { OnOk result (IsTrue (S.is_there source.old)) }
     ensures fault { IfErr result (GivesUp head (S.left source.old) (S.is_there source.old) (S.can_fail source.old) (O.can_fail output.old)
@@ -55,8 +53,8 @@ fn audited<S: Source, O: Sink, W: Write>(
     ensures quiet { shows_progress ≡ false → notes.new ≡ notes.old }
 {
     let answer = answered(alloc, source, head, notes, shows_progress)?;
-    match output.write(&answer.text) {
-        Ok(()) => Ok(answer.is_true),
+    match output.write(&answer) {
+        Ok(()) => Ok(()),
         Err(StreamFault::NoMemory) => Err(AuditFault::NoMemory),
         Err(StreamFault::File) => Err(AuditFault::Output),
     }

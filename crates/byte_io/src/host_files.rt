@@ -1,18 +1,23 @@
 //! The files of the machine that the program runs on.
 //!
-//! A plain file is written anew beside the one whose place it takes: as `NAME.uasdisk-part`, which is synced and then renamed. So
-//! whatever ends the program, and whenever, the name has the old file or the new one, whole. What is no plain file (a device, a
-//! pipe, a link), has further names or may not be written, is written in place, and so is a file beside which none can be made.
+//! A plain file is written anew beside the one whose place it takes: as `NAME.PROCESS-N.uasdisk-part`, which is synced and then
+//! renamed. So whatever ends the program, and whenever, the name has the old file or the new one, whole. PROCESS is the number of
+//! the process, and N the first number from 0 on under which no file stands: a file that is there is another run's or the user's,
+//! and is left alone. What is no plain file (a device, a pipe, a link), has further names or may not be written, is written in
+//! place, and so is a file beside which none can be made.
 
 ghost use Rattle.std.specs.Prelude.{true, false, None};
 
 use crate::files::Files;
 use crate::streams::{Reader, Sink, StreamFault};
-use std::alloc::AllocError;
 use std::fs::{File, Metadata};
 use std::io::{ErrorKind, Write};
 use std::os::unix::fs::MetadataExt;
-use std::{fs, io};
+use std::path::Path;
+use std::{fs, io, process};
+
+/// The names beside a file that are tried.
+const TRIES: u32 = 1000;
 
 /// The files of the machine that the program runs on. What they hold isn't known.
 #[derive(Drop)]
@@ -65,23 +70,14 @@ impl Files for HostFiles<'_> {
     }
 
     fn close(&mut self, file: Option<HostWriter>) -> Result<(), StreamFault> {
-        let Some(
-            HostWriter {
-                file,
-                place: Place::Beside { part, name },
-            },
-        ) = file
-        else {
+        let Some(HostWriter { file, place }) = file else {
             return Ok(());
         };
-        let moved = file
-            .sync_all()
-            .and_then(|()| fs::rename(self.0, part.as_str(), name.as_str()));
-        if moved.is_err() {
-            remove(self.0, &part);
-            return Err(StreamFault::File);
-        }
-        Ok(())
+        let closed = match &place {
+            Place::Itself => synced_in_place(&file),
+            Place::Beside { part, name } => renamed(self.0, &file, part, name),
+        };
+        closed.map_err(|_| StreamFault::File)
     }
 
     fn give_up(&mut self, file: Option<HostWriter>) {
@@ -111,6 +107,35 @@ impl Sink for HostWriter {
     }
 }
 
+/// Syncs a file that was written under its name. What can't be synced, as a pipe or a terminal, has nothing to be lost.
+fn synced_in_place(file: &File) -> io::Result<()> {
+    match file.sync_all() {
+        Err(error) if error.kind() == ErrorKind::InvalidInput => Ok(()),
+        synced => synced,
+    }
+}
+
+/// Syncs a file that was written beside and gives it its name. At a fault it is removed.
+fn renamed(rt: &HostRuntime, file: &File, part: &str, name: &str) -> io::Result<()> {
+    let renamed = file.sync_all().and_then(|()| fs::rename(rt, part, name));
+    if renamed.is_err() {
+        remove(rt, part);
+    } else {
+        sync_folder(rt, name);
+    }
+    renamed
+}
+
+/// Syncs the folder of a file, so that the file keeps its name when the machine stops. A folder that can't be opened or synced is
+/// left to the system: the file has its name by then.
+pub fn sync_folder(rt: &HostRuntime, name: &str) {
+    let folder = match Path::new(name).parent() {
+        Some(folder) if !folder.as_str().is_empty() => folder,
+        Some(_) | None => Path::new("."),
+    };
+    let _ = File::open(rt, folder).and_then(|folder| folder.sync_all());
+}
+
 /// A new file beside the one of a name, with its owner and its rights; none where the name's file is to be written in place.
 fn beside(rt: &HostRuntime, name: &str) -> Option<HostWriter> {
     let old = match fs::symlink_metadata(rt, name) {
@@ -118,9 +143,8 @@ fn beside(rt: &HostRuntime, name: &str) -> Option<HostWriter> {
         Err(error) if error.kind() == ErrorKind::NotFound => None,
         Ok(_) | Err(_) => return None,
     };
-    let (part, name) = names(rt, name).ok()?;
-    remove(rt, &part);
-    let file = File::create_new(rt, part.as_str()).ok()?;
+    let name = String::from_str(rt.alloc(), name).ok()?;
+    let (file, part) = new_part(rt, &name)?;
     if let Some(old) = old {
         if made_alike(rt, &file, &part, &old).is_err() {
             remove(rt, &part);
@@ -131,6 +155,20 @@ fn beside(rt: &HostRuntime, name: &str) -> Option<HostWriter> {
         file,
         place: Place::Beside { part, name },
     })
+}
+
+/// A new file beside the one of a name, and its own name. What stands there under such a name is left alone.
+fn new_part(rt: &HostRuntime, name: &str) -> Option<(File, String)> {
+    let process = process::id(rt.process());
+    for number in 0..TRIES {
+        let part = format!(in rt.alloc(); "{name}.{process}-{number}.uasdisk-part").ok()?;
+        match File::create_new(rt, part.as_str()) {
+            Ok(file) => return Some((file, part)),
+            Err(error) if error.kind() == ErrorKind::AlreadyExists => {}
+            Err(_) => return None,
+        }
+    }
+    None
 }
 
 /// Whether a file may give its name to another: a plain one of one name that may be written.
@@ -145,13 +183,6 @@ fn made_alike(rt: &HostRuntime, file: &File, part: &str, old: &Metadata) -> io::
         std::os::unix::fs::chown(rt, part, Some(old.uid()), Some(old.gid()))?;
     }
     file.set_permissions(old.permissions())
-}
-
-/// The name of the file beside, and the name itself.
-fn names(rt: &HostRuntime, name: &str) -> Result<(String, String), AllocError> {
-    let part = format!(in rt.alloc(); "{name}.uasdisk-part")?;
-    let name = String::from_str(rt.alloc(), name)?;
-    Ok((part, name))
 }
 
 /// Removes a file, where it is there.

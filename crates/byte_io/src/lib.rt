@@ -21,7 +21,7 @@ mod whole;
 
 pub use disks::{Disks, Extent};
 pub use files::Files;
-pub use host_files::{HostFiles, HostWriter};
+pub use host_files::{HostFiles, HostWriter, sync_folder};
 pub use outputs::{Output, WriteFailed};
 pub use streams::{
     BytesLeft, BytesTaken, ReadFailed, Reader, Sink, Source, StreamFault, Writer, read_at_most,

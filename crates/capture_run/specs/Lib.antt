@@ -1,3 +1,4 @@
 pub mod format
 pub mod urbs
 pub mod Ends
+pub mod Moved

@@ -1,9 +1,10 @@
 //! A script's run as `replay` makes it, with the bytes that its commands moved.
 
-ghost use Rattle.std.specs.Prelude.{◌≡◌, [], None, false, IfOk, IfErr};
+ghost use Rattle.std.specs.Prelude.{◌≡◌, [], None, false, IfOk, IfErr, OnOk};
 ghost use Rattle.byte_io.specs.Disks.{AreDisks};
 ghost use Rattle.uas_replay.specs.Told.{told, whole_run, zeroed_units};
 ghost use Rattle.uas_replay.specs.Runs.{StopsBy};
+ghost use Rattle.capture_run.specs.Moved.{taker, with_handed, with_reply};
 
 use crate::urbs::Transfers;
 use bus_core::{Outcome, Step};
@@ -65,7 +66,9 @@ impl<W> Watcher<W> for Keeper {
 }
 
 /// The client that takes a reply by a step.
-fn taker(step: &Step) -> usize {
+fn taker(step: &Step) -> usize
+    ensures { result ≡ taker step.now }
+{
     match step {
         Step::Take(client) => *client,
         _ => 0,
@@ -74,7 +77,9 @@ fn taker(step: &Step) -> usize {
 
 impl Keeper {
     /// Keeps the bytes that a command is handed in with.
-    fn keep_handed(&mut self, step: &Step) -> Result<(), AllocError> {
+    fn keep_handed(&mut self, step: &Step) -> Result<(), AllocError>
+        ensures { OnOk result (self.new.transfers ≡ with_handed self.old.transfers step.now) }
+    {
         match step {
             Step::Submit {
                 client,
@@ -90,7 +95,9 @@ impl Keeper {
     }
 
     /// Keeps the bytes that come back with a reply.
-    fn keep_reply(&mut self, client: usize, reply: &Option<Reply>) -> Result<(), AllocError> {
+    fn keep_reply(&mut self, client: usize, reply: &Option<Reply>) -> Result<(), AllocError>
+        ensures { OnOk result (self.new.transfers ≡ with_reply self.old.transfers client reply.now) }
+    {
         match reply {
             Some(Reply::Status { ticket, buffer, .. })
             | Some(Reply::Aborted { ticket, buffer, .. }) => {

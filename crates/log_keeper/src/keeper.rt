@@ -1,5 +1,5 @@
 //! A log in a file of its own, kept while it grows.
-ghost use Rattle.std.specs.Prelude.{◌≡◌, ◌+◌, ◌-◌, ◌≤◌, ◌++◌, ◌↔◌, [], if◌then◌else◌, Err, IfErr, IfOk, IsErrOf, IsTrue, OnErr, OnOk, length};
+ghost use Rattle.std.specs.Prelude.{◌≡◌, ◌+◌, ◌-◌, ◌≤◌, ◌++◌, ◌↔◌, ◌⊎◌, [], if◌then◌else◌, Err, IfErr, IfOk, IsErrOf, IsTrue, OnErr, OnOk, length};
 ghost use Rattle.std.specs.Io.KnownBytes.{Appends};
 ghost use Rattle.kept_log.specs.Form.{end_text, head_sum, head_text};
 ghost use Rattle.log_records.specs.Records.{record_text};
@@ -12,6 +12,26 @@ use byte_io::StreamFault;
 use kept_log::{Why, write_end};
 use std::alloc::Global;
 use uas_log::Log;
+
+/// The head of a log that is to be kept, and the place behind it.
+#[derive(Debug, Drop)]
+pub struct Head {
+    pub text: Vec<u8>,
+    pub place: Place,
+}
+
+impl Head {
+    /// The head of a log. `Limits` exactly where the log's logical units, or how many tags each client has, are past the limits of its text.
+    pub fn of(alloc: Global, log: &Log) -> Result<Head, KeepFault>
+        ensures text { IfOk result (λ head. head.text.items ≡ head_text log.now.tags log.now.units) }
+        ensures place { IfOk result (λ head. head.place ≡ record { steps = 0; replies = 0; sum = head_sum log.now.tags log.now.units }) }
+        ensures limits { IsErrOf result KeepFault.Limits ↔ (AreUnits log.now.tags log.now.units → ⊥) }
+    {
+        let mut text = Vec::new(alloc);
+        let place = begin(alloc, log, &mut text)?;
+        Ok(Head { text, place })
+    }
+}
 
 /// A log that is kept: its file, the place of the log at which its text stands, and what of the text the file doesn't have yet.
 #[derive(Debug, Drop)]
@@ -26,26 +46,24 @@ pub struct Keeper<F: KeptFile> {
 
 impl<F: KeptFile + Drop> Keeper<F> {
     /// Begins to keep a log in an empty file, which is synced after each `every` steps, or at the end alone where that is 0. Its head
-    /// waits for the file. `Limits` exactly where the log's logical units, or how many tags each client has, are past the limits of its text.
-    pub fn new(alloc: Global, log: &Log, every: usize, file: F) -> Result<Keeper<F>, KeepFault>
-        ensures waiting { IfOk result (λ keeper. keeper.waiting.items ≡ head_text log.now.tags log.now.units) }
-        ensures place { IfOk result (λ keeper. keeper.place ≡ record { steps = 0; replies = 0; sum = head_sum log.now.tags log.now.units }) }
-        ensures file { IfOk result (λ keeper. keeper.writer ≡ record { file = file; every = every; unsynced = 0 }) }
-        ensures written { IfOk result (λ keeper. keeper.written ≡ 0) }
-        ensures limits { IsErrOf result KeepFault.Limits ↔ (AreUnits log.now.tags log.now.units → ⊥) }
+    /// waits for the file.
+    pub fn new(head: Head, every: usize, file: F) -> Keeper<F>
+        ensures waiting { result.waiting.items ≡ head.text.items }
+        ensures place { result.place ≡ head.place }
+        ensures file { result.writer ≡ record { file = file; every = every; unsynced = 0 } }
+        ensures written { result.written ≡ 0 }
     {
-        let mut waiting = Vec::new(alloc);
-        let place = begin(alloc, log, &mut waiting)?;
-        Ok(Keeper {
+        let Head { text, place } = head;
+        Keeper {
             writer: KeptWriter {
                 file,
                 every,
                 unsynced: 0,
             },
             place,
-            waiting,
+            waiting: text,
             written: 0,
-        })
+        }
     }
 
     /// Takes the records of all steps behind its place from the log: they wait for the file. At a fault those before it do: `Limits` where
@@ -90,33 +108,57 @@ impl<F: KeptFile + Drop> Keeper<F> {
             return Err(StreamFault::NoMemory);
         }
         let did = self.writer.write(&self.waiting, steps)?;
-        self.waiting.clear();
-        self.written = self.place.steps;
+        self.leave_written();
         Ok(did)
     }
 
-    /// Writes what waits, the records of all further steps and the end with its reason, and syncs. Asks a log of at most 31 clients.
-    pub fn finish(&mut self, alloc: Global, log: &Log, why: Why) -> Result<(), KeepStop>
-        requires few { length log.now.units ≤ 31 }
-        requires tags { 1 ≤ log.now.tags }
-        ensures bytes { OnOk result (Appends (F.written self.old.writer.file) (F.written self.new.writer.file)
-            ((self.old.waiting.items ++ records_behind log.now self.old.place)
-            ++ record_text (sum_behind log.now self.old.place) (end_text self.new.place.steps why))) }
-        ensures none { OnOk result (entries_behind log.now self.new.place ≡ []) }
-        ensures steps { OnOk result (self.new.place.steps ≡ self.old.place.steps + length (entries_behind log.now self.old.place)) }
-        ensures fit { OnOk result (AllFit (length log.now.units) (entries_behind log.now self.old.place)) }
+    /// Writes what waits, and syncs.
+    pub fn sync(&mut self) -> Result<(), StreamFault>
+        ensures bytes { OnOk result (Appends (F.written self.old.writer.file) (F.written self.new.writer.file) self.old.waiting.items) }
+        ensures none { OnOk result (self.new.waiting.items ≡ []) }
+        ensures count { OnOk result (self.new.writer.unsynced ≡ 0) }
+        ensures written { OnOk result (self.new.written ≡ self.old.place.steps) }
         ensures synced { OnOk result (F.synced self.new.writer.file ≡ F.written self.new.writer.file) }
         ensures lost { OnErr result (F.synced self.new.writer.file ≡ F.synced self.old.writer.file) }
-        ensures limits { IfErr result (λ stop. stop ≡ KeepStop.Limits
-            → FirstFits (length log.now.units) (entries_behind log.now self.new.place) → ⊥) }
-        ensures fault { IfErr result (λ stop. stop ≡ KeepStop.File → IsTrue (F.can_fail self.old.writer.file)) }
+        ensures fault { result ≡ Err StreamFault.File → IsTrue (F.can_fail self.old.writer.file) }
+        ensures same { F.can_fail self.new.writer.file ≡ F.can_fail self.old.writer.file }
+        ensures file { F.is_of self.new.writer.file ≡ F.is_of self.old.writer.file }
+        ensures place { self.new.place ≡ self.old.place }
+        ensures every { self.new.writer.every ≡ self.old.writer.every }
+    {
+        self.writer.write_synced(&self.waiting)?;
+        self.leave_written();
+        Ok(())
+    }
+
+    /// The file has what waited.
+    fn leave_written(&mut self)
+        ensures none { self.new.waiting.items ≡ [] }
+        ensures written { self.new.written ≡ self.old.place.steps }
+        ensures writer { self.new.writer ≡ self.old.writer }
+        ensures place { self.new.place ≡ self.old.place }
+    {
+        self.waiting.clear();
+        self.written = self.place.steps;
+    }
+
+    /// Writes what waits and syncs it, and then the end with its reason, and syncs again. So what waits is in the file where the end isn't:
+    /// for want of memory, or at a fault of the file.
+    pub fn end(&mut self, alloc: Global, why: Why) -> Result<(), KeepStop>
+        ensures bytes { OnOk result (Appends (F.written self.old.writer.file) (F.written self.new.writer.file)
+            (self.old.waiting.items ++ record_text self.old.place.sum (end_text self.old.place.steps why))) }
+        ensures synced { OnOk result (F.synced self.new.writer.file ≡ F.written self.new.writer.file) }
+        ensures lost { OnErr result ((F.synced self.new.writer.file ≡ F.synced self.old.writer.file)
+            ⊎ Appends (F.written self.old.writer.file) (F.synced self.new.writer.file) self.old.waiting.items) }
+        ensures limits { result ≡ Err KeepStop.Limits → ⊥ }
+        ensures fault { result ≡ Err KeepStop.File → IsTrue (F.can_fail self.old.writer.file) }
         ensures file { F.is_of self.new.writer.file ≡ F.is_of self.old.writer.file }
     {
-        self.gather(alloc, log)?;
+        self.sync()?;
         let steps = self.place.steps as u64;
         let sum = self.place.sum;
         write_end(alloc, steps, why, sum, &mut self.waiting).map_err(|_| KeepStop::NoMemory)?;
-        self.writer.finish(&self.waiting)?;
+        self.writer.write_synced(&self.waiting)?;
         Ok(())
     }
 }

@@ -13,7 +13,7 @@
 //! specs/Entries.antt), and at a fault those of the first of them, whole; the text with the records of what is behind the place is always
 //! the same (`Added`). So, at each moment, what was written is the text of a beginning, and behind the last step it is the log's
 //! ([`kept_texts_are_the_logs`]). A [`Keeper`] gathers the records of a log, gives them to a file
-//! and syncs it after each so many steps (`is_due` in specs/Syncing.antt). No call takes a lock or starts a thread: the records are gathered
+//! and syncs it after each so many steps (`is_due` in specs/Syncing.antt); the end that it writes says why the log ended. No call takes a lock or starts a thread: the records are gathered
 //! where the log is, and written where nobody waits for it. It stands on kept_log, log_limits, byte_io, and the types of a log.
 #![tactic(auto)]
 
@@ -24,7 +24,7 @@ mod stops;
 mod writer;
 
 pub use adding::{add_records, add_some, begin};
-pub use keeper::Keeper;
+pub use keeper::{Head, Keeper};
 pub use laws::{acted_steps_fit, kept_texts_are_the_logs, steps_go_on};
 pub use stops::KeepStop;
 use thiserror::Error;

@@ -51,9 +51,11 @@ pub trait KeptFiles {
     /// Whether the file of a name can fail.
     ghost can_fail: { Self → List ℕ → Bool };
 
-    /// The file of a name, empty; what it had is gone.
+    /// The file of a name, empty; what it had is gone. At a fault it has what it had.
     fn create(&mut self, name: &str) -> Result<Self::File, StreamFault>
         ensures empty { IfOk result (λ file. IsTrue (tells self.old) → Self.File.written file ≡ Some []) }
+        ensures synced { IfOk result (λ file. IsTrue (tells self.old) → Self.File.synced file ≡ Some []) }
+        ensures kept { OnErr result (IsTrue (tells self.old) → holds self.new ≡ holds self.old) }
         ensures file { IfOk result (λ file. IsTrue (Self.File.is_of file name.now)) }
         ensures fails { IfOk result (λ file. IsTrue (Self.File.can_fail file) → IsTrue (can_fail self.old name.now)) }
         ensures fault { result ≡ Err StreamFault.File → IsTrue (can_fail self.old name.now) }
@@ -99,16 +101,21 @@ impl<F: KeptFile> KeptWriter<F> {
         Ok(true)
     }
 
-    /// Writes the last records, and syncs.
-    pub fn finish(&mut self, last: &[u8]) -> Result<(), StreamFault>
-        ensures bytes { OnOk result (Appends (F.written self.old.file) (F.written self.new.file) last.now) }
+    /// Writes records, and syncs: no step is left that isn't synced.
+    pub fn write_synced(&mut self, bytes: &[u8]) -> Result<(), StreamFault>
+        ensures bytes { OnOk result (Appends (F.written self.old.file) (F.written self.new.file) bytes.now) }
         ensures synced { OnOk result (F.synced self.new.file ≡ F.written self.new.file) }
+        ensures count { OnOk result (self.new.unsynced ≡ 0) }
         ensures lost { OnErr result (F.synced self.new.file ≡ F.synced self.old.file) }
         ensures fault { result ≡ Err StreamFault.File → IsTrue (F.can_fail self.old.file) }
+        ensures same { F.can_fail self.new.file ≡ F.can_fail self.old.file }
         ensures file { F.is_of self.new.file ≡ F.is_of self.old.file }
+        ensures every { self.new.every ≡ self.old.every }
     {
-        self.file.add(last)?;
-        self.file.sync()
+        self.file.add(bytes)?;
+        self.file.sync()?;
+        self.unsynced = 0;
+        Ok(())
     }
 }
 

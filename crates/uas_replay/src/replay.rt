@@ -134,14 +134,17 @@ impl ScriptRun {
         ensures walk { IfOk result (λ run. run ≡ opening_walk disks.tags (zeroed_units disks.clients disks.blocks disks.bad)) }
         ensures rings { IfOk result (λ run. IsOpeningLines run.world.lines) }
     {
+        // (the bus last, so that no other maker's refusal has it to give back)
+        let ranges = opening_ranges(alloc, disks.clients, disks.tags)?;
+        let brings_in = opening_notes(alloc, disks.clients)?;
         let units = zeroed_units(alloc, disks.clients, disks.blocks, disks.bad)?;
         let bus = RingBus::with_tags(alloc, units, disks.tags)?;
         stand(bus.lines());
         Ok(ScriptRun {
             alloc,
             bus,
-            ranges: opening_ranges(alloc, disks.clients, disks.tags)?,
-            brings_in: opening_notes(alloc, disks.clients)?,
+            ranges,
+            brings_in,
             text: Vec::new(alloc),
             failed: false,
         })

@@ -2,3 +2,4 @@ mod Units
 mod Accounts
 mod GivingUp
 mod KeptText
+mod KeptLeft

@@ -1,11 +1,9 @@
 -- How the run `work` ends that keeps its log: what is printed, what the file has, and the exit status.
-use Rattle.std.specs.Prelude.{◌≡◌, ℕ, Bool, true, IsTrue, List, ◌++◌, Option, None, Some}
+use Rattle.std.specs.Prelude.{◌≡◌, ℕ, ◌⊎◌, Bool, true, IsTrue, List, [], Option, None, Some}
 use Rattle.std.specs.Io.KnownBytes.{Keeps}
 use Rattle.uas_log.specs.declared.FirstUnit.{FirstUnit}
 use Rattle.uas_log.specs.declared.Log.{Log}
-use Rattle.kept_log.specs.declared.Why.{Why}
-use Rattle.log_keeper.specs.declared.Place.{Place}
-use Rattle.log_keeper.specs.Beginnings.{IsBeginning, IsWhole}
+use Rattle.kept_log.specs.declared.Why.TheVariants as why
 use Rattle.log_keeper.specs.declared.stops.KeepStop.{KeepStop}
 use Rattle.log_keeper.specs.declared.stops.KeepStop.TheVariants as stop
 use Rattle.uas_work.specs.declared.Ended.{Ended}
@@ -13,23 +11,18 @@ use Rattle.uas_replay.specs.declared.status.RunFault.TheVariants.{Image, ImageFi
 use Rattle.work_run.specs.declared.faults.WorkFault.{WorkFault}
 use Rattle.work_run.specs.declared.faults.WorkFault.TheVariants.{LogFull, LogFile, Run}
 use Rattle.work_run.specs.WorkEnds.{Audited, fault_of, why_of}
+use Rattle.work_run.specs.KeptTexts.{HasBeginning, HasText, HasWhole}
 
--- WHILE IT GROWS
+-- What the file of a run that gives up has: what it had, where it couldn't be created; nothing, where the log's head couldn't be written; else
+-- a beginning of a log.
+abbrev pub HasLeft : ℕ → List FirstUnit → Option (List ℕ) → Option (List ℕ) → Type 0
+HasLeft tags units old new = (new ≡ old) ⊎ ((new ≡ Some []) ⊎ HasBeginning tags units new)
 
--- Of a file that tells its bytes: they and those that wait for it are the beginning of a log of clients of so many tags with these units, up
--- to a place.
-pub record HasKept (tells : Bool) (tags : ℕ) (units : List FirstUnit) (place : Place) (written : Option (List ℕ)) (waiting : List ℕ) : Type 0 where
-  pub given : List ℕ
-  pub known : IsTrue tells → written ≡ Some given
-  pub begins : IsBeginning tags units place (given ++ waiting)
-
--- AT ITS END
-
--- a file has the whole text of a log that ended for this reason, with all that this log has behind some place
-pub record HasWhole (log : Log) (why : Why) (held : Option (List ℕ)) : Type 0 where
-  pub bytes : List ℕ
-  pub known : held ≡ Some bytes
-  pub whole : IsWhole log why bytes
+-- With a full log it has the log up to there, and that it was full.
+abbrev pub KeptLeaves : ℕ → List FirstUnit → Option (List ℕ) → Option (List ℕ) → WorkFault → Type 0
+KeptLeaves tags units old new LogFull = HasText tags units (Some why.LogFull) new
+KeptLeaves tags units old new LogFile = HasLeft tags units old new
+KeptLeaves tags units old new (Run fault) = HasLeft tags units old new
 
 -- The lines of clients and audits were printed, of a bus with a log whose threads met no fault; and the file holds the whole text of a log,
 -- where the host tells what its files hold.

@@ -1,7 +1,7 @@
 //! The gate of a run that keeps its log: it gathers records under the lock of the bus, and writes and syncs them outside of it.
 ghost use Rattle.std.specs.Prelude.{◌≡◌, ◌==◌, false, true, nat_lt, if◌then◌else◌};
 
-use crate::locked_keeper::{KeptLog, LockedKeeper};
+use crate::locked_keeper::{KeptLog, LockedKeeper, SettledCount};
 use log_keeper::KeptFile;
 use shared_machine::Step;
 use std::alloc::Global;
@@ -28,7 +28,7 @@ pub(crate) struct Keeping<'a, J: KeptLog, R, F: KeptFile> {
     /// How many times records were gathered.
     gathered: AtomicU64,
     /// How many times what was gathered was written.
-    settled: AtomicU64,
+    settled: SettledCount,
     /// Whether a reply waits until its record was synced.
     holds_replies: bool,
 }
@@ -43,7 +43,7 @@ impl<'a, J: KeptLog, R, F: KeptFile + Drop> Keeping<'a, J, R, F> {
             rt,
             keeper: Mutex::new(keeper),
             gathered: AtomicU64::new(0),
-            settled: AtomicU64::new(0),
+            settled: SettledCount::new(),
             holds_replies,
         }
     }
@@ -79,11 +79,11 @@ impl<J: KeptLog, R: Wait + Clock, F: KeptFile + Drop> Gate for Keeping<'_, J, R,
 
     fn settle(&self) -> bool {
         let settled = self.keeper.lock(self.rt).settle();
-        let Some(has_synced) = settled else {
+        let Some(settled) = settled else {
             return false;
         };
-        self.settled.fetch_add(1, SeqCst);
-        if !(self.holds_replies && has_synced) {
+        self.settled.add(&settled);
+        if !(self.holds_replies && settled.has_synced()) {
             pause(self.rt, self.holds_replies);
         }
         true
@@ -96,7 +96,7 @@ impl<J: KeptLog, R: Wait + Clock, F: KeptFile + Drop> Gate for Keeping<'_, J, R,
     fn may_tell(&self, look: u64) -> bool
         ensures { self.now.holds_replies ≡ false → result ≡ true }
     {
-        is_told(self.holds_replies, look, self.settled.load(SeqCst))
+        is_told(self.holds_replies, look, self.settled.get())
     }
 }
 

@@ -1,21 +1,26 @@
-//! The run `work` whose log is kept in a file while it grows: whatever ends the program, the file has a beginning of the log.
+//! The run `work` whose log is kept in a file while it grows. The file has the log's head before a client works, so whatever ends the program
+//! later, the file has a beginning of the log; and where the log is full, or memory lacks, why it ended.
 
-ghost use Rattle.std.specs.Prelude.{◌≡◌, ℕ, ◌≤◌, ◌⊎◌, Bool, List, Option, None, IsTrue, false, map, IfErr, IfOk};
+ghost use Rattle.std.specs.Prelude.{◌≡◌, ℕ, ◌≤◌, ◌⊎◌, Bool, List, Option, None, Some, Err, IsTrue, false, length, map, IfErr, IfOk, IfSome, OnErr, OnOk};
 ghost use Rattle.std.specs.Io.KnownBytes.{Keeps};
 ghost use Rattle.byte_io.specs.Disks.{AreClients};
+ghost use Rattle.uas_log.specs.declared.FirstUnit.{FirstUnit};
 ghost use Rattle.uas_work.specs.Booked.{first_unit};
 ghost use Rattle.uas_work.specs.Rounds.{IsDepth};
 ghost use Rattle.work_run.specs.WorkEnds.{fault_of, step_limit, why_of, work_units};
-ghost use Rattle.work_run.specs.KeptEnds.{HasWhole, KeptGivesUp, KeptTold, stop_fault};
+ghost use Rattle.kept_log.specs.declared.Why.TheVariants as why;
+ghost use Rattle.work_run.specs.KeptTexts.{HasBeginning, HasText, HasWhole};
+ghost use Rattle.work_run.specs.KeptEnds.{HasLeft, KeptGivesUp, KeptLeaves, KeptTold, stop_fault};
 
 use crate::Load;
 use crate::faults::WorkFault;
 use crate::keeping::Keeping;
 use crate::locked_keeper::{KeptLog, LockedKeeper};
 use crate::run::{Worked, booked, fault_of, millis_since, ran_by, release, tell_work};
+use booked_limits::booked_logs_fit;
 use byte_io::Sink;
 use kept_log::Why;
-use log_keeper::{KeepStop, Keeper, KeptFile, KeptFiles};
+use log_keeper::{Head, KeepStop, Keeper, KeptFile, KeptFiles, KeptWriter};
 use std::alloc::Global;
 use std::io::Write;
 use std::marker::Brand;
@@ -36,8 +41,8 @@ pub struct Kept<'a> {
 }
 
 /// The run `work` that keeps its log: as `run_work`, but the log's records go to the file of a name while the threads work, and then come
-/// the lines of the clients and of their audits. The file ends with why the log ended. It answers the exit status: 1 where an audit is
-/// false too, 3 at a fault of the file too, where the records before are whole.
+/// the lines of the clients and of their audits. The file ends with why the log ended, also where that is full or memory lacks. It answers
+/// the exit status: 1 where an audit is false too, 3 at a fault of the file too, where what was synced is a beginning of the log.
 pub fn run_kept_work<R: Threads + Wait + Clock + Sync, K: KeptFiles, O: Sink, W: Write>(
     rt: &R,
     alloc: Global,
@@ -56,6 +61,8 @@ pub fn run_kept_work<R: Threads + Wait + Clock + Sync, K: KeptFiles, O: Sink, W:
     ensures fault { result ≡ 3 → IsTrue (O.can_fail output.old)
         ⊎ (IsTrue (K.can_fail files.old kept.entry.file.now) × Keeps (O.written output.old) (O.written output.new)) }
     ensures memory { result ≡ 4 → Keeps (O.written output.old) (O.written output.new) }
+    ensures left { 3 ≤ result → IsTrue (K.tells files.old) → ∥ HasLeft load.tags (map first_unit (work_units load.clients))
+        (K.holds files.old kept.entry.file.now) (K.holds files.new kept.entry.file.now) ∥₁ }
     ensures quiet { may_show_progress ≡ false → result ≤ 1 → faults.new ≡ faults.old }
 {
     match work(rt, alloc, load, files, kept, output) {
@@ -82,6 +89,8 @@ fn work<R: Threads + Wait + Clock + Sync, K: KeptFiles, O: Sink>(
     ensures status { IfOk result (λ worked. worked.status ≤ 1) }
     ensures told { IfOk result (λ worked. KeptTold load.clients load.tags load.depth load.rounds (K.tells files.old) (K.holds files.new kept.entry.file.now)
         (O.written output.old) (O.written output.new) worked.status) }
+    ensures left { OnErr result (IsTrue (K.tells files.old) → ∥ HasLeft load.tags (map first_unit (work_units load.clients))
+        (K.holds files.old kept.entry.file.now) (K.holds files.new kept.entry.file.now) ∥₁) }
     ensures fault { IfErr result (KeptGivesUp (K.can_fail files.old kept.entry.file.now) (O.can_fail output.old)
         (O.written output.old) (O.written output.new)) }
 {
@@ -114,6 +123,8 @@ fn ran_kept<R: Threads + Wait + Clock + Sync, K: KeptFiles>(
     ensures units { IfOk result (λ finished. finished.booked.log.units ≡ map first_unit (work_units load.clients)) }
     ensures whole { IfOk result (λ finished. IsTrue (K.tells files.old)
         → ∥ HasWhole finished.booked.log (why_of finished.ended) (K.holds files.new kept.entry.file.now) ∥₁) }
+    ensures left { IfErr result (λ fault. IsTrue (K.tells files.old) → ∥ KeptLeaves load.tags (map first_unit (work_units load.clients))
+        (K.holds files.old kept.entry.file.now) (K.holds files.new kept.entry.file.now) fault ∥₁) }
     ensures fault { IfErr result (λ fault. (can_fail : Bool) → (text : Option (List ℕ))
         → KeptGivesUp (K.can_fail files.old kept.entry.file.now) can_fail text text fault) }
 {
@@ -123,7 +134,7 @@ fn ran_kept<R: Threads + Wait + Clock + Sync, K: KeptFiles>(
     ran_with::<Brand, R, K>(rt, alloc, load, booked, files, kept)
 }
 
-/// Lets the clients of a bus take their rounds while its log is kept, and ends it.
+/// Lets the clients of a bus take their rounds while its log is kept, and ends it. Whatever comes, the file is closed.
 fn ran_with<J: KeptLog + Send + Sync, R: Threads + Wait + Clock + Sync, K: KeptFiles>(
     rt: &R,
     alloc: Global,
@@ -134,6 +145,7 @@ fn ran_with<J: KeptLog + Send + Sync, R: Threads + Wait + Clock + Sync, K: KeptF
 ) -> Result<Finished, WorkFault>
     requires tags { booked.log.tags ≡ J.tags }
     requires units { booked.log.units ≡ J.units }
+    requires clients { AreClients J.tags (length J.units) }
     requires room { booked.limit ≡ step_limit load.clients load.rounds }
     requires depth { IsDepth booked.log.tags load.depth }
     requires name { kept.file.now ≡ J.name }
@@ -144,6 +156,8 @@ fn ran_with<J: KeptLog + Send + Sync, R: Threads + Wait + Clock + Sync, K: KeptF
     ensures units { IfOk result (λ finished. finished.booked.log.units ≡ J.units) }
     ensures whole { IfOk result (λ finished. IsTrue (K.tells files.old)
         → ∥ HasWhole finished.booked.log (why_of finished.ended) (K.holds files.new kept.entry.file.now) ∥₁) }
+    ensures left { IfErr result (λ fault. IsTrue (K.tells files.old)
+        → ∥ KeptLeaves J.tags J.units (K.holds files.old kept.entry.file.now) (K.holds files.new kept.entry.file.now) fault ∥₁) }
     ensures fault { IfErr result (λ fault. (can_fail : Bool) → (text : Option (List ℕ))
         → KeptGivesUp (K.can_fail files.old kept.entry.file.now) can_fail text text fault) }
 {
@@ -153,16 +167,13 @@ fn ran_with<J: KeptLog + Send + Sync, R: Threads + Wait + Clock + Sync, K: KeptF
     };
     let keeping = Keeping::new(rt, keeper);
     let Ok(finished) = ran_by(rt, alloc, load, booked, &keeping) else {
+        let (file, _) = keeping.into_keeper().end(alloc, Why::NoMemory);
+        files.close(file);
         return Err(WorkFault::Run(RunFault::NoMemory));
     };
-    match end_log(alloc, keeping.into_keeper(), &finished) {
-        Ok(file) => files.close(file),
-        Err(stop) => {
-            release(finished);
-            return Err(stop_fault(stop));
-        }
-    }
-    match fault_of(finished.ended) {
+    let (file, ended) = end_log(alloc, keeping.into_keeper(), &finished);
+    files.close(file);
+    match fault_at(ended, finished.ended) {
         None => Ok(finished),
         Some(fault) => {
             release(finished);
@@ -171,7 +182,7 @@ fn ran_with<J: KeptLog + Send + Sync, R: Threads + Wait + Clock + Sync, K: KeptF
     }
 }
 
-/// The keeper of a bus's log, with its file.
+/// The keeper of a bus's log, whose file has the log's head, synced.
 fn keeper_of<J: KeptLog, K: KeptFiles>(
     alloc: Global,
     booked: &Booked,
@@ -180,33 +191,61 @@ fn keeper_of<J: KeptLog, K: KeptFiles>(
 ) -> Result<LockedKeeper<J, K::File>, KeepStop>
     requires tags { booked.now.log.tags ≡ J.tags }
     requires units { booked.now.log.units ≡ J.units }
+    requires clients { AreClients J.tags (length J.units) }
     requires name { kept.file.now ≡ J.name }
     requires tells { K.tells files.old ≡ J.tells }
     requires fails { K.can_fail files.old kept.file.now ≡ J.can_fail }
     ensures every { IfOk result (λ keeper. keeper.keeper.writer.every ≡ kept.entry.every) }
-    ensures same { K.tells files.new ≡ K.tells files.old }
-    ensures fault { IfErr result (λ stop. stop ≡ KeepStop.File → IsTrue J.can_fail) }
+    ensures same { OnOk result (K.tells files.new ≡ K.tells files.old) }
+    ensures fault { result ≡ Err KeepStop.File → IsTrue J.can_fail }
+    ensures limits { result ≡ Err KeepStop.Limits → ⊥ }
+    ensures left { OnErr result (IsTrue J.tells → HasLeft J.tags J.units (K.holds files.old J.name) (K.holds files.new J.name)) }
 {
+    booked_logs_fit(booked);
+    let head = Head::of(alloc, booked.log())?;
     let file = files.create(kept.file)?;
-    let keeper = Keeper::new(alloc, booked.log(), kept.every, file)?;
+    let mut keeper = Keeper::new(head, kept.every, file);
+    if let Err(fault) = keeper.sync() {
+        let Keeper { writer, .. } = keeper;
+        let KeptWriter { file, .. } = writer;
+        files.close(file);
+        return Err(KeepStop::from(fault));
+    }
     Ok(LockedKeeper::new(keeper))
 }
 
-/// Writes what the file of a log doesn't have yet, and why the log ended: the file.
+/// Writes what the file of a log doesn't have yet, and why the log ended: the file, and why the log isn't whole there.
 fn end_log<J: KeptLog, F: KeptFile + Drop>(
     alloc: Global,
     keeper: LockedKeeper<J, F>,
     finished: &Finished,
-) -> Result<F, KeepStop>
+) -> (F, Result<(), KeepStop>)
     requires positive { 1 ≤ finished.now.booked.log.tags }
     requires tags { finished.now.booked.log.tags ≡ J.tags }
     requires units { finished.now.booked.log.units ≡ J.units }
-    ensures whole { IfOk result (λ file. IsTrue J.tells → ∥ HasWhole finished.now.booked.log (why_of finished.now.ended) (F.written file) ∥₁) }
-    ensures synced { IfOk result (λ file. F.synced file ≡ F.written file) }
-    ensures file { IfOk result (λ file. IsTrue (F.is_of file J.name)) }
-    ensures fault { IfErr result (λ stop. stop ≡ KeepStop.File → IsTrue J.can_fail) }
+    ensures whole { OnOk result.1 (IsTrue J.tells → ∥ HasWhole finished.now.booked.log (why_of finished.now.ended) (F.synced result.0) ∥₁) }
+    ensures full { result.1 ≡ Err KeepStop.Limits → IsTrue J.tells → ∥ HasText J.tags J.units (Some why.LogFull) (F.synced result.0) ∥₁ }
+    ensures left { IsTrue J.tells → ∥ HasBeginning J.tags J.units (F.synced result.0) ∥₁ }
+    ensures file { IsTrue (F.is_of result.0 J.name) }
+    ensures fault { result.1 ≡ Err KeepStop.File → IsTrue J.can_fail }
 {
     keeper.finish(alloc, finished.booked.log(), why_of(finished.ended))
+}
+
+/// The fault of a run whose threads ended so, and whose log is whole in its file or stopped.
+fn fault_at(kept: Result<(), KeepStop>, ended: Ended) -> Option<WorkFault>
+    ensures none { result ≡ None → OnOk kept (fault_of ended ≡ None) }
+    ensures whole { result ≡ None → OnErr kept ⊥ }
+    ensures leaves { (tags : ℕ) → (units : List FirstUnit) → (old new : Option (List ℕ)) → OnOk kept ∥ HasText tags units (Some (why_of ended)) new ∥₁
+        → (kept ≡ Err KeepStop.Limits → ∥ HasText tags units (Some why.LogFull) new ∥₁) → ∥ HasBeginning tags units new ∥₁
+        → IfSome result (λ fault. ∥ KeptLeaves tags units old new fault ∥₁) }
+    ensures gives_up { (can_file_fail can_fail : Bool) → (text : Option (List ℕ)) → (kept ≡ Err KeepStop.File → IsTrue can_file_fail)
+        → IfSome result (λ fault. KeptGivesUp can_file_fail can_fail text text fault) }
+{
+    match kept {
+        Ok(()) => fault_of(ended),
+        Err(stop) => Some(stop_fault(stop)),
+    }
 }
 
 /// Why the log ended.

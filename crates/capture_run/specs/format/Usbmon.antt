@@ -1,5 +1,5 @@
 -- A record of a transfer, in the form of Linux's usbmon with its header of 64 bytes.
-use Rattle.std.specs.Prelude.{ℕ, ◌-◌, ◌/◌, ◌%◌, ◌^◌, ◌==◌, nat_le, if◌then◌else◌, List, [], ◌∷◌, ◌++◌, length, replicate}
+use Rattle.std.specs.Prelude.{ℕ, ◌-◌, ◌/◌, ◌%◌, ◌^◌, ◌==◌, nat_le, if◌then◌else◌, Bool, true, false, List, [], ◌∷◌, ◌++◌, length, replicate}
 use Rattle.std.specs.Prelude.{Option, Some, None}
 use Rattle.byteorder.specs.Endian.{little_bytes}
 use Rattle.uas_profile.specs.declared.Pipe.{Pipe}
@@ -70,10 +70,27 @@ flag_with None = 0x2d
 unfoldable pub setup_flag : Record → ℕ
 setup_flag urb = flag_with (setup_of urb)
 
--- 0 where bytes go with a record, else `<` or `>`
+-- whether bytes come in
+unfoldable pub comes_in : Transfer → Bool
+comes_in transfer = nat_le 0x80 (endpoint_of transfer)
+
+-- `<` of a submission where bytes come in later, `>` of an end where they went out before
+abbrev pub flag_without : Event → Bool → ℕ
+flag_without Submitted true = 0x3c
+flag_without Submitted false = 0
+flag_without Completed true = 0
+flag_without Completed false = 0x3e
+flag_without Unlinked true = 0
+flag_without Unlinked false = 0x3e
+
+-- 0 where bytes go with a record, and where there are none though they could; else `<` or `>`
 unfoldable pub data_flag : Record → List ℕ → ℕ
-data_flag urb [] = if nat_le 0x80 (endpoint_of urb.transfer) then 0x3c else 0x3e
+data_flag urb [] = flag_without urb.event (comes_in urb.transfer)
 data_flag urb (byte ∷ bytes) = 0
+
+-- the flags of a transfer: URB_DIR_IN, 200h, where bytes come in
+unfoldable pub transfer_flags : Transfer → ℕ
+transfer_flags transfer = if comes_in transfer then 0x200 else 0
 
 -- the eight bytes of the setup packet, zeros where there is none
 unfoldable pub setup_bytes : Option (List ℕ) → List ℕ
@@ -95,11 +112,14 @@ moment time = little_bytes 8 (time / 1000000) ++ little_bytes 4 (time % 1000000)
 unfoldable pub state : Record → List ℕ
 state urb = moment urb.time ++ little_bytes 4 (event_status urb.event) ++ little_bytes 4 urb.length
 
--- The header of 64 bytes and the bytes that go with it: how many those are stands before the setup packet, and four words of other
--- kinds of transfer behind it.
+-- The words behind the setup packet: two of other kinds of transfer, the flags, and one more of other kinds.
+unfoldable pub tail : Transfer → List ℕ
+tail transfer = replicate 8 0 ++ little_bytes 4 (transfer_flags transfer) ++ replicate 4 0
+
+-- the header of 64 bytes and the bytes that go with it, how many those are before the setup packet
 unfoldable pub record_bytes : Record → List ℕ → List ℕ
 record_bytes urb payload =
-    head urb payload ++ state urb ++ little_bytes 4 (length payload) ++ setup_bytes (setup_of urb) ++ replicate 16 0 ++ payload
+    head urb payload ++ state urb ++ little_bytes 4 (length payload) ++ setup_bytes (setup_of urb) ++ tail urb.transfer ++ payload
 
 -- the packet of a record
 unfoldable pub record_packet : Record → List ℕ → List ℕ → List ℕ

@@ -2,7 +2,7 @@
 
 ghost use Rattle.std.specs.Prelude.{◌≡◌, ◌+◌, ◌++◌, ◌≤◌, length, OnOk};
 ghost use Rattle.capture_run.specs.format.Usbmon.{endpoint_of, event_status, event_letter, head, moment, record_bytes, record_packet, setup_bytes, setup_of, state, transfer_kind};
-ghost use Rattle.capture_run.specs.format.Usbmon.{data_flag, setup_flag};
+ghost use Rattle.capture_run.specs.format.Usbmon.{comes_in, data_flag, setup_flag, tail, transfer_flags};
 ghost use Rattle.capture_run.specs.declared.format.TheConstants.{MOST_COMMENT, MOST_DATA};
 
 use crate::format::blocks::push_packet;
@@ -24,6 +24,9 @@ const IN_PROGRESS: u32 = u32::MAX - 114;
 const UNLINKED: u32 = u32::MAX - 103;
 
 const DONE: u32 = 0;
+
+/// The flag of a transfer by which bytes come in: URB_DIR_IN.
+const DIR_IN: u32 = 0x200;
 
 impl Event {
     /// S for a submission, C for an end.
@@ -75,6 +78,22 @@ impl Transfer {
             Transfer::Bulk(Pipe::DataOut) => 0x02,
         }
     }
+
+    /// Whether bytes come in.
+    #[tactic(auto, unfolding(crate::specs::format::Usbmon::comes_in))]
+    fn comes_in(self) -> bool
+        ensures { result ≡ comes_in self }
+    {
+        self.endpoint() >= 0x80
+    }
+
+    /// Its flags: which way bytes go.
+    #[tactic(auto, unfolding(crate::specs::format::Usbmon::transfer_flags))]
+    fn flags(self) -> u32
+        ensures { result ≡ transfer_flags self }
+    {
+        if self.comes_in() { DIR_IN } else { 0 }
+    }
 }
 
 impl Record {
@@ -100,17 +119,18 @@ impl Record {
         }
     }
 
-    /// 0 where bytes go with it, else which way its bytes go.
+    /// Which way its bytes go, where they go with its other record; 0 where they go with it.
     #[tactic(auto, unfolding(crate::specs::format::Usbmon::data_flag))]
     fn data_flag(&self, payload: &[u8]) -> u8
         ensures { result ≡ data_flag self.now payload.now }
     {
         if !payload.is_empty() {
-            0
-        } else if self.transfer.endpoint() >= 0x80 {
-            b'<'
-        } else {
-            b'>'
+            return 0;
+        }
+        match (self.event, self.transfer.comes_in()) {
+            (Event::Submitted, true) => b'<',
+            (Event::Completed | Event::Unlinked, false) => b'>',
+            (Event::Submitted, false) | (Event::Completed | Event::Unlinked, true) => 0,
         }
     }
 
@@ -168,6 +188,17 @@ impl Record {
         }
     }
 
+    /// Adds the words behind the setup packet: its flags, zeros where other kinds of transfer have something.
+    #[tactic(auto, unfolding(crate::specs::format::Usbmon::tail))]
+    fn push_tail(&self, bytes: &mut Vec<u8>) -> Result<(), AllocError>
+        ensures bytes { OnOk result (bytes.new.items ≡ bytes.old.items ++ tail self.now.transfer) }
+        ensures longer { OnOk result (length bytes.new.items ≤ length bytes.old.items + 16) }
+    {
+        bytes.extend_from_slice(&[0; 8])?;
+        push_word(bytes, self.transfer.flags())?;
+        bytes.extend_from_slice(&[0; 4])
+    }
+
     /// Adds the header and the bytes that go with it.
     #[tactic(auto, unfolding(crate::specs::format::Usbmon::record_bytes))]
     fn push(&self, bytes: &mut Vec<u8>, payload: &[u8]) -> Result<(), AllocError>
@@ -179,7 +210,7 @@ impl Record {
         self.push_state(bytes)?;
         push_word(bytes, payload.len() as u32)?;
         self.push_setup(bytes)?;
-        bytes.extend_from_slice(&[0; 16])?;
+        self.push_tail(bytes)?;
         bytes.extend_from_slice(payload)
     }
 }

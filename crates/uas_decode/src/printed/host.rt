@@ -77,7 +77,8 @@ fn push_work(text: &mut Vec<u8>, work: &Work) -> Result<(), AllocError>
         }
         Work::Reads { lba, count }
         | Work::Synchronizes { lba, count }
-        | Work::Verifies { lba, count } => push_range(text, *lba, *count),
+        | Work::Verifies { lba, count }
+        | Work::WritesAndVerifies { lba, count, .. } => push_range(text, *lba, *count),
     }
 }
 
@@ -106,6 +107,8 @@ fn push_data(text: &mut Vec<u8>, given: &Data, allocation: u32) -> Result<(), Al
         | Data::LogicalUnits { .. }
         | Data::TaskManagementFunctions { extended: false }
         | Data::LongCapacity { .. }
+        | Data::DiskOperationCodes { .. }
+        | Data::DiskOperationCode { .. }
         | Data::Disk(_) => {}
     }
     push_allocation(text, allocation)

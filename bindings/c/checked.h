@@ -12,9 +12,10 @@
 #include <stdlib.h>
 
 /* A handle's kind: words that no other memory is likely to begin with. */
-enum kind { DEVICE, CONTROLLER, DRIVER, BUS, TASKS, XHCI, KINDS };
+enum kind { DEVICE, CONTROLLER, DRIVER, BUS, TASKS, XHCI, BLOCK, KINDS };
 static const uint64_t first_kind = 0x9a3c71e5d2b84f00, closed_word = 0x9a3c71e5d2b84fff;
-static const char *const kind_names[KINDS] = { "uas_device", "uas_controller", "uas_driver", "uas_bus", "uas_tasks", "uas_xhci" };
+static const char *const kind_names[KINDS] = { "uas_device", "uas_controller", "uas_driver", "uas_bus", "uas_tasks", "uas_xhci",
+                                              "uas_block" };
 
 struct handle {
     _Atomic uint64_t word;

@@ -88,6 +88,21 @@ static const struct {
     TOLD(UAS_XHCI_WRAPS, "A region goes past the last address."),
     TOLD(UAS_XHCI_OVERLAP, "An address, or a byte of the caller's memory, is in two regions."),
     TOLD(UAS_XHCI_NULL, "The bytes of a region are a null pointer."),
+    TOLD(UAS_BLOCK_CALL, "There is no such call or kind of request, or too little room."),
+    TOLD(UAS_BLOCK_OPTIONS, "The options can't be asked."),
+    TOLD(UAS_BLOCK_NOT_ASKED, "Nothing was told that is answered, or no memory is wanted."),
+    TOLD(UAS_BLOCK_LENGTH, "The bytes are others than were asked for, or than a request moves."),
+    TOLD(UAS_BLOCK_ALIGNMENT, "Memory or a segment is at no such multiple as it has to be."),
+    TOLD(UAS_BLOCK_REACH, "The controller doesn't reach the memory, or a segment."),
+    TOLD(UAS_BLOCK_NOT_READY, "No disk is used."),
+    TOLD(UAS_BLOCK_OTHER_DISK, "Another disk is used."),
+    TOLD(UAS_BLOCK_RANGE, "A block isn't on the disk."),
+    TOLD(UAS_BLOCK_TOO_LONG, "There are more blocks than one request can have."),
+    TOLD(UAS_BLOCK_NO_UNMAP, "The disk can't unmap blocks."),
+    TOLD(UAS_BLOCK_NO_FUA, "The disk has no forced unit access."),
+    TOLD(UAS_BLOCK_PIECES, "There are more pieces than the data of a command can have."),
+    TOLD(UAS_BLOCK_NO_TAG, "As many commands are out as can be."),
+    TOLD(UAS_BLOCK_NO_SUCH_TAG, "No command is out on the tag."),
 };
 
 const char *uas_fault_name(uint8_t fault)

@@ -1,13 +1,17 @@
-/* Mistakes in calls of the checked archives of the device without blocks and of the controller over a caller's memory.
+/* Mistakes in calls of the checked archives of the device without blocks, of the controller over a caller's memory and of the driver for any
+ * controller.
  *
  *   misused */
 #include "misused.h"
+#include "uas_block.h"
 #include "uas_xhci.h"
 #include <pthread.h>
 
 static const struct uas_tasks_unit unit = { 64, 1, UAS_BLOCK_BYTES };
 static uas_tasks *tasks;
+static const struct uas_block_options options = { .bar_bytes = 4096, .tags = 15, .trbs = 31, .address_bits = 64 };
 static uas_xhci *xhci;
+static uas_block *block;
 static uint8_t bytes[UAS_BLOCK_BYTES];
 
 /* ---- Null pointers ---- */
@@ -48,6 +52,15 @@ static void null_regions(void)
     uas_xhci_look(xhci, &range, NULL, 0);
 }
 
+static void null_options(void) { uas_block_new(NULL, &block); }
+static void null_access(void) { uas_block_next(block, 0, NULL); }
+
+static void null_segments(void)
+{
+    struct uas_block_command command = { .kind = UAS_BLOCK_REQUEST_READY };
+    uas_block_put(block, &command, NULL, 0);
+}
+
 /* ---- Handles ---- */
 
 static void other_kind(void) { uas_xhci_interrupt((uas_xhci *)(void *)tasks); }
@@ -64,6 +77,12 @@ static void closed_xhci(void)
 {
     uas_xhci_free(xhci);
     uas_xhci_take_message(xhci);
+}
+
+static void closed_block(void)
+{
+    uas_block_free(block);
+    uas_block_restart(block);
 }
 
 static void closed_by_close(void)
@@ -118,12 +137,16 @@ static const struct mistake mistakes[] = {
     { "uas_xhci_work: more is a null pointer\n", null_more },
     { "uas_xhci_call: bytes is a null pointer\n", null_bytes },
     { "uas_xhci_look: regions is a null pointer\n", null_regions },
+    { "uas_block_new: asked is a null pointer\n", null_options },
+    { "uas_block_next: access is a null pointer\n", null_access },
+    { "uas_block_put: segments is a null pointer\n", null_segments },
     { "uas_xhci_interrupt: xhci is no uas_xhci\n", other_kind },
     { "uas_tasks_free: tasks is no uas_tasks\n", other_kind_freed },
     { "uas_xhci_interrupt: xhci is no uas_xhci\n", no_handle },
     { "uas_tasks_sent: tasks is closed\n", closed_tasks },
     { "uas_xhci_take_message: xhci is closed\n", closed_xhci },
     { "uas_xhci_plug: xhci is closed\n", closed_by_close },
+    { "uas_block_restart: block is closed\n", closed_block },
     { "uas_xhci_free: xhci is closed\n", freed_twice },
     { "uas_tasks_reset: tasks is closed\n", closed_before_others },
     { "uas_xhci_read: xhci is in another thread's call\n", in_two_threads },
@@ -135,9 +158,15 @@ static void is_allowed(void)
     uint64_t length;
     uint8_t phase;
     struct uas_request request;
+    const struct uas_block_request ready = { .kind = UAS_BLOCK_REQUEST_READY };
+    uint16_t tag;
     uas_xhci_free(NULL);
+    uas_block_free(NULL);
     uas_tasks_free(NULL);
     CHECK(uas_xhci_data(xhci, 1, NULL, 0) == UAS_TASKS_NOT_OUT);
+    CHECK(uas_block_submit(block, &ready, NULL, 0, &tag) == UAS_BLOCK_NOT_READY);
+    CHECK(uas_block_answer(block, NULL, 0) == UAS_BLOCK_NOT_ASKED);
+    uas_block_free(block);
     CHECK(uas_tasks_give(tasks, 1, NULL, 0) == UAS_TASKS_PHASE);
     CHECK(uas_tasks_next(tasks, 1, &phase, &length, &request) == UAS_OK && phase == UAS_ABSENT);
     CHECK(uas_tasks_new(&unit, 1, 9, 64, 8, &tasks) == UAS_TASKS_SET && uas_tasks_reset(tasks) == UAS_OK);
@@ -147,7 +176,8 @@ static void is_allowed(void)
 
 int main(void)
 {
-    if (uas_tasks_new(&unit, 1, UAS_SET_HOST, 64, 8, &tasks) != UAS_OK || uas_xhci_new(&unit, 1, UAS_SET_HOST, 64, 8, &xhci) != UAS_OK)
+    if (uas_tasks_new(&unit, 1, UAS_SET_HOST, 64, 8, &tasks) != UAS_OK || uas_xhci_new(&unit, 1, UAS_SET_HOST, 64, 8, &xhci) != UAS_OK ||
+        uas_block_new(&options, &block) != UAS_OK)
         return 2;
     for (size_t i = 0; i < sizeof mistakes / sizeof mistakes[0]; i++)
         is_told(&mistakes[i]);

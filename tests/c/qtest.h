@@ -3,6 +3,7 @@
 #ifndef QTEST_H
 #define QTEST_H
 
+#include <errno.h>
 #include <fcntl.h>
 #include <inttypes.h>
 #include <poll.h>
@@ -38,7 +39,7 @@ static void show_state(void);
 
 static void fail(const char *what, uint64_t number)
 {
-    fprintf(stderr, "real_controller: %s: %" PRIx64 "\n", what, number);
+    fprintf(stderr, "%s: %s: %" PRIx64 "\n", program_invocation_short_name, what, number);
     show_state();
     if (qemu > 0)
         kill(qemu, SIGKILL);
@@ -65,7 +66,7 @@ static void set_guest_word(uint64_t address, uint32_t value)
 }
 
 /* Writes a TRB, its last word, which has the Cycle bit, last. */
-static void set_guest_trb(uint64_t address, const void *bytes)
+static inline void set_guest_trb(uint64_t address, const void *bytes)
 {
     uint32_t words[4];
     memcpy(words, bytes, sizeof words);

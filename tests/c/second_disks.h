@@ -66,7 +66,7 @@ static bool can_be_told(const struct second_disk *disk)
     uint64_t discard = little(disk->at + 28, 4);
     uint32_t rotation = usual(little(disk->at + 32, 2), 1);
     unsigned kind = disk->at[104] >> 4, eui = disk->at[35];
-    if (little(disk->at + 4, 4) > 1) /* thin, removable, written through and quiet aren't served */
+    if ((little(disk->at + 4, 4) & ~9u) != 0) /* thin, removable and quiet aren't served */
         return false;
     if (physical != bytes && physical != 4096)
         return false;

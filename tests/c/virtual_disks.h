@@ -23,6 +23,53 @@ static void tells(const char *cdb, const char *text, size_t length)
     CHECK_BYTES(data, front, text);
 }
 
+/* Those that the host set hasn't, and NACA. */
+static void own_commands(void)
+{
+    tells("34 00 00 00 ff fe 00 00 02 00", "", 0);
+    is_refused(0, "34 00 00 00 ff ff 00 00 02 00", 5, 0x21, 0);
+    tells("90 00 00 00 00 00 00 00 ff ff 00 00 00 01 00 00", "", 0);
+    tells("1d 04 00 00 00 00", "", 0);
+    is_refused(0, "1d 24 00 00 00 00", 5, 0x24, 0);
+    is_refused(0, "1d 04 00 00 04 00", 5, 0x24, 0);
+    is_refused(0, "12 00 00 00 ff 04", 5, 0x24, 0);
+    is_refused(0, "88 00 00 00 00 00 00 00 00 00 00 00 00 01 00 04", 5, 0x24, 0);
+    is_refused(0, "42 00 00 00 00 00 00 00 00 04", 5, 0x20, 0);
+    tells("a3 0c 01 34 00 00 00 00 01 00 00 00", "0003000a3400ffffffff00ffff04", 14);
+    tells("a3 0c 00 00 00 00 00 00 00 04 00 00", "000000f0", 4);
+}
+
+/* WRITE AND VERIFY: two blocks with either check, one that is bad, and fields. */
+static void written_and_verified(void)
+{
+    struct ended ended;
+    for (size_t k = 0; k < 1024; k++)
+        data[k] = (uint8_t)(k * 7 + 1);
+    ended = run(0, "2e 02 00 00 00 05 00 00 02 00");
+    CHECK(ended.status == UAS_GOOD && ended.taken == 1024 && memcmp(disk + 5 * UAS_BLOCK_BYTES, data, 1024) == 0);
+    ended = run(0, "8e 00 00 00 00 00 00 00 00 07 00 00 00 02 00 00");
+    CHECK(ended.status == UAS_GOOD && ended.taken == 1024 && memcmp(disk + 7 * UAS_BLOCK_BYTES, data, 1024) == 0);
+    bad = 6;
+    is_refused(0, "ae 00 00 00 00 05 00 00 00 02 00 00", 3, 0x0c, 0);
+    bad = UINT64_MAX;
+    is_refused(0, "2e 04 00 00 00 05 00 00 02 00", 5, 0x24, 0);
+    is_refused(0, "2e 00 00 00 ff ff 00 00 02 00", 5, 0x21, 0);
+}
+
+/* The WRITE of a tag asks for a request that goes through, and is done. */
+static bool takes_through(uint16_t tag)
+{
+    struct uas_request request;
+    uint8_t phase = UAS_ABSENT;
+    uint64_t length = 0;
+    uas_tasks_next(tasks, tag, &phase, &length, &request);
+    if (phase != UAS_TAKES || uas_tasks_take(tasks, tag, data, (size_t)length) != UAS_OK)
+        return false;
+    uas_tasks_next(tasks, tag, &phase, &length, &request);
+    return phase == UAS_ASKS && request.kind == UAS_REQUEST_WRITE && request.through &&
+           uas_tasks_answered(tasks, request.number, UAS_DONE, NULL, 0) == UAS_OK;
+}
+
 static void virtual_disks(void)
 {
     struct uas_disk disk = virtual_disk();
@@ -43,6 +90,14 @@ static void virtual_disks(void)
     CHECK(begin(1, 0, "28 00 00 00 00 00 00 08 00 00"));
     ended = run(0, "28 00 00 00 00 00 00 08 01 00");
     CHECK(ended.status == UAS_CHECK_CONDITION && memcmp(ended.sense, (uint8_t[]){ 5, 0x24, 0 }, 3) == 0);
+    own_commands();
+    written_and_verified();
+    /* one that is written through: its caching page, and the request of a WRITE without FUA */
+    disk.flags = UAS_DISK_WRITE_THROUGH;
+    uas_tasks_free(tasks);
+    CHECK(uas_tasks_new_disks(&disk, disk.size, UAS_SET_DISK, 0, 128, &tasks) == UAS_OK);
+    tells("1a 08 08 00 ff 00", "170010000812", 24);
+    CHECK(begin(1, 0, "2a 00 00 00 00 05 00 00 01 00") && takes_through(1));
     /* one that says nothing but its blocks is as in the host set, but for its INQUIRY data */
     disk = (struct uas_disk){ .size = 16, .blocks = BLOCKS, .most = 7 };
     uas_tasks_free(tasks);
@@ -57,7 +112,7 @@ static const struct {
     uint8_t fault;
 } disk_rows[] = {
     { 0, 4, 15, UAS_TASKS_SIZE }, { 0, 4, 153, UAS_TASKS_SIZE }, { 4, 4, 1, UAS_OK }, { 4, 4, 2, UAS_TASKS_DISK }, { 4, 4, 4, UAS_TASKS_DISK },
-    { 4, 4, 8, UAS_TASKS_DISK }, { 4, 4, 16, UAS_TASKS_DISK }, { 4, 4, 32, UAS_TASKS_DISK }, { 8, 8, 0, UAS_BLOCKS }, { 8, 8, 1ull << 48, UAS_OK },
+    { 4, 4, 8, UAS_OK }, { 4, 4, 16, UAS_TASKS_DISK }, { 4, 4, 32, UAS_TASKS_DISK }, { 8, 8, 0, UAS_BLOCKS }, { 8, 8, 1ull << 48, UAS_OK },
     { 8, 8, (1ull << 48) + 1, UAS_BLOCKS }, { 16, 4, 512, UAS_OK }, { 16, 4, 4096, UAS_OK }, { 16, 4, 1024, UAS_TASKS_BLOCK_BYTES }, { 20, 4, 0, UAS_OK },
     { 20, 4, 512, UAS_OK }, { 20, 4, 1024, UAS_TASKS_DISK }, { 24, 4, 0, UAS_OK }, { 24, 4, 65528, UAS_OK }, { 24, 4, 65536, UAS_TASKS_DISK },
     { 24, 4, 12, UAS_TASKS_DISK }, { 28, 4, 8, UAS_OK }, { 28, 4, 65536, UAS_OK }, { 28, 4, 12, UAS_TASKS_DISK }, { 28, 4, 65544, UAS_TASKS_DISK },

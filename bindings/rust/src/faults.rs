@@ -44,6 +44,9 @@ macro_rules! faults {
     };
 }
 
+#[cfg(feature = "block")]
+pub(crate) use faults;
+
 faults! {
     /// Why there is no device, controller or bus: the first that holds.
     OpenFault {

@@ -6,6 +6,7 @@
 //! - [`Controller`]: what stands behind a driver, an xHCI controller and its disk; rings and doorbells go in, events come out.
 //! - [`Driver`]: what stands in front of a controller, the host of up to 31 clients; events go in, doorbells come out.
 //! - [`Bus`]: host, xHCI controller and device as one machine of atomic steps.
+//! - `BlockDriver`, of the feature `block`: a driver for any xHCI controller and one disk behind it (`include/uas_block.h`).
 //!
 //! A [`Driver`] and a [`Controller`], joined by copying bytes, are a [`Bus`].
 //!
@@ -24,6 +25,8 @@
 //! assert_eq!(disk.sent(18), Ok(()));
 //! ```
 
+#[cfg(feature = "block")]
+mod block;
 mod bus;
 mod client;
 mod controller;
@@ -34,10 +37,16 @@ mod handle;
 mod numbers;
 mod places;
 mod raw;
+#[cfg(feature = "block")]
+mod raw_block;
 mod scsi;
 mod trb;
 mod unit;
 
+#[cfg(feature = "block")]
+pub use block::{
+    quirks_of, Access, BlockDisk, BlockDriver, BlockEnding, BlockFault, BlockOptions, BlockReply, BlockRequest, BlockState, Segment,
+};
 pub use bus::{Bus, Drained, Step};
 pub use client::{Reply, Task};
 pub use controller::{Controller, ControllerStep};

@@ -160,7 +160,23 @@ enum uas_fault {
     UAS_XHCI_MANY = 160,    /* more regions than a call takes */
     UAS_XHCI_WRAPS = 161,   /* a region that goes past the last address */
     UAS_XHCI_OVERLAP = 162, /* an address, or a byte of the caller's memory, is in two regions */
-    UAS_XHCI_NULL = 163     /* a region whose bytes are a null pointer */
+    UAS_XHCI_NULL = 163,    /* a region whose bytes are a null pointer */
+    /* the driver for any controller (uas_block.h) */
+    UAS_BLOCK_CALL = 176,       /* no such call or kind of request, or too little room */
+    UAS_BLOCK_OPTIONS = 177,    /* options that can't be asked */
+    UAS_BLOCK_NOT_ASKED = 178,  /* nothing was told that is answered, or no memory is wanted */
+    UAS_BLOCK_LENGTH = 179,     /* other bytes than were asked for, or than a request moves */
+    UAS_BLOCK_ALIGNMENT = 180,  /* memory, or a segment, at no such multiple as it has to be */
+    UAS_BLOCK_REACH = 181,      /* memory, or a segment, that the controller doesn't reach */
+    UAS_BLOCK_NOT_READY = 182,  /* no disk is used */
+    UAS_BLOCK_OTHER_DISK = 183, /* another disk is used */
+    UAS_BLOCK_RANGE = 184,      /* a block that isn't on the disk */
+    UAS_BLOCK_TOO_LONG = 185,   /* more blocks than one request can have */
+    UAS_BLOCK_NO_UNMAP = 186,   /* the disk can't unmap blocks */
+    UAS_BLOCK_NO_FUA = 187,     /* the disk has no forced unit access */
+    UAS_BLOCK_PIECES = 188,     /* more pieces than the data of a command can have */
+    UAS_BLOCK_NO_TAG = 189,     /* as many commands are out as can be */
+    UAS_BLOCK_NO_SUCH_TAG = 190 /* no command is out on the tag */
 };
 
 /* The name above, as "UAS_TRB_UNFIT"; a null pointer where the number is no fault's. */
@@ -775,7 +791,9 @@ uint8_t uas_driver_wanted_state(const uas_driver *driver, uint8_t *pipe, bool *w
 uint8_t uas_driver_endpoint_state(uas_driver *driver, uint8_t pipe, uint8_t state, struct uas_driver_door *told);
 
 /* A client gives its command under a tag up, as its device is silent: the command's TDs are taken off their pipes, and its reply is
- * UAS_REPLY_ABORTED once all are back, unless the device's status comes before. told->doorbell has the told->doorbells values to write.
+ * UAS_REPLY_ABORTED once all are back, unless the device's status comes before. The device isn't told, and may have the command's task still: a
+ * new command under that tag would be answered with the old one's data. So submit ABORT TASK first and give up what it doesn't end, or have
+ * the logical unit reset before the tag is used again. told->doorbell has the told->doorbells values to write.
  * Faults: UAS_CLIENT_NOT_YOURS, UAS_CLIENT_NO_SUCH_TASK. */
 uint8_t uas_driver_give_up(uas_driver *driver, uint32_t client, uint16_t tag, struct uas_driver_door *told);
 

@@ -1,5 +1,5 @@
 -- How a command line ends: the exit status, what was printed, and what the files hold, on a host that tells its bytes.
-use Rattle.std.specs.Prelude.{◌≡◌, ℕ, ◌<◌, ◌≤◌, Bool, true, false, IsTrue, IsErr, List, [], ◌∷◌, length, ◌⊎◌, ⊤, Option, None, Some, IfSome}
+use Rattle.std.specs.Prelude.{◌≡◌, ℕ, ◌<◌, ◌≤◌, Bool, true, false, IsTrue, IsErr, List, [], ◌∷◌, length, map, ◌⊎◌, ⊤, Option, None, Some, IfSome}
 use Rattle.std.specs.Io.KnownBytes.{Appends, Keeps, IsAtEnd}
 use Rattle.clap.specs.Words.{Kinds, Text}
 use Rattle.clap.specs.declared.error.kind.ErrorKind.{ErrorKind}
@@ -13,9 +13,10 @@ use Rattle.disk_image.specs.Alone.{blocks_at, dump_lines, dumped, filled, filled
 use Rattle.block_unit.specs.BlockMaps.{imaged}
 use Rattle.uas_trace.specs.Traced.{Traces}
 use Rattle.uas_trace.specs.Texts.{TracesScript}
-use Rattle.work_run.specs.WorkEnds.{Told}
+use Rattle.work_run.specs.WorkEnds.{Told, work_units}
 use Rattle.work_run.specs.SavedEnds.{NotSaved, Saved, Unsaved}
-use Rattle.work_run.specs.KeptEnds.{KeptTold}
+use Rattle.uas_work.specs.Booked.{first_unit}
+use Rattle.work_run.specs.KeptEnds.{HasLeft, KeptTold}
 use Rattle.uas_decode.specs.Runs.{Begins, Decodes}
 use Rattle.audit_run.specs.Ends.{IsRefused, Tells as AuditTells}
 use Rattle.draw_run.specs.Draws.{AppendsDrawn, DrawsScript}
@@ -105,12 +106,13 @@ pub record SavedWorkEnds (clients tags depth rounds : ℕ) (file : Text) (host :
 
 -- `work CLIENTS ROUNDS LOG --sync N [--tags N] [--depth D]`: standard output has got the lines of so many clients that worked in threads, and behind them whether
 -- each of their audits is true; and the file of this name holds the whole text of a log, with all that the log of their bus has behind
--- some place.
+-- some place. At statuses 3 and 4 it holds a beginning of a log, with an end or without, what it held before, or nothing.
 pub record KeptWorkEnds (clients tags depth rounds : ℕ) (file : Text) (host : Host) (old new : World) (status : ℕ) : Type 0 where
   pub statuses : (status ≤ 1) ⊎ ((status ≡ 3) ⊎ (status ≡ 4))
   pub told : status ≤ 1 → KeptTold clients tags depth rounds host.tells_kept (new.kept file) old.output new.output status
   pub fault : status ≡ 3 → IsTrue host.output_can_fail ⊎ (IsTrue (host.kept_can_fail file) × Keeps old.output new.output)
   pub memory : status ≡ 4 → Keeps old.output new.output
+  pub left : 3 ≤ status → IsTrue host.tells_kept → ∥ HasLeft tags (map first_unit (work_units clients)) (old.kept file) (new.kept file) ∥₁
   pub input : new.input ≡ old.input
 
 -- `decode`: standard output has got each line of standard input, with what its bytes say.
@@ -157,7 +159,8 @@ pub record DumpEnds (file : Text) (lba count : ℕ) (host : Host) (old new : Wor
   pub input : new.input ≡ old.input
 
 -- `fill FILE LBA COUNT BYTE`: standard output has got what is told of the WRITE, and after a GOOD the file of this name holds the
--- medium that it left: the image with these blocks of that byte. Where it ended otherwise, every file holds what it held.
+-- medium that it left: the image with these blocks of that byte. Where it ended with a CHECK CONDITION, every file holds what it held; what
+-- the files hold after a fault or for want of memory isn't said.
 pub record FillEnds (file : Text) (lba count byte : ℕ) (host : Host) (old new : World) (status : ℕ) : Type 0 where
   pub statuses : (status ≤ 1) ⊎ ((status ≡ 3) ⊎ (status ≡ 4))
   pub told : status ≤ 1 → IsTrue host.tells → IfSome (old.holds file) (λ bytes.

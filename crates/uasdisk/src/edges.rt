@@ -112,7 +112,7 @@ impl<W: Write> Write for Faults<'_, W> {
             return Ok(buf.len());
         }
         let count = self.writer.write(buf)?;
-        for byte in buf {
+        for byte in &buf[..count] {
             self.keep(*byte);
         }
         Ok(count)

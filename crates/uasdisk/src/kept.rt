@@ -2,7 +2,7 @@
 
 ghost use Rattle.std.specs.Prelude.{None, false, true};
 
-use byte_io::StreamFault;
+use byte_io::{StreamFault, sync_folder};
 use log_keeper::{KeptFile, KeptFiles};
 use std::fs;
 use std::fs::File;
@@ -38,6 +38,7 @@ impl<'a> KeptFiles for HostKeptFiles<'a> {
         let Ok(file) = fs::create(self.rt, name) else {
             return Err(StreamFault::File);
         };
+        sync_folder(self.rt, name);
         Ok(HostKeptFile {
             rt: self.rt,
             file,

@@ -15,7 +15,7 @@ pub returns-in-Err-clause-run : goal.returns-in-Err-clause-run
 returns-in-Err-clause-run g c = λ none.
     let memory = only_memory c.in-Err.error (subst (λ (kinds : Kinds). HasKind kinds c.in-Err.error) none c.in-Err.ensures.refused) in
     let four = c.refuse.ensures.ends.ended.memory memory in
-    asked_ends _ _ _ _ c.refuse.result four (c.refuse.ensures.ends.memory four) refl refl
+    asked_ends _ _ _ _ c.refuse.result four (c.refuse.ensures.ends.memory four) refl refl refl
 
 pub returns-in-Ok-Work-default-default-default-default-Some-clause-run : goal.returns-in-Ok-Work-default-default-default-default-Some-clause-run
 returns-in-Ok-Work-default-default-default-default-Some-clause-run g c = λ none.

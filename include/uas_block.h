@@ -92,7 +92,7 @@ struct uas_block_access {
     uint8_t kind; /* UAS_BLOCK_READ32 and its like */
     uint8_t reserved[3];
     uint32_t length; /* how many bytes */
-    uint64_t at;     /* the offset of a register, a multiple of 4 where CAPLENGTH is one; an address of the lent memory; until when a REST is */
+    uint64_t at;     /* the offset of a register, a multiple of 4; an address of the lent memory; until when a REST is */
     uint32_t value;  /* of WRITE32 */
     uint8_t bytes[UAS_BLOCK_STORE_BYTES]; /* of STORE */
     uint8_t reserved_too[4];

@@ -53,12 +53,9 @@ static void must(bool good, const char *what, uint64_t number)
 
 /* ---- The driver's side ---- */
 
-/* What was told last of CAPLENGTH, where that is no multiple of 4; else 0. The registers behind it are then at no such multiple either. */
-static uint8_t odd_length;
-
 static void must_be_register(uint32_t offset)
 {
-    must(offset <= UAS_XHCI_REGISTER_BYTES - 4 && (offset % 4 == 0 || (offset - odd_length) % 4 == 0), "a register that isn't there", offset);
+    must(offset <= UAS_XHCI_REGISTER_BYTES - 4 && offset % 4 == 0, "a register that isn't there", offset);
 }
 
 static uint8_t *arena(uint64_t address, uint32_t length)

@@ -122,8 +122,6 @@ static bool step(void)
         uint32_t word = read32(NULL, (uint32_t)access.at);
         memcpy(bytes, &word, 4);
         tell(bytes, 4);
-        if (access.at == 0)
-            odd_length = bytes[0] % 4 == 0 ? 0 : bytes[0];
         return true;
     }
     case UAS_BLOCK_LOAD:

@@ -65,11 +65,11 @@ survey_offset s = offset_of s.controller s.reading
 
 -- WHAT EACH VALUE LEADS TO
 
--- CAPLENGTH is in bits 7:0, HCIVERSION in 31:16: 0100h at least
+-- CAPLENGTH is in bits 7:0, and its two low bits are taken as 0: registers stand at multiples of 4. HCIVERSION is in 31:16: 0100h at least
 abbrev pub version_read : Survey → ℕ → Surveyed
 version_read s value =
     if nat_lt (value / 2 ^ 16) 0x100 then Refused why.TooOld
-    else looked s (record s.controller { operational = value % 256 }) reading.Counts
+    else looked s (record s.controller { operational = 4 * (value / 4 % 64) }) reading.Counts
 
 -- MaxSlots in bits 7:0, MaxPorts in 31:24
 abbrev pub counts_read : Survey → ℕ → Surveyed

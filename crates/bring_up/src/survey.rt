@@ -157,7 +157,7 @@ impl Survey {
         }
         self.looked(
             Controller {
-                operational: (value % 256) as u8,
+                operational: (value / 4 % 64 * 4) as u8,
                 ..self.controller
             },
             Reading::Counts,

@@ -4,6 +4,7 @@ use Rattle.event_ring.specs.declared.Event.{Event}
 use Rattle.scsi_cmd.specs.declared.Command.{Command}
 use Rattle.shared_machine.specs.Shared.{Shared}
 use Rattle.shared_machine.specs.declared.Step.TheVariants.{Submit, CommandPipe, Data, Status, Engine}
+use Rattle.uas_profile.specs.declared.TheConstants.{STREAMS}
 use Rattle.uas_profile.specs.declared.Pipe.{Pipe}
 use Rattle.uas_profile.specs.declared.Pipe.TheVariants as Pipe
 use Rattle.uas_target.specs.Device.{Device}
@@ -27,11 +28,11 @@ use Rattle.bus_core.specs.Fits.{Fits}
 abbrev pub controller_half : World → MachineState
 controller_half world = record { lines = world.lines; frames = world.frames; controller = world.controller; device = world.device }
 
--- Law: of a new bus, with any number of tags of each client, it is a new controller of the same units.
+-- Law: of a new bus, with any number of tags of each client, it is a new controller of the same units and a place for each tag that has a stream.
 abbrev pub ControllersBeginAsTheBus : Type 0
 ControllersBeginAsTheBus =
     (tags clients : ℕ) (units : List BlockMaps) (lines : LinesState) → IsOpeningLines lines
-    → IsOpening units (controller_half (opening_world tags units clients lines))
+    → IsOpening STREAMS units (controller_half (opening_world tags units clients lines))
 
 -- Each step of the controller's leaves this half as the bus has it after that step. The oldest event is given out, and the rings are left as
 -- the host finds them when it handles that event. Doorbells, in their order, are those of the bus.

@@ -1,7 +1,6 @@
 -- The machine: rings, buffers, an xHCI controller and a device, and no host.
 use Rattle.std.specs.Prelude.{◌≡◌, List}
 use Rattle.block_unit.specs.BlockMaps.{BlockMaps}
-use Rattle.uas_profile.specs.declared.TheConstants.{STREAMS}
 use Rattle.stream_array.specs.Rings.{LinesState, IsOpeningLines}
 use Rattle.frame_store.specs.declared.TagBuffers.{TagBuffers}
 use Rattle.frame_store.specs.Buffers.{opening as opening_frames}
@@ -25,9 +24,9 @@ abbrev pub with_sides : MachineState → Sides → MachineState
 with_sides machine after = record { lines = after.lines; frames = after.frames; controller = machine.controller; device = after.device }
 
 -- At the start every ring is empty at its address with cycle state 1, all buffers are zeros and nothing is lent, every endpoint runs
--- and no stream was rung, and the device has these units, a place for each tag that has a stream, and no task.
-pub record IsOpening (units : List BlockMaps) (machine : MachineState) : Type 0 where
+-- and no stream was rung, and the device has these units, a place for each tag up to the greatest, and no task.
+pub record IsOpening (greatest : ℕ) (units : List BlockMaps) (machine : MachineState) : Type 0 where
   pub lines : IsOpeningLines machine.lines
   pub frames : machine.frames ≡ opening_frames
   pub controller : machine.controller ≡ new_controller
-  pub device : machine.device ≡ opening_device STREAMS units
+  pub device : machine.device ≡ opening_device greatest units

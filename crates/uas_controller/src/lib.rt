@@ -20,7 +20,7 @@
 //!
 //! What is promised: safe and total. No call asks anything of the bytes on a ring, of an address or of a doorbell, and each call is
 //! one equation: what it makes of the machine, and its answer, are the function of its name in specs/Calls.antt and
-//! specs/Steps.antt. A refused call ([`Refusal`]) leaves the machine as it was. [`Machine::new`] takes all memory, and no other
+//! specs/Steps.antt. A refused call ([`Refusal`]) leaves the machine as it was. [`Machine::with_tags`] takes all memory, and no other
 //! call takes any.
 //!
 //! It stands on `stream_array` for the rings, `frame_store` for the buffers, `xhci_ctl` for the controller and `uas_target` for the
@@ -40,7 +40,7 @@ use std::alloc::{AllocError, Global};
 use std::marker::Model;
 use stream_array::Lines;
 use thiserror::Error;
-use uas_profile::{MAX_CLIENTS, STREAMS};
+use uas_profile::{GREATEST_TAG, MAX_CLIENTS, STREAMS};
 use uas_target::Target;
 use xhci_ctl::Controller;
 
@@ -91,14 +91,24 @@ impl Model for Machine {
 }
 
 impl Machine {
-    /// A machine whose device has these logical units, 1 to 31 (`MAX_CLIENTS`), and a place for each tag that has a stream, 1 to 248
-    /// (`STREAMS`). Rings and buffers are zeros, every endpoint runs and no doorbell was rung. The error is want of memory.
+    /// A machine whose device has these logical units, 1 to 31 (`MAX_CLIENTS`), and whose tasks may have the tags from 1 to 240
+    /// (`GREATEST_TAG`). Rings and buffers are zeros, every endpoint runs and no doorbell was rung. The error is want of memory.
     pub fn new(alloc: Global, units: Vec<Unit>) -> Result<Machine, AllocError>
         requires some { 1 ≤ vec_len units }
         requires most { vec_len units ≤ MAX_CLIENTS }
-        ensures { IfOk result (IsOpening units.items) }
+        ensures { IfOk result (IsOpening GREATEST_TAG units.items) }
     {
-        let target = Target::with_tags(alloc, units, STREAMS)?;
+        Machine::with_tags(alloc, units, GREATEST_TAG)
+    }
+
+    /// The same with tasks of the tags from 1 to `tags`, at most 248 (`STREAMS`): a bus's controller has as many.
+    pub fn with_tags(alloc: Global, units: Vec<Unit>, tags: u16) -> Result<Machine, AllocError>
+        requires some { 1 ≤ vec_len units }
+        requires most { vec_len units ≤ MAX_CLIENTS }
+        requires tags { tags ≤ STREAMS }
+        ensures { IfOk result (IsOpening tags units.items) }
+    {
+        let target = Target::with_tags(alloc, units, tags)?;
         Ok(Machine {
             lines: Lines::new(alloc)?,
             frames: Frames::new(alloc)?,

@@ -1,6 +1,7 @@
 //! The controller for C: rings, buffers, an xHCI controller and a device without a host, over one call with a door.
 ghost use Rattle.std.specs.Prelude.{◌≡◌, length};
 ghost use Rattle.uas_controller.specs.Machine.{IsOpening};
+ghost use Rattle.uas_profile.specs.declared.TheConstants.{GREATEST_TAG};
 ghost use Rattle.uas_device_c.specs.ControllerCall.{after_context, after_event, after_lend, after_put, after_read, after_reclaim, after_step_call};
 ghost use Rattle.uas_device_c.specs.ControllerCall.{after_take_back, after_write, controller_answer, ring_context, ring_put, ring_reclaimed};
 ghost use Rattle.uas_device_c.specs.ControllerCall.{step_by, with_acted, with_event};
@@ -41,7 +42,7 @@ impl Model for KeptMachine {
 }
 
 impl OfUnits for KeptMachine {
-    ghost is_of = { IsOpening };
+    ghost is_of = { IsOpening GREATEST_TAG };
 
     fn of_units(alloc: Global, units: Vec<Unit>) -> Result<KeptMachine, AllocError> {
         let machine = Machine::new(alloc, units)?;

@@ -8,7 +8,7 @@ ghost use Rattle.uas_device_c.specs.ControllerCall.{controller_answer};
 ghost use Rattle.c_common.specs.Handed.{handed};
 ghost use Rattle.c_common.specs.HandedOut.{handed_out};
 ghost use Rattle.c_common.specs.Units.{opened_units, units_told};
-ghost use Rattle.uas_profile.specs.declared.TheConstants.{MAX_CLIENTS};
+ghost use Rattle.uas_profile.specs.declared.TheConstants.{GREATEST_TAG, MAX_CLIENTS};
 ghost use Rattle.uas_device_c.specs.contracts.controller.KeptMachine.{the_row as machine_row};
 ghost use Rattle.uas_device_c.specs.contracts.controller.door.UasControllerDoor.{the_row as door_row};
 ghost use Rattle.uas_device_c.specs.declared.controller.door.UasControllerDoor.{UasControllerDoor};
@@ -34,7 +34,7 @@ pub extern "C" fn uas_controller_new(
 ) -> u8
     ensures fault { units_told result MAX_CLIENTS blocks.now [] [] ≡ true }
     ensures refused { 0 < result → controller.new ≡ controller.old }
-    ensures* handed_out { sem 𝓛 (handed_out machine_row (IsOpening (opened_units blocks.now [] [])) result controller.new) }
+    ensures* handed_out { sem 𝓛 (handed_out machine_row (IsOpening GREATEST_TAG (opened_units blocks.now [] [])) result controller.new) }
 {
     new_handle::<KeptMachine, UasController>(alloc, blocks, controller)
 }
@@ -51,7 +51,7 @@ pub extern "C" fn uas_controller_open(
 ) -> u8
     ensures fault { units_told result MAX_CLIENTS blocks.now image.now bad.now ≡ true }
     ensures refused { 0 < result → controller.new ≡ controller.old }
-    ensures* handed_out { sem 𝓛 (handed_out machine_row (IsOpening (opened_units blocks.now image.now bad.now)) result controller.new) }
+    ensures* handed_out { sem 𝓛 (handed_out machine_row (IsOpening GREATEST_TAG (opened_units blocks.now image.now bad.now)) result controller.new) }
 {
     open_handle::<KeptMachine, UasController>(alloc, blocks, image, bad, controller)
 }

@@ -62,6 +62,12 @@ uint8_t uas_xhci_new(const struct uas_tasks_unit *units, size_t count, uint8_t s
  * Faults: those of uas_tasks_new_disks. */
 uint8_t uas_xhci_new_disks(const struct uas_disk *disks, size_t bytes, uint8_t set, uint16_t most, uint16_t chunk, uas_xhci **xhci);
 
+/* The disk tells Bulk-Only Transport as alternate setting 0 and UAS as alternate setting 1, as disks that are sold do: firmware boots from it, and
+ * Linux takes it by UAS. `most_lun` is the number of logical units less 1, `serial` the serial number of logical unit 0. To be called before the
+ * guest runs: the disk is reset by it. A host in setting 0 doesn't flush, so its writes ask to go through (UAS_REQUEST_WRITE with `through`).
+ * Faults: UAS_UNITS (above 14), UAS_TASKS_SERIAL. */
+uint8_t uas_xhci_offer_bulk_only(uas_xhci *xhci, uint8_t most_lun, uint32_t serial);
+
 /* Gives back all memory that the controller holds, but the block of malloc that the pointer is of. For uas_xhci_free alone. */
 void uas_xhci_close(uas_xhci *xhci);
 
@@ -83,7 +89,8 @@ enum {
     UAS_XHCI_CALL_DATA = 9,
     UAS_XHCI_CALL_ANSWERED = 10,
     UAS_XHCI_CALL_STALE = 11,
-    UAS_XHCI_CALL_HOST_ERROR = 12
+    UAS_XHCI_CALL_HOST_ERROR = 12,
+    UAS_XHCI_CALL_OFFER = 13
 };
 
 /* What goes in and comes out beside the bytes, where a call has it. */
@@ -96,13 +103,13 @@ struct uas_xhci_door {
     uint8_t outcome; /* in of ANSWERED: UAS_DONE and its like */
     uint16_t reserved;
     uint64_t offset; /* in of READ, WRITE */
-    uint64_t value;  /* in of WRITE, PLUG, FRAME; out of READ */
-    uint64_t number, unit, block, count; /* out of REQUEST; `number` in of DATA, ANSWERED, STALE; out of STALE */
+    uint64_t value;  /* in of WRITE, PLUG, FRAME, OFFER; out of READ */
+    uint64_t number, unit, block, count; /* out of REQUEST; `number` in of DATA, ANSWERED, STALE, OFFER; out of STALE */
 };
 UAS_XHCI_ASSERT(sizeof(struct uas_xhci_door) == 56 && offsetof(struct uas_xhci_door, offset) == 8);
 
 /* Any call of the controller but its steps; those below are easier to use. Where a call has no bytes, `length` may be 0.
- * Faults: UAS_TASKS_CALL, UAS_TASKS_NOT_OUT, UAS_TASKS_LENGTH. */
+ * Faults: UAS_TASKS_CALL, UAS_TASKS_NOT_OUT, UAS_TASKS_LENGTH, UAS_UNITS, UAS_TASKS_SERIAL. */
 uint8_t uas_xhci_call(uas_xhci *xhci, struct uas_xhci_door *door, uint8_t *bytes, size_t length);
 
 /* ---- Registers (5.3 to 5.6) ---- */

@@ -125,6 +125,12 @@ bool uas_xhci_take_message(uas_xhci *xhci)
     return door.good != 0;
 }
 
+uint8_t uas_xhci_offer_bulk_only(uas_xhci *xhci, uint8_t most_lun, uint32_t serial)
+{
+    struct uas_xhci_door door = { .call = UAS_XHCI_CALL_OFFER, .number = most_lun, .value = serial };
+    return call(xhci, &door, NULL, 0);
+}
+
 bool uas_xhci_host_error(uas_xhci *xhci)
 {
     struct uas_xhci_door door = { .call = UAS_XHCI_CALL_HOST_ERROR };

@@ -10,7 +10,8 @@ use Rattle.guest_pipes.specs.declared.consumer.EndpointState.TheVariants.{Disabl
 use Rattle.guest_pipes.specs.Progress.{fresh, runs}
 use Rattle.guest_pipes.specs.Gate.{after, room_gate, through}
 use Rattle.guest_pipes.specs.Orders.{PipeWorld, dequeue_set, stray_stepped}
-use Rattle.guest_pipes.specs.Pipe.{PipeState, configured, forgotten, progress_on, reset_with}
+use Rattle.guest_pipes.specs.declared.consumer.Consumer.{Consumer}
+use Rattle.guest_pipes.specs.Pipe.{PipeState, configured, forgotten, progress_on, reset_with, stored}
 use Rattle.guest_tags.specs.declared.device.Phase.{Phase}
 use Rattle.guest_tags.specs.declared.device.Phase.TheVariants.{Absent, Gives, Takes, Ended}
 use Rattle.guest_tags.specs.Devices.{Kind}
@@ -91,6 +92,10 @@ dequeue_moved memory t name stream cursor kind =
 -- the same of the one ring of a pipe without streams, which is that of stream 0
 abbrev pub lone_forgotten : TransfersState → StreamPipe → TransfersState
 lone_forgotten t name = with_pipe t name (forgotten (pipe_of t name) 0)
+
+-- that ring's consumer once it has changed
+abbrev pub lone_kept : TransfersState → StreamPipe → Consumer → TransfersState
+lone_kept t name consumer = with_pipe t name (stored (pipe_of t name) 0 consumer)
 
 -- after a device reset nothing is kept of a tag
 abbrev pub emptied : Slot → Slot

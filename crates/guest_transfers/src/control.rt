@@ -9,7 +9,7 @@ ghost use Rattle.guest_tags.specs.DataIn.{has_chunk};
 ghost use Rattle.guest_tags.specs.Devices.{Kind};
 ghost use Rattle.guest_transfers.specs.State.{TransfersWorld, slot_of};
 ghost use Rattle.guest_transfers.specs.Steps.{in_stepped, out_stepped};
-ghost use Rattle.guest_transfers.specs.Orders.{pipe_added, pipe_kept, pipe_reset, dequeue_kept, dequeue_moved, unit_forgotten, units_forgotten, command_configured, command_disabled, command_forgotten, command_stopped, chunk_dropped, data_stepped, dropped_in, drops_now, has_begun_data, has_task, has_work, left_dropped, or_out, pipe_of, with_pipe, tags_cleared, lone_forgotten, stray_on};
+ghost use Rattle.guest_transfers.specs.Orders.{pipe_added, pipe_kept, pipe_reset, dequeue_kept, dequeue_moved, unit_forgotten, units_forgotten, command_configured, command_disabled, command_forgotten, command_stopped, chunk_dropped, data_stepped, dropped_in, drops_now, has_begun_data, has_task, has_work, left_dropped, or_out, pipe_of, with_pipe, tags_cleared, lone_forgotten, lone_kept, stray_on};
 ghost use Rattle.guest_memory.specs.Bytes.{Memory};
 ghost use Rattle.guest_memory.specs.rings.Events.{EventEnd};
 
@@ -177,6 +177,17 @@ impl Transfers {
             StreamPipe::Status => self.status.forget(0),
             StreamPipe::DataOut => self.data_out.forget(0),
             StreamPipe::DataIn => self.data_in.forget(0),
+        }
+    }
+
+    /// Keeps the consumer of the one ring of a pipe without streams once it has changed.
+    pub fn keep_lone(&mut self, name: StreamPipe, consumer: &Consumer)
+        ensures { self.new ≡ lone_kept self.old name consumer.now }
+    {
+        match name {
+            StreamPipe::Status => self.status.keep(0, consumer),
+            StreamPipe::DataOut => self.data_out.keep(0, consumer),
+            StreamPipe::DataIn => self.data_in.keep(0, consumer),
         }
     }
 

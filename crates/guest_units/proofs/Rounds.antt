@@ -9,14 +9,15 @@ use Rattle.uas_tasks.specs.Machine.{Machine, wanted}
 use Rattle.units_apart.specs.Calls.{Call, called}
 use Rattle.units_apart.specs.Runs.{after}
 use Rattle.xhci_machine.specs.declared.work.Worked.{Worked}
-use Rattle.xhci_machine.specs.Rounds.{Turning, command_pipe_stepped, control_stepped, data_of, front_turned, settled_in, status_of, then_commands, then_control, then_pipes, then_port, turned}
+use Rattle.xhci_machine.specs.Rounds.{Turning, command_pipe_stepped, control_stepped, data_of, front_turned, settled_in, status_of, then_commands, then_control, then_pipes, then_port, then_stray, turned}
 use Rattle.xhci_machine.specs.Turns.{World}
 use Rattle.xhci_machine.specs.Worked.{IsOver, RoundsTurned, RoundsWorked, busy_turned, dropped_at, is_busy, round_turned, tag_by, tag_turned, tags_turned, then_status, then_tag, turned_if}
 use Rattle.xhci_machine.proofs.Active.{dropped_kept, settled_kept}
 use Rattle.xhci_machine.proofs.Device.{either}
-use Rattle.guest_units.specs.Rounds.{ActiveMakes, Both, BusyMakes, FrontMakes, LastMakes, RoundMakes, RoundsMake, TagMakes, TagsMake, WorkMakes}
-use Rattle.guest_units.specs.Turns.{IsAnswerOn, IsDataOn, IsEnd, IsUnitIn, TurnMakes, tasks_of}
-use Rattle.guest_units.proofs.Turns.{Has, commands_same, control_made, control_then, data_made, joined, pipes_then, port_same, status_made, status_then, turn_made, unit_made}
+use Rattle.guest_transfers.specs.declared.control.StreamPipe.TheVariants.{Status, DataOut, DataIn}
+use Rattle.guest_units.specs.Rounds.{ActiveMakes, Both, BusyMakes, FrontMakes, LastMakes, RoundMakes, RoundsMake, StraysMake, TagMakes, TagsMake, WorkMakes, then_unit}
+use Rattle.guest_units.specs.Turns.{IsAnswerOn, IsDataOn, IsEnd, IsUnitIn, StrayMakes, TurnMakes, tasks_of}
+use Rattle.guest_units.proofs.Turns.{Has, commands_same, control_made, control_then, data_made, joined, pipes_then, port_same, status_made, status_then, strays_made, turn_made, unit_made, unit_then}
 
 -- calls of these turns, which make the device of the end from that of the start
 abbrev pub Becomes : (List Call → Type 0) → Machine → Machine → Type 0
@@ -28,6 +29,16 @@ both_made First Then start middle end one two =
     (one.0 ++ two.0, (one.0, two.0, one.1, two.1, refl), joined start middle end one.0 two.0 one.2 two.2)
 
 -- THE FRONT
+strays_all : (t : Turning)
+    → Becomes (StraysMake t) (tasks_of t.0.0) (tasks_of (then_stray DataIn (then_stray DataOut (then_stray Status t))).0.0)
+strays_all t =
+    let first : Turning = then_stray Status t in
+    let second : Turning = then_stray DataOut first in
+    both_made (StrayMakes Status t) (Both (StrayMakes DataOut first) (StrayMakes DataIn second)) (tasks_of t.0.0) (tasks_of first.0.0)
+    (tasks_of (then_stray DataIn second).0.0) (strays_made Status t)
+    (both_made (StrayMakes DataOut first) (StrayMakes DataIn second) (tasks_of first.0.0) (tasks_of second.0.0)
+    (tasks_of (then_stray DataIn second).0.0) (strays_made DataOut first) (strays_made DataIn second))
+
 front_made : (at : World × ℕ) → Becomes (FrontMakes at) (tasks_of at.0) (tasks_of (front_turned at.1 at.0).0.0)
 unfolding front_turned
 front_made at =
@@ -35,12 +46,17 @@ front_made at =
     let commands : Turning = then_commands (then_port first) in
     let same : tasks_of commands.0.0 ≡ tasks_of at.0 =
     commands_same (then_port first) ∙ port_same first ∙ settled_kept (Has (tasks_of at.0)) at.0 refl in
+    let ends : Turning = then_control commands in
+    let unit : Turning = then_unit ends in
     let control = turn_made (λ w. IsEnd) control_stepped control_made commands in
-    let unit = turn_made IsUnitIn command_pipe_stepped unit_made (then_control commands) in
-    both_made (TurnMakes (λ w. IsEnd) control_stepped commands) (TurnMakes IsUnitIn command_pipe_stepped (then_control commands))
-    (tasks_of at.0) (tasks_of (then_control commands).0.0) (tasks_of (then_pipes (then_control commands)).0.0)
+    let received = turn_made IsUnitIn command_pipe_stepped unit_made ends in
+    let strays = strays_all unit in
+    both_made (TurnMakes (λ w. IsEnd) control_stepped commands) (Both (TurnMakes IsUnitIn command_pipe_stepped ends) (StraysMake unit))
+    (tasks_of at.0) (tasks_of ends.0.0) (tasks_of (then_pipes ends).0.0)
     (control.0, control.1, control_then commands ∙ control.2 ∙ ap (λ m. after called m control.0) same)
-    (unit.0, unit.1, pipes_then (then_control commands) ∙ unit.2)
+    (both_made (TurnMakes IsUnitIn command_pipe_stepped ends) (StraysMake unit) (tasks_of ends.0.0) (tasks_of unit.0.0)
+    (tasks_of (then_pipes ends).0.0) (received.0, received.1, unit_then ends ∙ received.2)
+    (strays.0, strays.1, pipes_then ends ∙ strays.2))
 
 -- A TAG
 rested_same : (device : GuestTasks) (tag : ℕ) → (rested device tag).tasks ≡ device.tasks

@@ -3,10 +3,10 @@ use Rattle.std.proofs.Common.{◌≡◌, ℕ, zero, suc, ◌==◌, Bool, true, f
 use Rattle.std.proofs.lemmas.Bool.{ne_eqb}
 use Rattle.std.specs.Prelude.{◌||◌}
 use Rattle.guest_pipes.specs.declared.acted.Acted.{Acted}
+use Rattle.guest_pipes.specs.declared.acted.Acted.TheVariants.{Idle}
 use Rattle.guest_tasks.specs.declared.GuestTasks.{GuestTasks}
 use Rattle.guest_tasks.specs.Tasks.{chunk_in, tasks_kind}
 use Rattle.guest_transfers.specs.Orders.{data_stepped}
-use Rattle.guest_transfers.specs.Silent.{silent_command}
 use Rattle.guest_transfers.specs.Steps.{command_stepped, command_world, status_stepped}
 use Rattle.guest_transfers.specs.declared.control.StreamPipe.{StreamPipe}
 use Rattle.guest_transfers.specs.declared.control.StreamPipe.TheVariants.{Status, DataOut, DataIn}
@@ -15,16 +15,23 @@ use Rattle.units_apart.specs.Calls.{Call, Receive, Give, Take, Send, EndTasks, c
 use Rattle.units_apart.specs.Runs.{after}
 use Rattle.xhci_control.specs.declared.pipe.Served.{Served}
 use Rattle.xhci_control.specs.Steps.{ControlWorld, stepped}
-use Rattle.xhci_machine.specs.Rounds.{Turning, command_of, command_pipe_stepped, control_stepped, control_world, data_due, data_of, stray_stepped, noted_in, pipes_turned, restarted, ring_on, served, status_due, status_of, then_commands, then_control, then_stray, then_pipes, then_port, transfers_world, turned, with_control, with_stray, with_transfers}
-use Rattle.xhci_machine.specs.Bus.{fault_in, is_silent, transaction_error}
+use Rattle.xhci_machine.specs.Rounds.{Turning, command_by, command_pipe_stepped, control_stepped, control_world, data_due, data_of, is_stray, stray_by, stray_stepped, noted_in, pipes_turned, ring_on, served, status_due, status_of, then_commands, then_control, then_stray, then_pipes, then_port, transfers_world, turned, with_transfers}
+use Rattle.guest_bulk.specs.declared.bulk.Stepped.{Stepped}
+use Rattle.guest_bulk.specs.Commands.{BulkWorld, unit_of}
+use Rattle.guest_bulk.specs.Steps.{bulk_after, in_stepped, out_stepped}
+use Rattle.uas_profile.specs.declared.Pipe.TheVariants.{Command}
+use Rattle.xhci_machine.specs.Bulk.{bulk_home, bulk_kept, bulk_of, bulk_world, device_ended}
+use Rattle.xhci_machine.specs.Bus.{fault_in, is_bulk, pipe_fault, stream_fault}
 use Rattle.xhci_machine.specs.Contexts.{is_due}
 use Rattle.xhci_machine.specs.Steps.{commands_stepped}
 use Rattle.xhci_machine.specs.Turns.{World}
 use Rattle.xhci_machine.specs.Worked.{then_status}
-use Rattle.xhci_machine.proofs.Active.{stray_kept, noted_in_kept, port_kept, turned_kept}
+use Rattle.xhci_machine.proofs.Active.{noted_in_kept, port_kept, turned_kept}
+use Rattle.xhci_machine.proofs.BulkDevice.{InCalls, OutCalls, bulk_in_kept, bulk_out_kept}
 use Rattle.xhci_machine.proofs.Device.{Moves, Receives, Sends, command_pipe_kept, data_kept, either, of_each, of_tags, status_kept}
 use Rattle.xhci_machine.proofs.RingStep.{commands_kept}
-use Rattle.guest_units.specs.Turns.{IsAnswerOn, IsDataOn, IsEnd, IsUnitIn, Makes, TurnMakes, tasks_of}
+use Rattle.guest_units.specs.Rounds.{then_unit}
+use Rattle.guest_units.specs.Turns.{AreBulk, AtMostOne, IsAnswerOn, IsBulk, IsBulkEnd, IsDataOn, IsEnd, IsUnitIn, Makes, StrayMakes, TurnMakes, tasks_of}
 
 -- the device has these tasks
 abbrev pub Has : Machine → GuestTasks → Type 0
@@ -79,6 +86,12 @@ status_made w tag =
     (with_transfers w (status_stepped tasks_kind (transfers_world w) tag)) none none
     (status_kept tasks_kind tag (Has start) (Made (IsAnswerOn tag) start) sends (transfers_world w) refl)
 
+by_fault_made : (fault : Option ℕ) (w : World) → Made (IsUnitIn w) (tasks_of w) w.machine.device
+    → MadeIn (IsUnitIn w) (tasks_of w) (with_transfers w (command_stepped tasks_kind (transfers_world w)))
+    → MadeIn (IsUnitIn w) (tasks_of w) (command_by fault w)
+by_fault_made (Some code) w none served = none
+by_fault_made None w none served = served
+
 pub unit_made : (w : World) → (calls : List Call) × Makes (IsUnitIn w) (tasks_of w) (tasks_of (command_pipe_stepped w).0) calls
 unfolding command_pipe_stepped
 unit_made w =
@@ -96,18 +109,17 @@ unit_made w =
       );
     } in
     let none : Made (IsUnitIn w) start w.machine.device = unmade (IsUnitIn w) start w.machine.device refl in
-    let silent = with_stray w (silent_command transaction_error w.memory w.events w.machine.transfers) in
-    of_each (MadeIn (IsUnitIn w) start) w (is_due w.machine.transfers.command) (command_of w) none none
-    (either (MadeIn (IsUnitIn w) start) (is_silent w.machine) silent (with_transfers w (command_stepped tasks_kind (transfers_world w))) none
+    of_each (MadeIn (IsUnitIn w) start) w (is_due w.machine.transfers.command) (command_by (pipe_fault w.machine Command) w) none none
+    (by_fault_made (pipe_fault w.machine Command) w none
     (command_pipe_kept tasks_kind (Has start) (Made (IsUnitIn w) start) (transfers_world w) receives refl))
 
-restarted_made : (restarts : Bool) (w : World) → (calls : List Call) × Makes IsEnd (tasks_of w) (tasks_of (restarted restarts w)) calls
-restarted_made true w = (EndTasks ∷ [], record { one = tt {0}; is = refl })
-restarted_made false w = unmade IsEnd (tasks_of w) w.machine.device refl
+ended_made : (ends : Bool) (device : GuestTasks) → Made IsEnd device.tasks (device_ended ends device)
+ended_made true device = (EndTasks ∷ [], record { one = tt {0}; is = refl })
+ended_made false device = unmade IsEnd device.tasks device refl
 
 served_made : (w : World) (done : ControlWorld × Option Served) → (calls : List Call) × Makes IsEnd (tasks_of w) (tasks_of (served w done).0) calls
 served_made w (now, None) = unmade IsEnd (tasks_of w) w.machine.device refl
-served_made w (now, Some how) = restarted_made how.restarted (with_control w now)
+served_made w (now, Some how) = ended_made (how.restarted || how.bulk_reset) w.machine.device
 
 pub control_made : (w : World) → (calls : List Call) × Makes IsEnd (tasks_of w) (tasks_of (control_stepped w).0) calls
 unfolding control_stepped
@@ -115,6 +127,84 @@ control_made w =
     let none : Made IsEnd (tasks_of w) w.machine.device = unmade IsEnd (tasks_of w) w.machine.device refl in
     let done = stepped (fault_in w.machine) (control_world w) in
     of_each (MadeIn IsEnd (tasks_of w)) w (is_due w.machine.control.consumer) (served w done) none none (served_made w done)
+
+-- BULK-OUT AND BULK-IN
+
+-- what a step left: a call, and behind it the end of every task
+abbrev BulkMade : World → StreamPipe → World × Option Acted → Type 0
+BulkMade w name step = (calls : List Call) × AreBulk w name calls × (tasks_of step.0 ≡ after called (tasks_of w) calls)
+
+no_bulk : (w : World) (name : StreamPipe) (now : World × Option Acted) → tasks_of now.0 ≡ tasks_of w → BulkMade w name now
+no_bulk w name now same = ([], ([], [], tt {0}, tt {0}, refl), same)
+
+abbrev end_of : (ends : Bool) → List Call
+end_of true = EndTasks ∷ []
+end_of false = []
+
+end_is : (w : World) (ends : Bool) → is_bulk w.machine ≡ true → AtMostOne (IsBulkEnd w) (end_of ends)
+end_is w true bulk = (bulk, tt {0})
+end_is w false bulk = tt {0}
+
+end_made : (ends : Bool) (device : GuestTasks) → (device_ended ends device).tasks ≡ after called device.tasks (end_of ends)
+end_made true device = refl
+end_made false device = refl
+
+left_made : (w : World) (name : StreamPipe) (done : BulkWorld GuestTasks × Option Stepped) → is_bulk w.machine ≡ true
+    → Made (IsBulk w name) (tasks_of w) done.0.device → BulkMade w name (bulk_kept name w done)
+left_made w name (now, None) bulk made = (made.0 ++ [], (made.0, [], made.1.one, tt {0}, refl), joined (tasks_of w) now.device.tasks now.device.tasks made.0 [] made.1.is refl)
+left_made w name (now, Some how) bulk made = (
+  made.0 ++ end_of how.ends,
+  (made.0, end_of how.ends, made.1.one, end_is w how.ends bulk, refl),
+  joined (tasks_of w) now.device.tasks (device_ended how.ends now.device).tasks made.0 (end_of how.ends) made.1.is (end_made how.ends now.device),
+)
+
+bulk_made : (w : World) (name : StreamPipe) → is_bulk w.machine ≡ true → BulkMade w name (bulk_of w name)
+bulk_made w Status bulk = no_bulk w Status (bulk_of w Status) refl
+bulk_made w DataOut bulk =
+    let start : Machine = tasks_of w in
+    let May : Call → Type 0 = IsBulk w DataOut in
+    let from = bulk_world w.memory w.events w.machine DataOut in
+    let calls : OutCalls tasks_kind from (Has start) (Made May start) = record {
+      stays = λ device same. unmade May start device same;
+      took = λ device bytes same. (Take 1 bytes ∷ [], record { one = (bulk, refl); is = ap (λ m. took m 1 bytes) same });
+      received = λ device cbw is same. (
+        Receive (unit_of cbw) ∷ [],
+        record { one = (bulk, (from.bulk.taken, cbw, inl refl, is, refl)); is = ap (λ m. (received m (unit_of cbw)).0) same },
+      );
+      drawn = λ device buffer bytes cbw is reads same. (
+        Receive (unit_of cbw) ∷ [],
+        record {
+          one = (bulk, (from.bulk.taken ++ bytes, cbw, inr (buffer, bytes, is, refl), reads, refl));
+          is = ap (λ m. (received m (unit_of cbw)).0) same;
+        },
+      );
+    } in
+    left_made w DataOut (bulk_after from (out_stepped tasks_kind from (bulk_home w.machine DataOut))) bulk
+    (bulk_out_kept tasks_kind from (Has start) (Made May start) calls (bulk_home w.machine DataOut) refl)
+bulk_made w DataIn bulk =
+    let start : Machine = tasks_of w in
+    let May : Call → Type 0 = IsBulk w DataIn in
+    let from = bulk_world w.memory w.events w.machine DataIn in
+    let calls : InCalls tasks_kind (Has start) (Made May start) = record {
+      stays = λ device same. unmade May start device same;
+      gave = λ device same.
+          (Give 1 (chunk_in (wanted start 1)) ∷ [], record { one = (bulk, refl); is = ap (λ m. gave m 1 (chunk_in (wanted m 1))) same });
+      sent = λ device same. (Send 1 ∷ [], record { one = (bulk, refl); is = ap (λ m. without_task m 1) same });
+    } in
+    left_made w DataIn (bulk_after from (in_stepped tasks_kind from (bulk_home w.machine DataIn))) bulk
+    (bulk_in_kept tasks_kind (Has start) (Made May start) calls from (bulk_home w.machine DataIn) refl)
+
+stray_by_made : (fault : Option ℕ) (bulk : Bool) (w : World) (name : StreamPipe) → is_bulk w.machine ≡ bulk → BulkMade w name (stray_by fault bulk w name)
+stray_by_made (Some code) bulk w name same = no_bulk w name (stray_by (Some code) bulk w name) refl
+stray_by_made None false w name same = no_bulk w name (stray_by None false w name) refl
+stray_by_made None true w name same = bulk_made w name same
+
+stray_made : (w : World) (name : StreamPipe) → BulkMade w name (stray_stepped w name)
+unfolding stray_stepped
+stray_made w name =
+    let fault = stream_fault w.machine name in
+    of_each (BulkMade w name) w (is_stray w.machine name) (stray_by fault (is_bulk w.machine) w name)
+    (no_bulk w name (w, Some Idle) refl) (no_bulk w name (w, None) refl) (stray_by_made fault (is_bulk w.machine) w name refl)
 
 -- TURNS
 abbrev pub then_step : (World → World × Option Acted) → Turning → Turning
@@ -143,10 +233,17 @@ commands_same (at, false) = refl
 commands_same (at, true) =
     turned_kept (Has (tasks_of at.0)) at.1 at.0 (commands_stepped at.0) refl (commands_kept (Has (tasks_of at.0)) at.0 refl)
 
-stray_same : (name : StreamPipe) (t : Turning) → tasks_of (then_stray name t).0.0 ≡ tasks_of t.0.0
-stray_same name (at, false) = refl
-stray_same name (at, true) =
-    turned_kept (Has (tasks_of at.0)) at.1 at.0 (stray_stepped at.0 name) refl (stray_kept (Has (tasks_of at.0)) at.0 name refl)
+pub strays_made : (name : StreamPipe) (t : Turning)
+    → (calls : List Call) × StrayMakes name t calls × (tasks_of (then_stray name t).0.0 ≡ after called (tasks_of t.0.0) calls)
+strays_made name (at, false) = ([], refl, refl)
+strays_made name ((w, zero), true) = ([], refl, refl)
+strays_made name ((w, suc left), true) =
+    let made = stray_made w name in
+    let step = stray_stepped w name in
+    let some : (suc left == 0) ≡ false = ne_eqb (suc left) 0 (λ is. omega (arith, is)) in
+    let stepped : tasks_of (turned (suc left) w step).0.0 ≡ tasks_of (noted_in (suc left) step).0.0 =
+    ap (λ b. tasks_of (cond b (let none : Turning = ((w, 0), true) in none) (noted_in (suc left) step)).0.0) some in
+    (made.0, (made.1, made.2), stepped ∙ noted_in_kept (Has (tasks_of step.0)) (suc left) step refl ∙ made.2)
 
 pub control_then : (t : Turning) → tasks_of (then_control t).0.0 ≡ tasks_of (then_step control_stepped t).0.0
 control_then (at, false) = refl
@@ -156,13 +253,11 @@ pub status_then : (tag : ℕ) (t : Turning) → tasks_of (then_status tag t).0.0
 status_then tag (at, false) = refl
 status_then tag (at, true) = refl
 
-pipes_same : (left : ℕ) (w : World) → tasks_of (pipes_turned left w).0.0 ≡ tasks_of (turned left w (command_pipe_stepped w)).0.0
-unfolding pipes_turned
-pipes_same left w =
-    let first : Turning = turned left w (command_pipe_stepped w) in
-    stray_same DataIn (then_stray DataOut (then_stray Status first))
-    ∙ stray_same DataOut (then_stray Status first) ∙ stray_same Status first
+pub unit_then : (t : Turning) → tasks_of (then_unit t).0.0 ≡ tasks_of (then_step command_pipe_stepped t).0.0
+unit_then (at, false) = refl
+unit_then (at, true) = refl
 
-pub pipes_then : (t : Turning) → tasks_of (then_pipes t).0.0 ≡ tasks_of (then_step command_pipe_stepped t).0.0
+pub pipes_then : (t : Turning) → tasks_of (then_pipes t).0.0 ≡ tasks_of (then_stray DataIn (then_stray DataOut (then_stray Status (then_unit t)))).0.0
+unfolding pipes_turned
 pipes_then (at, false) = refl
-pipes_then (at, true) = pipes_same at.1 at.0
+pipes_then (at, true) = refl

@@ -3,20 +3,33 @@ use Rattle.std.specs.Prelude.{◌≡◌, ℕ, zero, suc, ◌<◌, Bool, true, fa
 use Rattle.marks.specs.Marks.{is_marked}
 use Rattle.units_apart.specs.Calls.{Call}
 use Rattle.xhci_machine.specs.declared.work.Worked.{Worked}
-use Rattle.xhci_machine.specs.Rounds.{Turning, command_pipe_stepped, control_stepped, data_of, front_turned, settled_in, status_of, then_commands, then_control, then_port, turned}
+use Rattle.guest_transfers.specs.declared.control.StreamPipe.TheVariants.{Status, DataOut, DataIn}
+use Rattle.xhci_machine.specs.Rounds.{Turning, command_pipe_stepped, control_stepped, data_of, front_turned, settled_in, status_of, then_commands, then_control, then_port, then_stray, turned}
 use Rattle.xhci_machine.specs.Turns.{World}
 use Rattle.xhci_machine.specs.Worked.{dropped_at, is_busy, round_turned, tags_turned}
-use Rattle.guest_units.specs.Turns.{IsAnswerOn, IsDataOn, IsEnd, IsUnitIn, TurnMakes}
+use Rattle.guest_units.specs.Turns.{IsAnswerOn, IsDataOn, IsEnd, IsUnitIn, StrayMakes, TurnMakes}
 
 -- some calls, and behind them others
 abbrev pub Both : (List Call → Type 0) → (List Call → Type 0) → List Call → Type 0
 Both First Then calls = (first : List Call) × (rest : List Call) × First first × Then rest × (calls ≡ first ++ rest)
 
--- endpoint 0, and then the command pipe; the turns before these, and those of doorbells without a stream, make no call
+-- the command pipe's turn, where memory was there up to it
+abbrev pub then_unit : Turning → Turning
+then_unit (at, false) = (at, false)
+then_unit (at, true) = turned at.1 at.0 (command_pipe_stepped at.0)
+
+-- Bulk-Out, and then Bulk-In, behind a status pipe that makes no call
+abbrev pub StraysMake : Turning → List Call → Type 0
+StraysMake pipe =
+    Both (StrayMakes Status pipe)
+    (Both (StrayMakes DataOut (then_stray Status pipe)) (StrayMakes DataIn (then_stray DataOut (then_stray Status pipe))))
+
+-- endpoint 0, the command pipe, and then those; the turns before these make no call
 abbrev pub FrontMakes : World × ℕ → List Call → Type 0
 FrontMakes at =
-    let commands = then_commands (then_port (settled_in at.1 at.0)) in
-    Both (TurnMakes (λ w. IsEnd) control_stepped commands) (TurnMakes IsUnitIn command_pipe_stepped (then_control commands))
+    let control = then_control (then_commands (then_port (settled_in at.1 at.0))) in
+    Both (TurnMakes (λ w. IsEnd) control_stepped (then_commands (then_port (settled_in at.1 at.0))))
+    (Both (TurnMakes IsUnitIn command_pipe_stepped control) (StraysMake (then_unit control)))
 
 -- the data of a tag, and then its status
 abbrev pub BusyMakes : Bool → ℕ → World × ℕ → List Call → Type 0

@@ -1,12 +1,14 @@
 //! The whole controller of `xhci_machine` changes its device by calls on it alone, so the logical units behind it are apart.
 //!
-//! A turn makes at most one call, on its own tag:
+//! A turn makes at most one call, on its own tag, and in Bulk-Only's alternate setting EndTasks behind it:
 //!
 //! ```text
 //! endpoint 0 that configures the disk    EndTasks
 //! the command pipe                       Receive, of the bytes that it has gathered from memory
 //! a tag's data                           Give or Take on that tag
 //! a tag's status                         Send on that tag
+//! Bulk-Out                               Receive, of the Command that a wrapper asks for, or Take on tag 1
+//! Bulk-In                                Give or Send on tag 1
 //! any other turn                         none
 //! a register that resets, a pull         PowerOn
 //! ```

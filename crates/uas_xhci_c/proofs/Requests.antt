@@ -11,6 +11,8 @@ use Rattle.uas_tasks.specs.Machine.{Machine as Tasks, next_of, no_slot, slot_of}
 use Rattle.uas_tasks.specs.Slots.{SlotState, slot_wants}
 use Rattle.uas_tasks.proofs.Keeping.{wanted-free}
 use Rattle.xhci_machine.specs.declared.Machine.{Machine}
+use Rattle.xhci_machine.specs.Bulk.{as_asked}
+use Rattle.xhci_machine.specs.Bus.{is_bulk}
 use Rattle.uas_xhci_c.specs.XhciCall.{first_asking, next_request, with_tasks}
 
 -- a tag that asks has a slot
@@ -26,7 +28,7 @@ has_slot device (suc place) least asks = elim (cases_lt place (length device.tas
 
 pub request-told : (old new : Machine) (result : Option Next)
     → IfSome result (λ next. (tag : ℕ) × (1 ≤ tag) × (asks_on old.device tag ≡ true)
-    × ((other : ℕ) → 1 ≤ other → other < tag → asks_on old.device other ≡ false) × ((new.device.tasks, next) ≡ next_of old.device.tasks tag))
+    × ((other : ℕ) → 1 ≤ other → other < tag → asks_on old.device other ≡ false) × ((new.device.tasks, next) ≡ as_asked (is_bulk old) (next_of old.device.tasks tag)))
     → IfNone result ((new ≡ old) × ((other : ℕ) → 1 ≤ other → asks_on old.device other ≡ false))
     → new ≡ with_tasks old new.device.tasks → (new, result) ≡ next_request old
 request-told old new None some none rest =

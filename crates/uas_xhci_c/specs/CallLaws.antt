@@ -1,17 +1,19 @@
 -- Laws of the calls through the door: what a call answers, that a refused one changes nothing, and that a request which is asked is told.
-use Rattle.std.proofs.Common.{◌≡◌, ℕ, ◌<◌, Bool, true, List, [], ◌∷◌, length, Option, Some, None, Result, Ok, Err, refl, sym, ap, ◌∙◌, arith, inl, inr}
-use Rattle.std.specs.Prelude.{◌==◌, ◌||◌, is_some, option_and_then}
+use Rattle.std.proofs.Common.{◌≡◌, ℕ, ◌<◌, Bool, true, false, List, [], ◌∷◌, length, Option, Some, None, Result, Ok, Err, refl, sym, ap, ◌∙◌, arith, inl, inr}
+use Rattle.std.specs.Prelude.{◌==◌, ◌||◌, nat_lt, is_some, option_and_then}
 use Rattle.std.specs.List.{find, range_with_len}
 use Rattle.std.specs.Option.{option_map_or}
 use Rattle.std.proofs.lemmas.Bool.{and_parts, cases_Bool, false≢true}
 use Rattle.std.proofs.lemmas.Option.{none-some, same_Some}
 use Rattle.c_common.specs.Bytes.{yes}
 use Rattle.c_common.specs.Door.{After, with_bytes}
-use Rattle.c_common.specs.declared.faults.TheConstants.{TASKS_CALL, TASKS_LENGTH, TASKS_NOT_OUT}
+use Rattle.c_common.specs.declared.faults.TheConstants.{TASKS_CALL, TASKS_LENGTH, TASKS_NOT_OUT, TASKS_SERIAL, UNITS}
+use Rattle.uas_profile.specs.declared.TheConstants.{MAX_UNITS}
 use Rattle.guest_tasks.specs.Active.{asks_on, is_asking}
 use Rattle.uas_tasks.specs.declared.AnswerFault.{AnswerFault}
 use Rattle.uas_tasks.specs.declared.AnswerFault.TheVariants.{NotOut, WrongLength}
-use Rattle.uas_tasks.specs.declared.Next.TheVariants.{Asks, Waits}
+use Rattle.uas_tasks.specs.declared.Next.{Next}
+use Rattle.uas_tasks.specs.declared.Next.TheVariants.{Absent, Asks, Waits, Gives, Takes, Ends}
 use Rattle.uas_tasks.specs.declared.Request.{Request}
 use Rattle.uas_tasks.specs.declared.Request.TheVariants.{Read, Write, Compare, Verify, Sync}
 use Rattle.uas_tasks.specs.declared.slot.Out.{Out}
@@ -19,19 +21,22 @@ use Rattle.uas_tasks.specs.declared.Task.{Task}
 use Rattle.uas_tasks.specs.declared.Task.TheVariants.{Giving, Blocks, Ended, Held}
 use Rattle.uas_tasks.specs.declared.Wants.{Wants}
 use Rattle.uas_tasks.specs.declared.Wants.TheVariants as wants
-use Rattle.uas_tasks.specs.Machine.{Machine as Tasks, next_by, number_of, slot_of, wanted}
+use Rattle.uas_tasks.specs.Machine.{Machine as Tasks, next_by, next_of, number_of, slot_of, wanted}
 use Rattle.uas_tasks.specs.Slots.{SlotState, asked_slot, out_of, task_wants}
 use Rattle.uas_tasks.proofs.Keeping.{wanted-free}
 use Rattle.xhci_machine.specs.declared.Machine.{Machine}
+use Rattle.xhci_machine.specs.Bulk.{asked_in}
+use Rattle.xhci_machine.specs.Bus.{is_bulk}
 use Rattle.uas_xhci_c.specs.declared.door.Call.{Call}
 use Rattle.uas_xhci_c.specs.declared.door.Call.TheVariants as calls
 use Rattle.uas_xhci_c.specs.declared.door.UasXhciDoor.{UasXhciDoor}
 use Rattle.uas_xhci_c.specs.XhciCall.{after_call, after_named, after_request, answer_told, answered_with, asked_on, call_numbered, first_asking}
 use Rattle.uas_xhci_c.specs.XhciCall.{given_out, outcome_numbered, read_at, width_of, with_next, written_at}
 
--- nothing, no such call, bytes that are more or fewer than a request's, or no such request
+-- nothing, no such call, bytes that are more or fewer than a request's, no such request, or no such logical unit or serial number
 abbrev pub is_answer : ℕ → Bool
-is_answer number = number == 0 || (number == TASKS_CALL || (number == TASKS_LENGTH || number == TASKS_NOT_OUT))
+is_answer number =
+    number == 0 || (number == TASKS_CALL || (number == TASKS_LENGTH || (number == TASKS_NOT_OUT || (number == UNITS || number == TASKS_SERIAL))))
 
 -- it answers a number of these, and where that is a fault, all is as it was
 abbrev pub IsWhole : Machine → UasXhciDoor → List ℕ → After Machine UasXhciDoor → Type 0
@@ -76,6 +81,13 @@ module _ (machine : Machine) (door : UasXhciDoor) (bytes : List ℕ) where
       (λ outcome. told _)
   named calls.Stale = done _ _ bytes
   named calls.HostError = done _ _ bytes
+  named calls.Offer = elim (cases_Bool (nat_lt door.number MAX_UNITS)) [
+    | inl units ↦ rw units (elim (cases_Bool (nat_lt door.value 100000000)) [
+      | inl serial ↦ rw serial (done _ door bytes)
+      | inr other ↦ rw other (refl, λ some. refl)
+    ])
+    | inr other ↦ rw other (refl, λ some. refl)
+  ]
 
   pub calls_are_whole : Whole (after_call machine door bytes)
   calls_are_whole = either Whole (after_named machine door bytes) (call_numbered door.call) _ (refl, λ some. refl) named
@@ -124,6 +136,20 @@ module _ (door : UasXhciDoor) where
   good_next tasks tag (wants.Takes count) asks there = absurd (false≢true asks)
   good_next tasks tag wants.Ends asks there = absurd (false≢true asks)
 
+  -- a request that goes through is told as well
+  same_good : (bulk : Bool) (next : Next) → (with_next door (Some (asked_in bulk next))).good ≡ (with_next door (Some next)).good
+  same_good false next = refl
+  same_good true Absent = refl
+  same_good true (Asks number (Read unit block count)) = refl
+  same_good true (Asks number (Write unit block count through)) = refl
+  same_good true (Asks number (Compare unit block count)) = refl
+  same_good true (Asks number (Verify unit block count)) = refl
+  same_good true (Asks number (Sync unit block count)) = refl
+  same_good true Waits = refl
+  same_good true (Gives count) = refl
+  same_good true (Takes count) = refl
+  same_good true Ends = refl
+
   told_by : (machine : Machine) (first : Option ℕ) → first_asking machine.device ≡ first
       → (with_next door (option_map_or (asked_on machine) first (machine, None)).1).good ≡ yes (is_some first)
   told_by machine None is = refl
@@ -131,7 +157,8 @@ module _ (door : UasXhciDoor) where
       let asks : asks_on machine.device tag ≡ true = found (asks_on machine.device) (range_with_len 1 (length machine.device.tasks.slots)) tag is in
       let wanting : is_asking (wanted machine.device.tasks tag) ≡ true = (and_parts _ _ asks).1 in
       let slot : SlotState = slot_of machine.device.tasks tag in
-      good_next machine.device.tasks tag (wanted machine.device.tasks tag) wanting
+      same_good (is_bulk machine) (next_of machine.device.tasks tag).1
+      ∙ good_next machine.device.tasks tag (wanted machine.device.tasks tag) wanting
       (has_request slot.chunk (length slot.given) (is_some slot.out) slot.task
       (wanted-free (λ w. is_asking w ≡ true) false≢true machine.device.tasks tag wanting))
 

@@ -1,10 +1,11 @@
 -- What a call through the door makes of the controller, the door and the bytes.
-use Rattle.std.specs.Prelude.{ℕ, ◌%◌, ◌==◌, not, if◌then◌else◌, List, [], ◌∷◌, length, Option, None, Some, unwrap_or, Result, Ok, Err}
+use Rattle.std.specs.Prelude.{ℕ, ◌%◌, ◌==◌, nat_lt, not, if◌then◌else◌, List, [], ◌∷◌, length, Option, None, Some, unwrap_or, Result, Ok, Err}
 use Rattle.std.specs.List.{find, range_with_len}
 use Rattle.std.specs.Option.{option_map_or}
 use Rattle.c_common.specs.Bytes.{yes}
 use Rattle.c_common.specs.Door.{After, DoorAfter, numbered, refused, with_bytes}
-use Rattle.c_common.specs.declared.faults.TheConstants.{TASKS_CALL, TASKS_LENGTH, TASKS_NOT_OUT}
+use Rattle.c_common.specs.declared.faults.TheConstants.{TASKS_CALL, TASKS_LENGTH, TASKS_NOT_OUT, TASKS_SERIAL, UNITS}
+use Rattle.uas_profile.specs.declared.TheConstants.{MAX_UNITS}
 use Rattle.guest_tasks.specs.Active.{asks_on}
 use Rattle.guest_tasks.specs.declared.GuestTasks.{GuestTasks}
 use Rattle.uas_tasks.specs.declared.AnswerFault.{AnswerFault}
@@ -22,7 +23,9 @@ use Rattle.xhci_registers.specs.Signals.{is_asserted, messaged, tells_host_error
 use Rattle.xhci_registers.specs.Words.{read_of}
 use Rattle.xhci_registers.specs.Writes.{reset_registers}
 use Rattle.xhci_machine.specs.declared.Machine.{Machine}
-use Rattle.xhci_machine.specs.Effects.{all_reset, page_done, plugged_in}
+use Rattle.xhci_machine.specs.Bulk.{asked_in}
+use Rattle.xhci_machine.specs.Bus.{is_bulk}
+use Rattle.xhci_machine.specs.Effects.{all_reset, bulk_offered, page_done, plugged_in}
 use Rattle.uas_xhci_c.specs.declared.door.Call.{Call}
 use Rattle.uas_xhci_c.specs.declared.door.Call.TheVariants as calls
 use Rattle.uas_xhci_c.specs.declared.door.UasXhciDoor.{UasXhciDoor}
@@ -80,9 +83,10 @@ abbrev pub first_asking : GuestTasks → Option ℕ
 first_asking device = find (asks_on device) (range_with_len 1 (length device.tasks.slots))
 
 abbrev pub asked_on : Machine → ℕ → Machine × Option Next
-asked_on machine tag = (with_tasks machine (next_of machine.device.tasks tag).0, Some (next_of machine.device.tasks tag).1)
+asked_on machine tag =
+    (with_tasks machine (next_of machine.device.tasks tag).0, Some (asked_in (is_bulk machine) (next_of machine.device.tasks tag).1))
 
--- the next request that isn't out yet, which is out from then on
+-- The next request that isn't out yet, which is out from then on. A Write of a host in Bulk-Only's setting goes through.
 abbrev pub next_request : Machine → Machine × Option Next
 next_request machine = option_map_or (asked_on machine) (first_asking machine.device) (machine, None)
 
@@ -137,12 +141,20 @@ after_stale machine door = (0, (machine, record door { number = unwrap_or (stale
 abbrev pub after_host_error : Machine → UasXhciDoor → DoorAfter Machine UasXhciDoor
 after_host_error machine door = (0, (machine, record door { good = yes (tells_host_error machine.registers) }))
 
+-- OFFER (13): the disk tells Bulk-Only too, of logical units up to `number`, of which there are 15, with `value` as its serial number of eight digits
+abbrev pub after_offer : Machine → UasXhciDoor → DoorAfter Machine UasXhciDoor
+after_offer machine door =
+    if not (nat_lt door.number MAX_UNITS) then refused UNITS machine door
+    else if not (nat_lt door.value 100000000) then refused TASKS_SERIAL machine door
+    else (0, (bulk_offered machine door.number door.value, door))
+
 -- CALLS
 
 abbrev pub call_numbered : ℕ → Option Call
 call_numbered =
     numbered ((1, calls.Read) ∷ (2, calls.Write) ∷ (3, calls.Interrupt) ∷ (4, calls.Message) ∷ (5, calls.Plug) ∷ (6, calls.Frame) ∷ (7, calls.Reset)
-    ∷ (8, calls.Request) ∷ (9, calls.Data) ∷ (10, calls.Answered) ∷ (11, calls.Stale) ∷ (12, calls.HostError) ∷ [])
+    ∷ (8, calls.Request) ∷ (9, calls.Data) ∷ (10, calls.Answered) ∷ (11, calls.Stale) ∷ (12, calls.HostError)
+    ∷ (13, calls.Offer) ∷ [])
 
 abbrev pub after_named : Machine → UasXhciDoor → List ℕ → Call → After Machine UasXhciDoor
 after_named machine door bytes calls.Read = with_bytes bytes (after_read machine door)
@@ -157,6 +169,7 @@ after_named machine door bytes calls.Data = after_data machine door bytes
 after_named machine door bytes calls.Answered = with_bytes bytes (after_answer machine door bytes)
 after_named machine door bytes calls.Stale = with_bytes bytes (after_stale machine door)
 after_named machine door bytes calls.HostError = with_bytes bytes (after_host_error machine door)
+after_named machine door bytes calls.Offer = with_bytes bytes (after_offer machine door)
 
 -- a call of a number that is none is refused
 abbrev pub after_call : Machine → UasXhciDoor → List ℕ → After Machine UasXhciDoor

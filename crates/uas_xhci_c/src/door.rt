@@ -1,11 +1,13 @@
 //! A controller over a caller's memory for C: register accesses, interrupts and requests, over one call with a door.
 ghost use Rattle.std.specs.Prelude.{◌≡◌};
 ghost use Rattle.uas_xhci_c.specs.CallLaws.{IsTold, IsWhole};
-ghost use Rattle.uas_xhci_c.specs.XhciCall.{after_answer, after_call, after_data, after_read, after_request, after_stale, after_write, call_numbered};
+ghost use Rattle.uas_xhci_c.specs.XhciCall.{after_answer, after_call, after_data, after_offer, after_read, after_request, after_stale, after_write, call_numbered};
 ghost use Rattle.uas_xhci_c.specs.XhciCall.{outcome_numbered, width_of, with_next, with_request};
 
-use c_common::faults::{TASKS_CALL, TASKS_LENGTH, TASKS_NOT_OUT};
+use c_common::faults::{TASKS_CALL, TASKS_LENGTH, TASKS_NOT_OUT, TASKS_SERIAL, UNITS};
+use host_commands::SerialNumber;
 use std::marker::Model;
+use uas_profile::MAX_UNITS;
 use uas_tasks::{AnswerFault, Next, Outcome, Request};
 use xhci_machine::{Machine, Width};
 
@@ -13,7 +15,7 @@ use xhci_machine::{Machine, Width};
 #[repr(C)]
 #[derive(Clone, Copy)]
 pub struct UasXhciDoor {
-    /// The call, 1 to 12.
+    /// The call, 1 to 13.
     pub call: u8,
     /// Of READ and WRITE: 1, 2, 4 or 8 bytes.
     pub width: u8,
@@ -28,9 +30,10 @@ pub struct UasXhciDoor {
     pub reserved: u16,
     /// Of READ and WRITE: where in the register page.
     pub offset: u64,
-    /// Of WRITE: what is written; of PLUG: 0 to pull the disk; of FRAME: MFINDEX. Out of READ: what was read.
+    /// Of WRITE: what is written; of PLUG: 0 to pull the disk; of FRAME: MFINDEX; of OFFER: the serial number. Out of READ: what was read.
     pub value: u64,
-    /// Out of REQUEST, and of DATA and ANSWERED: the request's number. Of STALE: the last one told, or 0; out: the next, or 0.
+    /// Out of REQUEST, and of DATA and ANSWERED: the request's number. Of STALE: the last one told, or 0; out: the next, or 0. Of OFFER: the
+    /// greatest logical unit's.
     pub number: u64,
     /// Out of REQUEST: the logical unit's number.
     pub unit: u64,
@@ -69,6 +72,7 @@ enum Call {
     Answered,
     Stale,
     HostError,
+    Offer,
 }
 
 fn call_numbered(number: u8) -> Option<Call>
@@ -87,6 +91,7 @@ fn call_numbered(number: u8) -> Option<Call>
         10 => Some(Call::Answered),
         11 => Some(Call::Stale),
         12 => Some(Call::HostError),
+        13 => Some(Call::Offer),
         _ => None,
     }
 }
@@ -154,7 +159,25 @@ pub(crate) fn serve(kept: &mut KeptXhci, door: &mut UasXhciDoor, bytes: &mut [u8
             door.good = u8::from(machine.host_error());
             0
         }
+        Call::Offer => offer(machine, door),
     }
+}
+
+/// The disk tells Bulk-Only Transport too.
+fn offer(machine: &mut Machine, door: &UasXhciDoor) -> u8
+    ensures { (result, (machine.new, door.now)) ≡ after_offer machine.old door.now }
+{
+    if door.number >= MAX_UNITS as u64 {
+        return UNITS;
+    }
+    if door.value >= 100_000_000 {
+        return TASKS_SERIAL;
+    }
+    let Ok(serial) = SerialNumber::new(door.value as u32) else {
+        return TASKS_SERIAL;
+    };
+    machine.offer_bulk_only(door.number as u8, serial);
+    0
 }
 
 fn read(machine: &Machine, door: &mut UasXhciDoor) -> u8

@@ -10,7 +10,6 @@ use Rattle.guest_tasks.specs.declared.GuestTasks.{GuestTasks}
 use Rattle.guest_tasks.specs.Active.{TasksAreActive, rested}
 use Rattle.guest_tasks.specs.Tasks.{tasks_kind}
 use Rattle.guest_transfers.specs.Orders.{data_stepped}
-use Rattle.guest_transfers.specs.Silent.{silent_command}
 use Rattle.guest_transfers.specs.Steps.{command_stepped, command_world, status_stepped}
 use Rattle.guest_transfers.specs.declared.control.StreamPipe.{StreamPipe}
 use Rattle.guest_transfers.specs.declared.control.StreamPipe.TheVariants.{Status, DataOut, DataIn}
@@ -21,14 +20,20 @@ use Rattle.xhci_control.specs.Steps.{ControlWorld, stepped}
 use Rattle.xhci_machine.specs.declared.Machine.{Machine}
 use Rattle.xhci_machine.specs.declared.states.States.{States}
 use Rattle.xhci_machine.specs.declared.work.Worked.{Worked}
-use Rattle.xhci_machine.specs.Bus.{fault_in, is_silent, transaction_error}
+use Rattle.guest_bulk.specs.declared.bulk.Stepped.{Stepped}
+use Rattle.guest_bulk.specs.Commands.{BulkWorld, unit_of}
+use Rattle.guest_bulk.specs.Steps.{bulk_after, in_stepped, out_stepped}
+use Rattle.uas_profile.specs.declared.Pipe.TheVariants.{Command}
+use Rattle.xhci_machine.specs.Bulk.{bulk_home, bulk_kept, bulk_of, bulk_world, device_ended}
+use Rattle.xhci_machine.specs.Bus.{fault_in, is_bulk, pipe_fault, stream_fault}
 use Rattle.xhci_machine.specs.Contexts.{is_due}
 use Rattle.xhci_machine.specs.Ring.{states_of}
 use Rattle.xhci_machine.specs.Laws.{AllTasksAreIdle, IsFailed, IsLeftIdle, IsTaskIdle, come_to}
-use Rattle.xhci_machine.specs.Rounds.{Turning, command_of, command_pipe_stepped, control_stepped, control_world, data_due, data_of, front_turned, is_stray, stray_of, stray_stepped, noted_in, pipes_turned, port_in, restarted, ring_on, served, settled_in, status_due, status_of, then_commands, then_control, then_stray, then_pipes, then_port, transfers_world, turned, with_control, with_stray, with_transfers}
+use Rattle.xhci_machine.specs.Rounds.{Turning, command_by, command_pipe_stepped, control_stepped, control_world, data_due, data_of, front_turned, is_stray, stray_by, stray_stepped, noted_in, pipes_turned, port_in, ring_on, served, settled_in, status_due, status_of, then_commands, then_control, then_stray, then_pipes, then_port, transfers_world, turned, with_transfers}
 use Rattle.xhci_machine.specs.Steps.{commands_stepped}
 use Rattle.xhci_machine.specs.Turns.{World, detected, full_posted, has_full, interrupted, noted, port_posted, port_turned, settled, states_told, tells_port, told_if, told_of_port}
 use Rattle.xhci_machine.specs.Worked.{IsOver, RoundsTurned, RoundsWorked, busy_turned, dropped_at, gone_dropped, is_busy, is_gone, tag_by, tag_turned, tags_turned, then_status, then_tag, turned_if}
+use Rattle.xhci_machine.proofs.BulkDevice.{InCalls, OutCalls, bulk_in_kept, bulk_out_kept}
 use Rattle.xhci_machine.proofs.Device.{Moves, Receives, Sends, command_pipe_kept, data_kept, either, of_each, of_tags, status_kept}
 use Rattle.xhci_machine.proofs.Nothing.{nothing_of}
 use Rattle.xhci_machine.proofs.RingStep.{commands_kept}
@@ -85,11 +90,6 @@ module _ (P : GuestTasks → Type 0) where
       let tells : Turning = (((port_turned w).0, cond (tells_port w) (left - 1) left), (port_turned w).1) in
       either (λ (t : Turning). Holds t.0.0) (left == 0) ((w, 0), true) tells p (port_told_kept (detected w) p)
 
-  pub stray_kept : (w : World) (name : StreamPipe) → Holds w → Holds (stray_stepped w name).0
-  unfolding stray_stepped
-  stray_kept w name p =
-      of_each (λ (x : World × Option Acted). Holds x.0) w (is_stray w.machine name) (with_stray w (stray_of w name)) p p p
-
   pub dropped_kept : (w : World) (tag : ℕ) → Holds w → Holds (dropped_at w tag)
   unfolding gone_dropped
   dropped_kept w tag p = either (λ (m : Machine). P m.device) (is_gone w.machine tag) _ w.machine p p
@@ -104,19 +104,24 @@ pub record KeptByAll (P : GuestTasks → Type 0) : Type 0 where
   pub ends : (device : GuestTasks) → P device → P (record device { tasks = tasks_ended device.tasks })
 
 module _ (P : GuestTasks → Type 0) (kept : KeptByAll P) where
-  restarted_kept : (restarts : Bool) (w : World) → Holds P w → Holds P (restarted restarts w)
-  restarted_kept true w p = kept.ends w.machine.device p
-  restarted_kept false w p = p
+  device_kept : (ends : Bool) (device : GuestTasks) → P device → P (device_ended ends device)
+  device_kept true device p = kept.ends device p
+  device_kept false device p = p
 
   served_kept : (w : World) (done : ControlWorld × Option Served) → Holds P w → Holds P (served w done).0
   served_kept w (after, None) p = p
-  served_kept w (after, Some how) p = restarted_kept how.restarted (with_control w after) p
+  served_kept w (after, Some how) p = device_kept (how.restarted || how.bulk_reset) w.machine.device p
 
   control_kept : (w : World) → Holds P w → Holds P (control_stepped w).0
   unfolding control_stepped
   control_kept w p =
       let done = stepped (fault_in w.machine) (control_world w) in
       of_each (λ (x : World × Option Acted). Holds P x.0) w (is_due w.machine.control.consumer) (served w done) p p (served_kept w done p)
+
+  unit_kept : (fault : Option ℕ) (w : World) → Holds P w → Holds P (with_transfers w (command_stepped tasks_kind (transfers_world w))).0
+      → Holds P (command_by fault w).0
+  unit_kept (Some code) w p served = p
+  unit_kept None w p served = served
 
   pipe_kept : (w : World) → Holds P w → Holds P (command_pipe_stepped w).0
   unfolding command_pipe_stepped
@@ -127,11 +132,46 @@ module _ (P : GuestTasks → Type 0) (kept : KeptByAll P) where
         received = λ device p. kept.received device from.taken p;
         drawn = λ device buffer bytes is p. kept.received device (from.taken ++ bytes) p;
       } in
-      let silent = with_stray w (silent_command transaction_error w.memory w.events w.machine.transfers) in
-      let step = with_transfers w (command_stepped tasks_kind (transfers_world w)) in
-      of_each (λ (x : World × Option Acted). Holds P x.0) w (is_due w.machine.transfers.command) (command_of w) p p
-      (either (λ (x : World × Option Acted). Holds P x.0) (is_silent w.machine) silent step p
-      (command_pipe_kept tasks_kind P P (transfers_world w) receives p))
+      of_each (λ (x : World × Option Acted). Holds P x.0) w (is_due w.machine.transfers.command) (command_by (pipe_fault w.machine Command) w) p p
+      (unit_kept (pipe_fault w.machine Command) w p (command_pipe_kept tasks_kind P P (transfers_world w) receives p))
+
+  left_kept : (name : StreamPipe) (w : World) (done : BulkWorld GuestTasks × Option Stepped) → P done.0.device → Holds P (bulk_kept name w done).0
+  left_kept name w (after, None) p = p
+  left_kept name w (after, Some how) p = device_kept how.ends after.device p
+
+  bulk_kept_by : (w : World) (name : StreamPipe) → Holds P w → Holds P (bulk_of w name).0
+  bulk_kept_by w Status p = p
+  bulk_kept_by w DataOut p =
+      let from = bulk_world w.memory w.events w.machine DataOut in
+      let calls : OutCalls tasks_kind from P P = record {
+        stays = λ device p. p;
+        took = λ device bytes p. kept.took device 1 bytes p;
+        received = λ device cbw is p. kept.received device (unit_of cbw) p;
+        drawn = λ device buffer bytes cbw is reads p. kept.received device (unit_of cbw) p;
+      } in
+      left_kept DataOut w (bulk_after from (out_stepped tasks_kind from (bulk_home w.machine DataOut)))
+      (bulk_out_kept tasks_kind from P P calls (bulk_home w.machine DataOut) p)
+  bulk_kept_by w DataIn p =
+      let from = bulk_world w.memory w.events w.machine DataIn in
+      let calls : InCalls tasks_kind P P = record {
+        stays = λ device p. p;
+        gave = λ device p. kept.gave device 1 p;
+        sent = λ device p. kept.sent device 1 p;
+      } in
+      left_kept DataIn w (bulk_after from (in_stepped tasks_kind from (bulk_home w.machine DataIn)))
+      (bulk_in_kept tasks_kind P P calls from (bulk_home w.machine DataIn) p)
+
+  stray_by_kept : (fault : Option ℕ) (bulk : Bool) (w : World) (name : StreamPipe) → Holds P w → Holds P (stray_by fault bulk w name).0
+  stray_by_kept (Some code) bulk w name p = p
+  stray_by_kept None false w name p = p
+  stray_by_kept None true w name p = bulk_kept_by w name p
+
+  stray_kept : (w : World) (name : StreamPipe) → Holds P w → Holds P (stray_stepped w name).0
+  unfolding stray_stepped
+  stray_kept w name p =
+      let fault = stream_fault w.machine name in
+      of_each (λ (x : World × Option Acted). Holds P x.0) w (is_stray w.machine name) (stray_by fault (is_bulk w.machine) w name) p p
+      (stray_by_kept fault (is_bulk w.machine) w name p)
 
   data_of_kept : (w : World) (tag : ℕ) → Holds P w → Holds P (data_of w tag).0
   unfolding data_of data_due
@@ -167,7 +207,7 @@ module _ (P : GuestTasks → Type 0) (kept : KeptByAll P) where
 
   stray_then : (name : StreamPipe) (t : Turning) → Holds P t.0.0 → Holds P (then_stray name t).0.0
   stray_then name (at, false) p = p
-  stray_then name (at, true) p = turned_kept P at.1 at.0 (stray_stepped at.0 name) p (stray_kept P at.0 name p)
+  stray_then name (at, true) p = turned_kept P at.1 at.0 (stray_stepped at.0 name) p (stray_kept at.0 name p)
 
   pipes_kept : (left : ℕ) (w : World) → Holds P w → Holds P (pipes_turned left w).0.0
   unfolding pipes_turned

@@ -33,7 +33,7 @@ use Rattle.guest_transfers.specs.State.{TransfersWorld}
 use Rattle.guest_transfers.specs.Orders.{chunk_dropped, data_by, data_stepped, drops_now, or_out}
 use Rattle.guest_transfers.specs.State.{slot_of}
 use Rattle.guest_transfers.specs.Steps.{command_kept, command_stepped, command_world, due_by, in_stepped, in_world, out_world, status_stepped, status_world}
-use Rattle.xhci_machine.specs.Bus.{is_silent}
+use Rattle.xhci_machine.specs.Bus.{has_no_tags}
 use Rattle.xhci_machine.specs.Contexts.{in_context, is_asleep, lacks_context, of_endpoint, of_tag}
 use Rattle.xhci_machine.specs.Turns.{World}
 
@@ -47,11 +47,11 @@ pub of_each : (Q : World × Option Acted → Type 0) (w : World) (due : Bool) (s
 of_each Q w due step idle lacks works =
     either Q (is_asleep w.machine) (w, Some Idle) (in_context w due step) idle (either Q (lacks_context w due) (w, None) step lacks works)
 
--- the same of a tag, which has no step either where nothing serves the pipes
+-- the same of a tag, which has no step either where nothing serves tags
 pub of_tags : (Q : World × Option Acted → Type 0) (w : World) (due : Bool) (step : World × Option Acted) → Q (w, Some Idle) → Q (w, None) → Q step
     → Q (of_tag w (of_endpoint w due step))
 of_tags Q w due step idle lacks works =
-    either Q (is_silent w.machine) (w, Some Idle) (of_endpoint w due step) idle (of_each Q w due step idle lacks works)
+    either Q (has_no_tags w.machine) (w, Some Idle) (of_endpoint w due step) idle (of_each Q w due step idle lacks works)
 
 -- what a call on this tag makes of what holds before it: of its data, and of its status
 pub record Moves {D : Type 0} (kind : Kind D) (number : ℕ) (P Q : D → Type 0) : Type 0 where

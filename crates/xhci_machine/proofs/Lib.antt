@@ -5,6 +5,7 @@ pub mod Working
 pub mod Left
 pub mod Nothing
 pub mod Device
+pub mod BulkDevice
 pub mod RingStep
 pub mod Active
 pub mod Looks

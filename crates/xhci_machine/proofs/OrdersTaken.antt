@@ -24,6 +24,7 @@ use Rattle.guest_transfers.specs.Orders.{dequeue_moved, lone_forgotten, pipe_of}
 use Rattle.xhci_control.specs.Steps.{forgotten as control_forgotten}
 use Rattle.guest_transfers.specs.Orders.{command_forgotten}
 use Rattle.xhci_control.specs.Steps.{control_stop_told}
+use Rattle.xhci_machine.specs.Bus.{bulk_forgotten}
 use Rattle.xhci_machine.specs.declared.Machine.{Machine}
 use Rattle.xhci_machine.specs.declared.command.Order.{Order}
 use Rattle.xhci_machine.specs.declared.command.Order.TheVariants.{Reset, Stop, SetDequeue}
@@ -156,13 +157,13 @@ stream_moves w m name at cursor kind stream place none =
     by_test : (has alone : Bool)
         → (if has then front_wanted w.memory (pipe_of m.transfers name) stream else if alone then pointer_wanted w.memory at else None) ≡ None
         → Moves w (if has then option_map (stream_success m) (dequeue_moved w.memory m.transfers name stream cursor (kind % 8))
-        else if alone then option_map (with_success (record m { transfers = lone_forgotten m.transfers name })) (pointer_set w.memory at cursor)
+        else if alone then option_map (with_success (bulk_forgotten name (record m { transfers = lone_forgotten m.transfers name }))) (pointer_set w.memory at cursor)
         else Some (w.memory, (m, 34)))
     by_test true alone none =
         let home = home_of (pipe_of m.transfers name) stream in
         let there = home_found w.memory home (front_there w.memory (pipe_of m.transfers name) stream none) in
         rw there (there_written w.memory (home_at home) _ (enqueue_pointer w.events) 16 place)
-    by_test false true none = pointer_moves w (record m { transfers = lone_forgotten m.transfers name }) at cursor place none
+    by_test false true none = pointer_moves w (bulk_forgotten name (record m { transfers = lone_forgotten m.transfers name })) at cursor place none
     by_test false false none = place
 
 moves_on : (w : World) (m : Machine) (endpoint : Endpoint) (at : ℕ) (cursor : Cursor) (kind stream : ℕ) → has_place w.memory w.events ≡ true

@@ -33,7 +33,7 @@ use Rattle.xhci_machine.specs.declared.ring.Ended.{Ended}
 use Rattle.xhci_machine.specs.Commands.{command_in}
 use Rattle.xhci_machine.specs.Orders.{begun_in, begun_told, dequeue_in, endpoint_of, halt_ended, moved, order_coded, order_done, order_on, pointer_set, reset_in, ring_stopped, state_in, stop_by, stop_done, stop_in, stop_told_from, stopped_on, stream_moved, stream_success, told_from, told_or_not, with_dequeue, with_next, with_ring, with_slot, with_success}
 use Rattle.xhci_registers.specs.Writes.{has_slots}
-use Rattle.xhci_machine.specs.Bus.{transaction_error}
+use Rattle.xhci_machine.specs.Bus.{bulk_forgotten, transaction_error}
 use Rattle.xhci_machine.specs.Ring.{changed, command_changed, command_cursor, commanded, control_changed, ended, is_enable, is_unanswered, on_slot_done, pipe_changed}
 use Rattle.xhci_machine.specs.Steps.{command_ended, command_taken, commands_stepped, endpoint_command_taken, endpoint_ended, fetched_taken, front_taken, link_followed, slot_command_taken, slot_ended, stop_posted, taken_by, through, told_and_stood, with_done, worked_if}
 use Rattle.xhci_machine.specs.Turns.{World}
@@ -195,7 +195,7 @@ module _ (P : GuestTasks → Type 0) where
   stream_moved_kept memory m name at cursor kind stream p =
       let there : Option (Memory × TransfersState) = dequeue_moved memory m.transfers name stream cursor (kind % 8) in
       let alone : Bool = stream == 0 && not (has_stream (pipe_of m.transfers name) 1) in
-      let forgets : Machine = record m { transfers = lone_forgotten m.transfers name } in
+      let forgets : Machine = bulk_forgotten name (record m { transfers = lone_forgotten m.transfers name }) in
       let stands : Option (Memory × (Machine × ℕ)) = option_map (with_success forgets) (pointer_set memory at cursor) in
       either IfCoded (has_stream (pipe_of m.transfers name) stream) (option_map (stream_success m) there) (cond alone stands (Some (memory, (m, 34))))
       (stream_kept m there p) (either IfCoded alone stands (Some (memory, (m, 34))) (success_kept forgets (pointer_set memory at cursor) p) p)

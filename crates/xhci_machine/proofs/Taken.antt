@@ -26,7 +26,7 @@ use Rattle.xhci_machine.specs.Ring.{command_cursor, ended, has_command, on_slot_
 use Rattle.xhci_machine.specs.Steps.{command_taken, commands_stepped, endpoint_command_taken, fetched_taken, front_taken, link_followed}
 use Rattle.xhci_machine.specs.Steps.{slot_command_taken, stop_posted, through, worked_if}
 use Rattle.xhci_machine.specs.Turns.{World}
-use Rattle.xhci_machine.specs.Bus.{is_silent}
+use Rattle.xhci_machine.specs.Bus.{has_no_tags}
 use Rattle.xhci_machine.specs.Contexts.{context_wanted, in_context, is_asleep, is_due, of_endpoint, of_tag}
 use Rattle.xhci_machine.specs.Wanted.{Look, acts, acts_in_context, commands_looked, lacks_nothing, needs, place_wanted, ring_wanted}
 use Rattle.xhci_machine.specs.Wanted.{then_look}
@@ -40,7 +40,11 @@ pub needs_nothing : (wanted : Option Range) (rest : Look) → lacks_nothing (the
 needs_nothing None rest is = (refl, is)
 needs_nothing (Some range) rest is = absurd (false≢true is)
 
-acts_whole : (wanted : Option Range) → lacks_nothing (acts wanted) ≡ true → wanted ≡ None
+pub needs_whole : (wanted : Option Range) → lacks_nothing (needs wanted) ≡ true → wanted ≡ None
+needs_whole None is = refl
+needs_whole (Some range) is = absurd (false≢true is)
+
+pub acts_whole : (wanted : Option Range) → lacks_nothing (acts wanted) ≡ true → wanted ≡ None
 acts_whole None is = refl
 acts_whole (Some range) is = absurd (false≢true is)
 
@@ -69,10 +73,10 @@ of_there w due step there is = by_port (is_asleep w.machine)
     by_port true = refl
     by_port false = in_there w due step there is
 
--- and of a tag, which has none while nothing serves the pipes
+-- and of a tag, which has none while nothing serves tags
 pub of_tag_there : (w : World) (due : Bool) (step : World × Option Acted) → (due ≡ true → context_wanted w.memory w.machine.slot ≡ None)
     → is_some step.1 ≡ true → is_some (of_tag w (of_endpoint w due step)).1 ≡ true
-of_tag_there w due step there is = by_bus (is_silent w.machine)
+of_tag_there w due step there is = by_bus (has_no_tags w.machine)
   where
     by_bus : (silent : Bool) → is_some (if silent then (w, Some Idle) else of_endpoint w due step).1 ≡ true
     by_bus true = refl

@@ -1,7 +1,7 @@
 -- A turn of endpoint 0 or of a pipe that lacks nothing isn't refused.
 use Rattle.std.proofs.Common.{◌≡◌, ℕ, ◌==◌, Bool, true, false, Option, Some, None, refl, sym, ap}
 use Rattle.std.proofs.lemmas.Bool.{false≢true}
-use Rattle.std.specs.Prelude.{is_some, if◌then◌else◌, ◌&&◌, ◌||◌}
+use Rattle.std.specs.Prelude.{is_some, if◌then◌else◌, ◌&&◌, ◌||◌, Ok}
 use Rattle.guest_memory.specs.Bytes.{Memory}
 use Rattle.guest_memory.specs.declared.rings.wanting.Range.{Range}
 use Rattle.guest_memory.specs.rings.Events.{EventEnd}
@@ -20,13 +20,20 @@ use Rattle.guest_transfers.specs.Wanted.{command_wanted, data_wanted, invalid_wa
 use Rattle.xhci_control.specs.declared.pipe.Served.{Served}
 use Rattle.xhci_control.specs.Steps.{ControlWorld, stepped}
 use Rattle.xhci_control.specs.Wanted.{control_wanted}
-use Rattle.xhci_machine.specs.Bus.{fault_in, is_silent, transaction_error}
-use Rattle.xhci_machine.specs.Rounds.{command_pipe_stepped, control_stepped, control_world, data_due, data_of, has_rung, is_stray, ring_on, served, stall_error, status_due, status_of, stray_stepped, transfers_world, with_stray, with_transfers}
+use Rattle.guest_bulk.specs.declared.bulk.Stepped.{Stepped}
+use Rattle.guest_bulk.specs.Commands.{BulkWorld}
+use Rattle.guest_bulk.specs.Steps.{bulk_after, in_stepped, out_stepped}
+use Rattle.guest_bulk.specs.Wanted.{in_wanted, out_wanted}
+use Rattle.guest_memory.specs.declared.rings.context.Home.{Home}
+use Rattle.uas_profile.specs.declared.Pipe.TheVariants.{Command}
+use Rattle.xhci_machine.specs.Bulk.{bulk_home, bulk_kept, bulk_of, bulk_wanted, bulk_world}
+use Rattle.xhci_machine.specs.Bus.{fault_in, is_bulk, pipe_fault, stall_error, stream_fault}
+use Rattle.xhci_machine.specs.Rounds.{command_by, command_pipe_stepped, control_stepped, control_world, data_due, data_of, has_rung, is_stray, rings_by, ring_on, served, status_due, status_of, stray_by, stray_stepped, transfers_world}
 use Rattle.xhci_machine.specs.Turns.{World}
 use Rattle.xhci_machine.specs.Contexts.{context_wanted, is_due}
-use Rattle.xhci_machine.specs.Wanted.{acts_on_data, acts_on_status, command_pipe_looked, command_pipe_wanted, control_looked, lacks_nothing, needs, stray_looked, stray_wanted_of}
+use Rattle.xhci_machine.specs.Wanted.{acts_on_data, acts_on_status, command_pipe_looked, command_pipe_wanted, command_wanted_by, control_looked, lacks_nothing, needs, stray_looked, stray_looked_by}
 use Rattle.xhci_machine.specs.Wanted.{tag_context_wanted, tag_looked, then_look, unless}
-use Rattle.xhci_machine.proofs.Taken.{idle_gate, needs_context, needs_nothing, of_tag_there, of_there, wants_nothing}
+use Rattle.xhci_machine.proofs.Taken.{acts_whole, idle_gate, needs_whole, needs_context, needs_nothing, of_tag_there, of_there, wants_nothing}
 
 -- ENDPOINT 0
 
@@ -48,29 +55,24 @@ control_taken law w is =
 -- THE PIPES
 
 pub command_pipe_taken : ((w : TransfersWorld GuestTasks) → command_wanted tasks_kind w ≡ None → is_some (command_stepped tasks_kind w).1 ≡ true)
-    → ((memory : Memory) (events : EventEnd) (t : TransfersState) → silent_command_wanted memory events t.command t.home ≡ None
-    → is_some (silent_command transaction_error memory events t).1.1.1 ≡ true)
+    → ((code : ℕ) (memory : Memory) (events : EventEnd) (t : TransfersState) → silent_command_wanted memory events t.command t.home ≡ None
+    → is_some (silent_command code memory events t).1.1.1 ≡ true)
     → (w : World) → lacks_nothing (command_pipe_looked w.memory w.machine w.events) ≡ true → is_some (command_pipe_stepped w).1 ≡ true
 unfolding command_pipe_looked command_pipe_stepped
 command_pipe_taken law silent_law w is =
     let due : Bool = is_due w.machine.transfers.command in
+    let fault = pipe_fault w.machine Command in
     let wanted = command_pipe_wanted w.memory w.machine w.events in
     of_there w due _ (needs_context due w.memory w.machine wanted is)
-    (by_kind (is_silent w.machine) (wants_nothing due w.memory w.machine wanted (idle (is_silent w.machine)) is))
+    (by_fault fault (wants_nothing due w.memory w.machine wanted (idle fault) is))
   where
-    idle : (silent : Bool) → is_due w.machine.transfers.command ≡ false
-        → (if silent then silent_command_wanted w.memory w.events w.machine.transfers.command w.machine.transfers.home
-        else command_wanted tasks_kind (transfers_world w)) ≡ None
-    idle true rests = idle_gate w.memory w.events w.machine.transfers.command _ rests
-    idle false rests = idle_gate w.memory w.events w.machine.transfers.command _ rests
+    idle : (fault : Option ℕ) → is_due w.machine.transfers.command ≡ false → command_wanted_by fault w.memory w.machine w.events ≡ None
+    idle (Some code) rests = idle_gate w.memory w.events w.machine.transfers.command _ rests
+    idle None rests = idle_gate w.memory w.events w.machine.transfers.command _ rests
 
-    by_kind : (silent : Bool)
-        → (if silent then silent_command_wanted w.memory w.events w.machine.transfers.command w.machine.transfers.home
-        else command_wanted tasks_kind (transfers_world w)) ≡ None
-        → is_some (if silent then with_stray w (silent_command transaction_error w.memory w.events w.machine.transfers)
-        else with_transfers w (command_stepped tasks_kind (transfers_world w))).1 ≡ true
-    by_kind true none = silent_law w.memory w.events w.machine.transfers none
-    by_kind false none = law (transfers_world w) none
+    by_fault : (fault : Option ℕ) → command_wanted_by fault w.memory w.machine w.events ≡ None → is_some (command_by fault w).1 ≡ true
+    by_fault (Some code) none = silent_law code w.memory w.events w.machine.transfers none
+    by_fault None none = law (transfers_world w) none
 
 not_stray : (memory : Memory) (events : EventEnd) (p : PipeState) → (is_running p.state && has_stray p) ≡ false → stray_wanted memory events p ≡ None
 not_stray memory events p rests = by_kind (p.streams == 0) rests
@@ -100,28 +102,83 @@ not_rung memory events p rests = by_kind (p.streams == 0 || p.invalid) (next_run
     by_kind false (Some stream) rests =
         idle_gate memory events (loaded p stream) _ (off (is_running p.state) (has_stray p) (rung_on p stream) rests)
 
+-- BULK-OUT AND BULK-IN
+
+kept_there : (name : StreamPipe) (w : World) (done : BulkWorld GuestTasks × Option Stepped) → is_some done.1 ≡ true
+    → is_some (bulk_kept name w done).1 ≡ true
+kept_there name w (after, None) is = absurd (false≢true is)
+kept_there name w (after, Some how) is = refl
+
+pub record BulkLaws : Type 0 where
+  pub to_host : (w : BulkWorld GuestTasks) (home : Home) → in_wanted tasks_kind w home ≡ None → is_some (bulk_after w (in_stepped tasks_kind w home)).1 ≡ true
+  pub to_device : (w : BulkWorld GuestTasks) (home : Home) → out_wanted tasks_kind w home ≡ None → is_some (bulk_after w (out_stepped tasks_kind w home)).1 ≡ true
+
+bulk_taken : BulkLaws → (w : World) (name : StreamPipe) → bulk_wanted w.memory w.machine w.events name ≡ None → is_some (bulk_of w name).1 ≡ true
+bulk_taken laws w Status none = refl
+bulk_taken laws w DataOut none =
+    let from = bulk_world w.memory w.events w.machine DataOut in
+    kept_there DataOut w (bulk_after from (out_stepped tasks_kind from (bulk_home w.machine DataOut))) (laws.to_device from (bulk_home w.machine DataOut) none)
+bulk_taken laws w DataIn none =
+    let from = bulk_world w.memory w.events w.machine DataIn in
+    kept_there DataIn w (bulk_after from (in_stepped tasks_kind from (bulk_home w.machine DataIn))) (laws.to_host from (bulk_home w.machine DataIn) none)
+
+-- a ring of theirs that isn't looked at
+bulk_idle : (w : World) (name : StreamPipe) → (is_running (pipe_of w.machine.transfers name).state && rung_on (pipe_of w.machine.transfers name) 0) ≡ false
+    → bulk_wanted w.memory w.machine w.events name ≡ None
+bulk_idle w Status rests = refl
+bulk_idle w DataOut rests = idle_gate w.memory w.events (loaded (pipe_of w.machine.transfers DataOut) 0) _ rests
+bulk_idle w DataIn rests = idle_gate w.memory w.events (loaded (pipe_of w.machine.transfers DataIn) 0) _ rests
+
+-- A DOORBELL THAT NO TAG'S TURN SERVES, by what it lacks
+
+abbrev stray_wanted_by : Option ℕ → Bool → World → StreamPipe → Option Range
+stray_wanted_by (Some code) bulk w name = silent_wanted w.memory w.events (pipe_of w.machine.transfers name)
+stray_wanted_by None false w name = stray_wanted w.memory w.events (pipe_of w.machine.transfers name)
+stray_wanted_by None true w name = bulk_wanted w.memory w.machine w.events name
+
+-- a look that lacks nothing has nothing of that
+looks_whole : (fault : Option ℕ) (bulk : Bool) (w : World) (name : StreamPipe)
+    → lacks_nothing (stray_looked_by fault bulk w.memory w.machine w.events name) ≡ true → stray_wanted_by fault bulk w name ≡ None
+looks_whole (Some code) bulk w name is = acts_whole (silent_wanted w.memory w.events (pipe_of w.machine.transfers name)) is
+looks_whole None false w name is = acts_whole (stray_wanted w.memory w.events (pipe_of w.machine.transfers name)) is
+looks_whole None true w name is = needs_whole (bulk_wanted w.memory w.machine w.events name) is
+
+stray_idle : (fault : Option ℕ) (bulk : Bool) (w : World) (name : StreamPipe)
+    → (is_running (pipe_of w.machine.transfers name).state && rings_by fault bulk (pipe_of w.machine.transfers name)) ≡ false
+    → stray_wanted_by fault bulk w name ≡ None
+stray_idle (Some code) bulk w name rests = not_rung w.memory w.events (pipe_of w.machine.transfers name) rests
+stray_idle None false w name rests = not_stray w.memory w.events (pipe_of w.machine.transfers name) rests
+stray_idle None true w name rests = bulk_idle w name rests
+
 pub stray_taken : ((memory : Memory) (events : EventEnd) (t : TransfersState) (name : StreamPipe) → stray_wanted memory events (pipe_of t name) ≡ None
     → is_some (stray_on stall_error memory events t name).1.1.1 ≡ true)
-    → ((memory : Memory) (events : EventEnd) (t : TransfersState) (name : StreamPipe) → silent_wanted memory events (pipe_of t name) ≡ None
-    → is_some (silent_on transaction_error memory events t name).1.1.1 ≡ true)
-    → (w : World) (name : StreamPipe) → lacks_nothing (stray_looked w.memory w.machine w.events name) ≡ true → is_some (stray_stepped w name).1 ≡ true
+    → ((code : ℕ) (memory : Memory) (events : EventEnd) (t : TransfersState) (name : StreamPipe) → silent_wanted memory events (pipe_of t name) ≡ None
+    → is_some (silent_on code memory events t name).1.1.1 ≡ true)
+    → BulkLaws → (w : World) (name : StreamPipe) → lacks_nothing (stray_looked w.memory w.machine w.events name) ≡ true
+    → is_some (stray_stepped w name).1 ≡ true
 unfolding stray_looked stray_stepped
-stray_taken law silent_law w name is =
+stray_taken law silent_law laws w name is =
     let due : Bool = is_stray w.machine name in
-    let wanted = stray_wanted_of w.memory w.machine w.events name in
-    of_there w due _ (needs_context due w.memory w.machine wanted is)
-    (by_kind (is_silent w.machine) (wants_nothing due w.memory w.machine wanted (idle (is_silent w.machine)) is))
+    let fault = stream_fault w.machine name in
+    of_there w due _ (in_context due is) (by_fault fault (is_bulk w.machine) (lacks fault (is_bulk w.machine) due refl is))
   where
-    idle : (silent : Bool) → (is_running (pipe_of w.machine.transfers name).state && (if silent then has_rung (pipe_of w.machine.transfers name) else has_stray (pipe_of w.machine.transfers name))) ≡ false
-        → (if silent then silent_wanted w.memory w.events (pipe_of w.machine.transfers name) else stray_wanted w.memory w.events (pipe_of w.machine.transfers name)) ≡ None
-    idle true rests = not_rung w.memory w.events (pipe_of w.machine.transfers name) rests
-    idle false rests = not_stray w.memory w.events (pipe_of w.machine.transfers name) rests
+    in_context : (due : Bool)
+        → lacks_nothing (if due then then_look (needs (context_wanted w.memory w.machine.slot)) (stray_looked_by (stream_fault w.machine name) (is_bulk w.machine) w.memory w.machine w.events name) else Ok tt) ≡ true
+        → due ≡ true → context_wanted w.memory w.machine.slot ≡ None
+    in_context true is due = (needs_nothing (context_wanted w.memory w.machine.slot) _ is).0
+    in_context false is due = absurd (false≢true due)
 
-    by_kind : (silent : Bool) → (if silent then silent_wanted w.memory w.events (pipe_of w.machine.transfers name) else stray_wanted w.memory w.events (pipe_of w.machine.transfers name)) ≡ None
-        → is_some (if silent then silent_on transaction_error w.memory w.events w.machine.transfers name
-        else stray_on stall_error w.memory w.events w.machine.transfers name).1.1.1 ≡ true
-    by_kind true none = silent_law w.memory w.events w.machine.transfers name none
-    by_kind false none = law w.memory w.events w.machine.transfers name none
+    lacks : (fault : Option ℕ) (bulk due : Bool)
+        → (is_running (pipe_of w.machine.transfers name).state && rings_by fault bulk (pipe_of w.machine.transfers name)) ≡ due
+        → lacks_nothing (if due then then_look (needs (context_wanted w.memory w.machine.slot)) (stray_looked_by fault bulk w.memory w.machine w.events name) else Ok tt) ≡ true
+        → stray_wanted_by fault bulk w name ≡ None
+    lacks fault bulk true same is = looks_whole fault bulk w name (needs_nothing (context_wanted w.memory w.machine.slot) _ is).1
+    lacks fault bulk false same is = stray_idle fault bulk w name same
+
+    by_fault : (fault : Option ℕ) (bulk : Bool) → stray_wanted_by fault bulk w name ≡ None → is_some (stray_by fault bulk w name).1 ≡ true
+    by_fault (Some code) bulk none = silent_law code w.memory w.events w.machine.transfers name none
+    by_fault None false none = law w.memory w.events w.machine.transfers name none
+    by_fault None true none = bulk_taken laws w name none
 
 -- A TAG
 

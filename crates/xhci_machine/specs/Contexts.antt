@@ -1,4 +1,4 @@
--- When an endpoint has a step. While the port is suspended it has none (xHCI 1.2, 4.15.1), and a tag has none while nothing serves the pipes. The device context is tested before a step that may change
+-- When an endpoint has a step. While the port is suspended it has none (xHCI 1.2, 4.15.1), and a tag has none while nothing serves tags. The device context is tested before a step that may change
 -- an endpoint's state in it (4.8.3 and 4.10.2.6): where a byte of it isn't there nothing of the step is done.
 use Rattle.std.specs.Prelude.{Bool, ◌&&◌, if◌then◌else◌, Option, Some, None, is_some}
 use Rattle.guest_memory.specs.Bytes.{Memory}
@@ -14,7 +14,7 @@ use Rattle.xhci_registers.specs.Ports.{is_suspended}
 use Rattle.xhci_slots.specs.declared.Slot.{Slot}
 use Rattle.xhci_slots.specs.Wanted.{tell_wanted}
 use Rattle.xhci_machine.specs.declared.Machine.{Machine}
-use Rattle.xhci_machine.specs.Bus.{is_silent}
+use Rattle.xhci_machine.specs.Bus.{has_no_tags}
 use Rattle.xhci_machine.specs.Turns.{World}
 
 -- the device context, where the slot has one and a byte of it isn't there
@@ -47,6 +47,6 @@ is_asleep m = is_suspended m.registers.port.link
 abbrev pub of_endpoint : World → Bool → World × Option Acted → World × Option Acted
 of_endpoint w due step = if is_asleep w.machine then (w, Some Idle) else in_context w due step
 
--- a step of a tag: none is due while nothing serves the pipes
+-- a step of a tag: none is due while nothing serves tags
 abbrev pub of_tag : World → World × Option Acted → World × Option Acted
-of_tag w step = if is_silent w.machine then (w, Some Idle) else step
+of_tag w step = if has_no_tags w.machine then (w, Some Idle) else step

@@ -1,6 +1,9 @@
 -- What a call from outside makes of the whole controller: a write of the register page with what it asks for beyond the registers (5.4 to
 -- 5.6), a reset of the controller, and of the disk.
-use Rattle.std.specs.Prelude.{ℕ, ◌+◌, ◌/◌, ◌%◌, ◌^◌, ◌==◌, nat_le, Bool, true, false, not, ◌||◌, if◌then◌else◌, None}
+use Rattle.std.specs.Prelude.{ℕ, ◌+◌, ◌/◌, ◌%◌, ◌^◌, ◌==◌, nat_le, Bool, true, false, not, ◌||◌, if◌then◌else◌, [], None}
+use Rattle.guest_bulk.specs.declared.bulk.Bulk.{Bulk}
+use Rattle.guest_bulk.specs.declared.bulk.BulkStage.TheVariants.{Awaits}
+use Rattle.guest_bulk.specs.Commands.{bulk_restarted}
 use Rattle.guest_pipes.specs.declared.consumer.EndpointState.TheVariants.{Disabled}
 use Rattle.guest_pipes.specs.Pipe.{disabled as pipe_disabled}
 use Rattle.guest_tasks.specs.declared.GuestTasks.{GuestTasks}
@@ -10,7 +13,8 @@ use Rattle.guest_transfers.specs.Calls.{rung_at}
 use Rattle.guest_transfers.specs.Orders.{command_disabled, pipe_of, tags_cleared, with_pipe}
 use Rattle.guest_transfers.specs.State.{TransfersState, opening}
 use Rattle.uas_tasks.specs.Machine.{powered_machine}
-use Rattle.xhci_control.specs.Steps.{disabled as control_disabled, disk_reset, opened as control_opened, rung_in}
+use Rattle.usb_disk.specs.Answers.{both_disk}
+use Rattle.xhci_control.specs.Steps.{disabled as control_disabled, disk_reset, opened as control_opened, opened_over, rung_in}
 use Rattle.xhci_registers.specs.declared.Effect.{Effect}
 use Rattle.xhci_registers.specs.declared.Effect.TheVariants.{Nothing, Reset, PortReset, Halted, CommandRingStopped, CommandDoorbell, Doorbell, EventRing, Dequeued}
 use Rattle.xhci_registers.specs.declared.Width.{Width}
@@ -32,7 +36,10 @@ no_event_ring = record { ring = None; dequeued = false; cleared_busy = false; to
 abbrev pub all_disabled : States
 all_disabled = record { control = Disabled; command = Disabled; status = Disabled; data_out = Disabled; data_in = Disabled }
 
--- after a reset, with the disk plugged in
+abbrev pub opening_bulk : Bulk
+opening_bulk = record { stage = Awaits; chunk = []; taken = []; kept = None }
+
+-- after a reset, with a disk of UAS alone plugged in
 abbrev pub opened : GuestTasks → Machine
 opened device = record {
   registers = reset_registers true;
@@ -41,17 +48,24 @@ opened device = record {
   interrupts = no_event_ring;
   control = control_opened;
   transfers = opening;
+  bulk = opening_bulk;
   device = device;
   told = all_disabled;
 }
 
--- the disk is reset: it isn't configured, every task is gone, and each logical unit owes a unit attention
+-- The disk is reset: it isn't configured, it is in its first alternate setting, every task is gone, and each logical unit owes a unit attention.
 abbrev pub device_reset : Machine → Machine
 device_reset m = record m {
   device = record m.device { tasks = powered_machine m.device.tasks };
   transfers = tags_cleared m.transfers;
+  bulk = bulk_restarted m.bulk;
   control = disk_reset m.control;
 }
+
+-- It tells Bulk-Only's alternate setting before that of UAS, of logical units up to this number and with this serial number: it is reset, as
+-- another disk in its place, and endpoint 0 is disabled.
+abbrev pub bulk_offered : Machine → ℕ → ℕ → Machine
+bulk_offered m most_lun serial = record (device_reset m) { control = opened_over (both_disk most_lun serial) }
 
 abbrev pub dropped : TransfersState → StreamPipe → TransfersState
 dropped t name = with_pipe t name (pipe_disabled (pipe_of t name).endpoint)

@@ -6,6 +6,7 @@ pub mod Interrupter
 pub mod Bus
 pub mod Ring
 pub mod Turns
+pub mod Bulk
 pub mod Contexts
 pub mod Orders
 pub mod Steps

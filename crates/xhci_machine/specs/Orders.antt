@@ -17,6 +17,7 @@ use Rattle.guest_transfers.specs.declared.control.StreamPipe.TheVariants.{Status
 use Rattle.guest_transfers.specs.Orders.{command_forgotten, command_stopped, dequeue_moved, lone_forgotten, pipe_of, pipe_reset, with_pipe}
 use Rattle.guest_transfers.specs.State.{TransfersState}
 use Rattle.xhci_control.specs.Steps.{control_stopped as control_stop, forgotten as control_forgotten, halt_reset, stopped as control_stopped}
+use Rattle.xhci_machine.specs.Bus.{bulk_forgotten, forgotten_unless}
 use Rattle.xhci_machine.specs.declared.Machine.{Machine}
 use Rattle.xhci_machine.specs.declared.command.Order.{Order}
 use Rattle.xhci_machine.specs.declared.command.Order.TheVariants.{Reset, Stop, SetDequeue}
@@ -136,7 +137,7 @@ unfoldable pub halt_ended : Machine → Endpoint → Bool → Machine
 halt_ended m Control keeps = record m { control = halt_reset keeps m.control }
 halt_ended m Command true = record m { transfers = command_stopped m.transfers }
 halt_ended m Command false = record m { transfers = command_forgotten m.transfers Stopped }
-halt_ended m (Streams name) keeps = record m { transfers = pipe_reset keeps m.transfers name }
+halt_ended m (Streams name) keeps = forgotten_unless keeps name (record m { transfers = pipe_reset keeps m.transfers name })
 
 abbrev pub reset_in : Machine → Endpoint → Bool → EndpointState → Machine × ℕ
 reset_in m endpoint keeps Disabled = (m, 12)
@@ -166,7 +167,7 @@ stream_moved memory m name at cursor kind stream =
     if has_stream (pipe_of m.transfers name) stream
     then option_map (stream_success m) (dequeue_moved memory m.transfers name stream cursor (kind % 8))
     else if stream == 0 && not (has_stream (pipe_of m.transfers name) 1)
-    then option_map (with_success (record m { transfers = lone_forgotten m.transfers name })) (pointer_set memory at cursor)
+    then option_map (with_success (bulk_forgotten name (record m { transfers = lone_forgotten m.transfers name }))) (pointer_set memory at cursor)
     else Some (memory, (m, 34))
 
 unfoldable pub moved : Memory → Machine → Endpoint → ℕ → Cursor → ℕ → ℕ → Option (Memory × (Machine × ℕ))

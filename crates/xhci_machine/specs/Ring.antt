@@ -22,7 +22,7 @@ use Rattle.xhci_registers.specs.Writes.{has_slots}
 use Rattle.xhci_machine.specs.declared.Machine.{Machine}
 use Rattle.xhci_machine.specs.declared.ring.Ended.{Ended}
 use Rattle.xhci_machine.specs.declared.states.States.{States}
-use Rattle.xhci_machine.specs.Bus.{is_cut, transaction_error}
+use Rattle.xhci_machine.specs.Bus.{bulk_forgotten, is_cut, transaction_error}
 use Rattle.xhci_machine.specs.Effects.{dropped}
 
 -- WHERE IT STANDS
@@ -112,7 +112,8 @@ array_of m name pointer entries = if entries == 0 then pointer_home m.slot.conte
 unfoldable pub pipe_changed : Machine → StreamPipe → Change → Machine
 pipe_changed m name Kept = m
 pipe_changed m name Disabled = record m { transfers = dropped m.transfers name }
-pipe_changed m name (Set pointer entries) = record m { transfers = pipe_added m.transfers name (array_of m name pointer entries) (min entries 256) }
+pipe_changed m name (Set pointer entries) =
+    bulk_forgotten name (record m { transfers = pipe_added m.transfers name (array_of m name pointer entries) (min entries 256) })
 
 abbrev pub pipes_changed : Machine → Changes → Machine
 pipes_changed m changes =

@@ -2,11 +2,12 @@
 -- serves, and a tag's data and status, each once the device context is tested. None of what a step did, and the Bool false: memory isn't
 -- there, and nothing behind that is done.
 use Rattle.std.specs.Prelude.{ℕ, ◌-◌, ◌==◌, Bool, true, false, ◌&&◌, ◌||◌, if◌then◌else◌, Option, Some, None, is_some}
+use Rattle.guest_bulk.specs.Commands.{bulk_reset, bulk_restarted}
 use Rattle.guest_memory.specs.Bytes.{Memory}
 use Rattle.guest_pipes.specs.declared.acted.Acted.{Acted}
 use Rattle.guest_pipes.specs.declared.consumer.Consumer.{Consumer}
 use Rattle.guest_pipes.specs.Gate.{is_running}
-use Rattle.guest_pipes.specs.Pipe.{PipeState, has_stray, loaded}
+use Rattle.guest_pipes.specs.Pipe.{PipeState, has_stray, loaded, rung_on}
 use Rattle.guest_memory.specs.rings.Events.{EventEnd}
 use Rattle.guest_tasks.specs.declared.GuestTasks.{GuestTasks}
 use Rattle.guest_tasks.specs.Tasks.{tasks_kind}
@@ -16,11 +17,12 @@ use Rattle.guest_transfers.specs.Orders.{data_stepped, stray_on, pipe_of, tags_c
 use Rattle.guest_transfers.specs.Silent.{next_rung, silent_command, silent_on}
 use Rattle.guest_transfers.specs.State.{TransfersState, TransfersWorld}
 use Rattle.guest_transfers.specs.Steps.{command_stepped, status_stepped}
-use Rattle.uas_tasks.specs.Machine.{tasks_ended}
 use Rattle.xhci_control.specs.declared.pipe.Served.{Served}
 use Rattle.xhci_control.specs.Steps.{ControlWorld, stepped}
 use Rattle.xhci_machine.specs.declared.Machine.{Machine}
-use Rattle.xhci_machine.specs.Bus.{fault_in, is_silent, transaction_error}
+use Rattle.uas_profile.specs.declared.Pipe.TheVariants.{Command}
+use Rattle.xhci_machine.specs.Bulk.{bulk_of, ended_if}
+use Rattle.xhci_machine.specs.Bus.{fault_in, is_bulk, pipe_fault, stall_error, still_halted, stream_fault}
 use Rattle.xhci_machine.specs.Contexts.{is_due, of_endpoint, of_tag}
 use Rattle.xhci_machine.specs.Steps.{commands_stepped}
 use Rattle.xhci_machine.specs.Turns.{World, left_after, noted, port_turned, settled, tells_port}
@@ -53,48 +55,56 @@ control_world w = record { memory = w.memory; events = w.events; pipe = w.machin
 abbrev pub with_control : World → ControlWorld → World
 with_control w after = record { memory = after.memory; events = after.events; machine = record w.machine { control = after.pipe } }
 
--- the disk was configured anew: every task is gone
-abbrev pub restarted : Bool → World → World
-restarted true w = record w {
-  machine = record w.machine {
-    device = record w.machine.device { tasks = tasks_ended w.machine.device.tasks };
-    transfers = tags_cleared w.machine.transfers;
-  };
+-- the disk was configured anew: nothing is kept of a tag, or of Bulk-Only's transport
+abbrev pub restarted : Bool → Machine → Machine
+restarted again m = record m {
+  transfers = if again then tags_cleared m.transfers else m.transfers;
+  bulk = if again then bulk_restarted m.bulk else m.bulk;
 }
-restarted false w = w
+
+-- Bulk-Only's reset: a CBW is awaited
+abbrev pub awaiting : Bool → Machine → Machine
+awaiting again m = record m { bulk = if again then bulk_reset m.bulk else m.bulk }
+
+-- either way every task is gone
+abbrev pub answered : Served → Machine → Machine
+answered how m = still_halted (awaiting how.bulk_reset (restarted how.restarted (ended_if (how.restarted || how.bulk_reset) m)))
 
 abbrev pub served : World → ControlWorld × Option Served → World × Option Acted
 served w (after, None) = (with_control w after, None)
-served w (after, Some how) = (restarted how.restarted (with_control w after), Some how.acted)
+served w (after, Some how) = (record (with_control w after) { machine = answered how (with_control w after).machine }, Some how.acted)
 
 unfoldable pub control_stepped : World → World × Option Acted
 control_stepped w = of_endpoint w (is_due w.machine.control.consumer) (served w (stepped (fault_in w.machine) (control_world w)))
 
--- A DOORBELL THAT NO TAG'S TURN SERVES: of a stream that isn't there, of a pipe without streams, or any while nothing serves the pipes
-
--- The disk has no ring without streams: a TD there is told with Stall Error (table 6-90).
-abbrev pub stall_error : ℕ
-stall_error = 6
+-- A DOORBELL THAT NO TAG'S TURN SERVES: of a stream that isn't there, of a pipe without streams, or any of an endpoint that isn't served
 
 abbrev pub with_stray : World → Memory × (EventEnd × (TransfersState × Option Acted)) → World × Option Acted
 with_stray w after = (record { memory = after.0; events = after.1.0; machine = record w.machine { transfers = after.1.1.0 } }, after.1.1.1)
 
--- whether its step looks at it
+-- whether a step that tells what nothing serves looks at it
 abbrev pub has_rung : PipeState → Bool
 has_rung p = has_stray p || is_some (next_rung p)
 
+-- by what its TDs are told with, and whether the disk is in Bulk-Only's setting
+abbrev pub rings_by : Option ℕ → Bool → PipeState → Bool
+rings_by (Some code) bulk p = has_rung p
+rings_by None false p = has_stray p
+rings_by None true p = rung_on p 0
+
+-- whether its step looks at it
 abbrev pub is_stray : Machine → StreamPipe → Bool
 is_stray m name =
-    is_running (pipe_of m.transfers name).state
-    && (if is_silent m then has_rung (pipe_of m.transfers name) else has_stray (pipe_of m.transfers name))
+    is_running (pipe_of m.transfers name).state && rings_by (stream_fault m name) (is_bulk m) (pipe_of m.transfers name)
 
-abbrev pub stray_of : World → StreamPipe → Memory × (EventEnd × (TransfersState × Option Acted))
-stray_of w name =
-    if is_silent w.machine then silent_on transaction_error w.memory w.events w.machine.transfers name
-    else stray_on stall_error w.memory w.events w.machine.transfers name
+-- Bulk-Out or Bulk-In in Bulk-Only's setting. UAS has no ring without streams: a TD there is told with Stall Error.
+abbrev pub stray_by : Option ℕ → Bool → World → StreamPipe → World × Option Acted
+stray_by (Some code) bulk w name = with_stray w (silent_on code w.memory w.events w.machine.transfers name)
+stray_by None false w name = with_stray w (stray_on stall_error w.memory w.events w.machine.transfers name)
+stray_by None true w name = bulk_of w name
 
 unfoldable pub stray_stepped : World → StreamPipe → World × Option Acted
-stray_stepped w name = of_endpoint w (is_stray w.machine name) (with_stray w (stray_of w name))
+stray_stepped w name = of_endpoint w (is_stray w.machine name) (stray_by (stream_fault w.machine name) (is_bulk w.machine) w name)
 
 -- THE PIPES OF THE TASKS
 
@@ -111,20 +121,19 @@ with_transfers w after = (
   after.1,
 )
 
--- the command pipe, which nothing may serve
-abbrev pub command_of : World → World × Option Acted
-command_of w =
-    if is_silent w.machine then with_stray w (silent_command transaction_error w.memory w.events w.machine.transfers)
-    else with_transfers w (command_stepped tasks_kind (transfers_world w))
+-- the command pipe, by what its TDs are told with where nothing serves it
+abbrev pub command_by : Option ℕ → World → World × Option Acted
+command_by (Some code) w = with_stray w (silent_command code w.memory w.events w.machine.transfers)
+command_by None w = with_transfers w (command_stepped tasks_kind (transfers_world w))
 
 unfoldable pub command_pipe_stepped : World → World × Option Acted
-command_pipe_stepped w = of_endpoint w (is_due w.machine.transfers.command) (command_of w)
+command_pipe_stepped w = of_endpoint w (is_due w.machine.transfers.command) (command_by (pipe_fault w.machine Command) w)
 
 -- one ring of a tag
 abbrev pub ring_on : Machine → StreamPipe → ℕ → Consumer
 ring_on m name tag = loaded (pipe_of m.transfers name) tag
 
--- a tag's data and its status, where something serves the pipes
+-- a tag's data and its status, where something serves tags
 unfoldable pub data_due : World → ℕ → World × Option Acted
 data_due w tag =
     of_endpoint w (is_due (ring_on w.machine DataIn tag) || is_due (ring_on w.machine DataOut tag))

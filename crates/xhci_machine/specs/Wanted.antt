@@ -33,7 +33,9 @@ use Rattle.xhci_machine.specs.declared.interrupts.Seen.TheVariants.{Lacks as Lac
 use Rattle.xhci_machine.specs.declared.states.States.{States}
 use Rattle.xhci_machine.specs.declared.wanting.End.{End}
 use Rattle.xhci_machine.specs.declared.wanting.End.TheVariants.{Lacks, Acts}
-use Rattle.xhci_machine.specs.Bus.{fault_in, is_silent}
+use Rattle.uas_profile.specs.declared.Pipe.TheVariants.{Command}
+use Rattle.xhci_machine.specs.Bulk.{bulk_wanted}
+use Rattle.xhci_machine.specs.Bus.{fault_in, has_no_tags, is_bulk, pipe_fault, stream_fault}
 use Rattle.xhci_machine.specs.Contexts.{context_wanted, is_asleep, is_due}
 use Rattle.xhci_machine.specs.Interrupter.{seen}
 use Rattle.xhci_machine.specs.Lacking.{command_wanted}
@@ -104,23 +106,28 @@ abbrev pub transfers_at : Memory → Machine → EventEnd → TransfersWorld Gue
 transfers_at memory m events = record { memory = memory; events = events; transfers = m.transfers; device = m.device }
 
 -- the command pipe
+abbrev pub command_wanted_by : Option ℕ → Memory → Machine → EventEnd → Option Range
+command_wanted_by (Some code) memory m events = silent_command_wanted memory events m.transfers.command m.transfers.home
+command_wanted_by None memory m events = pipe_wanted tasks_kind (transfers_at memory m events)
+
 abbrev pub command_pipe_wanted : Memory → Machine → EventEnd → Option Range
-command_pipe_wanted memory m events =
-    if is_silent m then silent_command_wanted memory events m.transfers.command m.transfers.home
-    else pipe_wanted tasks_kind (transfers_at memory m events)
+command_pipe_wanted memory m events = command_wanted_by (pipe_fault m Command) memory m events
 
 unfoldable pub command_pipe_looked : Memory → Machine → EventEnd → Look
 command_pipe_looked memory m events =
     if is_due m.transfers.command then acts_in_context memory m (command_pipe_wanted memory m events) else Ok tt
 
--- a doorbell that no tag's turn serves
-abbrev pub stray_wanted_of : Memory → Machine → EventEnd → StreamPipe → Option Range
-stray_wanted_of memory m events name =
-    if is_silent m then silent_wanted memory events (pipe_of m.transfers name) else stray_wanted memory events (pipe_of m.transfers name)
+-- A doorbell that no tag's turn serves. A step of Bulk-Out or Bulk-In may wait, so the look goes on behind one that lacks nothing.
+abbrev pub stray_looked_by : Option ℕ → Bool → Memory → Machine → EventEnd → StreamPipe → Look
+stray_looked_by (Some code) bulk memory m events name = acts (silent_wanted memory events (pipe_of m.transfers name))
+stray_looked_by None false memory m events name = acts (stray_wanted memory events (pipe_of m.transfers name))
+stray_looked_by None true memory m events name = needs (bulk_wanted memory m events name)
 
 unfoldable pub stray_looked : Memory → Machine → EventEnd → StreamPipe → Look
 stray_looked memory m events name =
-    if is_stray m name then acts_in_context memory m (stray_wanted_of memory m events name) else Ok tt
+    if is_stray m name
+    then then_look (needs (context_wanted memory m.slot)) (stray_looked_by (stream_fault m name) (is_bulk m) memory m events name)
+    else Ok tt
 
 -- A TAG'S TURN
 
@@ -216,7 +223,7 @@ endpoints_looked memory m events =
     (then_look (stray_looked memory m events Status)
     (then_look (stray_looked memory m events DataOut)
     (then_look (stray_looked memory m events DataIn)
-    (if is_silent m then Ok tt else tags_looked memory m events 241)))))
+    (if has_no_tags m then Ok tt else tags_looked memory m events 241)))))
 
 -- while the port is suspended none of those is due
 unfoldable pub turns_looked : Memory → Machine → EventEnd → Look

@@ -6,16 +6,22 @@ ghost use Rattle.xhci_registers.specs.Signals.{is_asserted, messaged, tells_host
 ghost use Rattle.xhci_registers.specs.Words.{read_of};
 ghost use Rattle.xhci_registers.specs.Writes.{reset_registers};
 ghost use Rattle.xhci_machine.specs.Access.{both_set, page_written, word_set};
-ghost use Rattle.xhci_machine.specs.Effects.{all_reset, both_done, device_reset, opened, page_done, plugged_in, rung, word_done};
+ghost use Rattle.xhci_machine.specs.Bulk.{as_asked};
+ghost use Rattle.xhci_machine.specs.Bus.{is_bulk};
+ghost use Rattle.xhci_machine.specs.Effects.{all_reset, both_done, device_reset, bulk_offered, opened, page_done, plugged_in, rung, word_done};
 
 use crate::Machine;
+use crate::bulk::asked_in;
 use crate::interrupts::Interrupts;
 use crate::ring::CommandRing;
 use crate::states::States;
+use guest_bulk::Bulk;
 use guest_tasks::GuestTasks;
 use guest_transfers::{StreamPipe, Transfers};
+use host_commands::SerialNumber;
 use std::alloc::{AllocError, Global};
 use uas_tasks::{AnswerFault, Next, Outcome, Tasks};
+use usb_disk::UsbDisk;
 use xhci_control::ControlPipe;
 use xhci_registers::{Effect, Registers, Width};
 use xhci_slots::Slot;
@@ -27,7 +33,7 @@ const PAGE_BYTES: u64 = 4096;
 const CONTROL_TARGET: u8 = 1;
 
 impl Machine {
-    /// A controller after a reset, with this disk plugged in. It takes all memory that it ever has; the error is want of it.
+    /// A controller after a reset, with a disk of UAS alone plugged in. It takes all memory that it ever has; the error is want of it.
     pub fn new(alloc: Global, tasks: Tasks) -> Result<Machine, AllocError>
         ensures registers { IfOk result (λ machine. machine.registers ≡ reset_registers true) }
         ensures device { IfOk result (λ machine. machine.device.tasks ≡ tasks) }
@@ -42,9 +48,19 @@ impl Machine {
             interrupts: Interrupts::none(),
             control: ControlPipe::new(),
             transfers: Transfers::new(alloc)?,
+            bulk: Bulk::new(alloc)?,
             device: GuestTasks::new(tasks),
             told: States::disabled(),
         })
+    }
+
+    /// The disk tells Bulk-Only Transport as its first alternate setting and UAS as its second, of logical units up to `most_lun` and with the
+    /// serial number of logical unit 0: firmware boots from it. To be called before the guest runs: the disk is reset by it.
+    pub fn offer_bulk_only(&mut self, most_lun: u8, serial: SerialNumber)
+        ensures { self.new ≡ bulk_offered self.old most_lun serial }
+    {
+        self.reset_device();
+        self.control = ControlPipe::over(UsbDisk::new(most_lun, serial));
     }
 
     /// A read of the register page: 1, 2, 4 or 8 bytes at a multiple of their number; any other reads 0 (5.3 to 5.6).
@@ -107,12 +123,14 @@ impl Machine {
         }
     }
 
-    /// The disk is reset: it isn't configured, every task is gone, and each logical unit owes a unit attention.
+    /// The disk is reset: it isn't configured, it is in its first alternate setting, every task is gone, and each logical unit owes a unit
+    /// attention.
     fn reset_device(&mut self)
         ensures { self.new ≡ device_reset self.old }
     {
         self.device.power_on();
         self.transfers.clear_tags();
+        self.bulk.restart();
         self.control.reset_disk();
     }
 
@@ -179,15 +197,20 @@ impl Machine {
         self.registers.tells_host_error()
     }
 
-    /// The next request to the backend that isn't out yet; it is out from then on.
+    /// The next request to the backend that isn't out yet; it is out from then on. A Write of a host that is in Bulk-Only's setting goes through
+    /// to the medium, as such hosts don't flush.
     pub fn next_request(&mut self) -> Option<Next>
         ensures asks { IfSome result (λ next. (tag : ℕ) × (1 ≤ tag) × (asks_on self.old.device tag ≡ true)
             × ((other : ℕ) → 1 ≤ other → other < tag → asks_on self.old.device other ≡ false)
-            × ((self.new.device.tasks, next) ≡ next_of self.old.device.tasks tag)) }
+            × ((self.new.device.tasks, next) ≡ as_asked (is_bulk self.old) (next_of self.old.device.tasks tag))) }
         ensures none { IfNone result ((self.new ≡ self.old) × ((other : ℕ) → 1 ≤ other → asks_on self.old.device other ≡ false)) }
         ensures rest { self.new ≡ record self.old { device = record self.old.device { tasks = self.new.device.tasks } } }
     {
-        self.device.next_request(1)
+        let bulk = self.is_bulk();
+        match self.device.next_request(1) {
+            Some(next) => Some(asked_in(bulk, next)),
+            None => None,
+        }
     }
 
     /// The bytes of a request that writes or compares, while it is out.

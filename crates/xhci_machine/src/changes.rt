@@ -8,7 +8,7 @@ use guest_transfers::StreamPipe;
 use xhci_slots::{Change, Changes};
 
 /// An endpoint's ID (4.5.1).
-fn endpoint_id(name: StreamPipe) -> u8
+pub(crate) fn endpoint_id(name: StreamPipe) -> u8
     ensures { result ≡ endpoint_id name }
 {
     match name {
@@ -82,6 +82,7 @@ impl Machine {
                 let array = self.array_of(name, pointer, entries);
                 self.transfers
                     .configure(name, array, entries.min(256) as u16);
+                self.forget_bulk(name);
             }
         }
     }

@@ -1,11 +1,11 @@
-//! What the command in front of the command ring lacks, and a step of the pipes that no tag's turn is, for a caller who copies in what is asked for.
+//! What the command in front of the command ring lacks, and a step of the command pipe, for a caller who copies in what is asked for.
 ghost use Rattle.std.specs.Prelude.{◌≡◌, ◌<◌};
 ghost use Rattle.guest_memory.specs.rings.Ends.{fetched};
 ghost use Rattle.xhci_machine.specs.Orders.{endpoint_of};
 ghost use Rattle.xhci_machine.specs.Ring.{command_cursor};
 ghost use Rattle.xhci_machine.specs.Lacking.{begun_wanted, command_wanted, dequeue_wanted, order_wanted, pointer_wanted, stop_wanted, stopping_wanted};
 ghost use Rattle.xhci_machine.specs.Lacking.{stream_wanted, taken_wanted, words_wanted};
-ghost use Rattle.xhci_machine.specs.Wanted.{command_pipe_wanted, stray_wanted_of};
+ghost use Rattle.xhci_machine.specs.Wanted.{command_pipe_wanted};
 
 use crate::Machine;
 use crate::command::{Command, Order, read_command};
@@ -15,6 +15,7 @@ use guest_memory::rings::{Cursor, EventRing, Home, Range, fetch, look_wants};
 use guest_memory::{GuestMemory, Outside};
 use guest_pipes::EndpointState;
 use guest_transfers::StreamPipe;
+use uas_profile::Pipe;
 
 /// The pointer of an endpoint without streams, in its context.
 fn pointer_wants<M: GuestMemory>(memory: &M, at: u64) -> Option<Range>
@@ -179,26 +180,9 @@ impl Machine {
     ) -> Option<Range>
         ensures { result ≡ command_pipe_wanted (M.contents memory.now) self.now events.now }
     {
-        if self.is_silent() {
-            self.transfers.wants_silent_command(memory, events)
-        } else {
-            self.transfers.wants_command(memory, events, &self.device)
-        }
-    }
-
-    /// A doorbell that no tag's turn serves.
-    pub(crate) fn wants_stray<M: GuestMemory>(
-        &self,
-        memory: &M,
-        events: &EventRing,
-        name: StreamPipe,
-    ) -> Option<Range>
-        ensures { result ≡ stray_wanted_of (M.contents memory.now) self.now events.now name }
-    {
-        if self.is_silent() {
-            self.transfers.wants_silent(memory, events, name)
-        } else {
-            self.transfers.wants_stray(memory, events, name)
+        match self.pipe_fault(Pipe::Command) {
+            Some(_) => self.transfers.wants_silent_command(memory, events),
+            None => self.transfers.wants_command(memory, events, &self.device),
         }
     }
 }

@@ -71,4 +71,5 @@ pub fn pipes_that_lack_nothing_are_stepped()
         → acts_on_data w.memory w.machine tag ≡ false → is_some (status_of w tag).1 ≡ true }
 {
     guest_transfers::what_lacks_nothing_is_taken::<GuestTasks>();
+    guest_bulk::what_lacks_nothing_is_taken::<GuestTasks>();
 }

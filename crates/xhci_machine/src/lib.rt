@@ -20,10 +20,13 @@
 //!    state tests the device context first, and so posts nothing where it isn't there.
 //! 5. A doorbell starts an endpoint that is stopped; its context says so from the next step on.
 //! 6. A tag whose request is at the backend waits; no other tag does.
-//! 7. A pipe without streams has one ring, whose end is in the endpoint context. The disk serves none: a TD there is told with Stall Error.
+//! 7. A pipe without streams has one ring, whose end is in the endpoint context. UAS serves none: a TD there is told with Stall Error.
 //! 8. While the port is suspended no endpoint has a step, and doorbells wait.
 //! 9. A disk that was pulled, or whose port is disabled, answers nothing: a TD is told with USB Transaction Error and what is left of it, its
 //!    ring stays there, and the endpoint halts; so does Address Device end. Of a disk that isn't configured that goes for the pipes.
+//! 10. The disk's alternate setting says who serves an endpoint, not its context. In Bulk-Only's the command and status pipes are told with USB
+//!    Transaction Error, and Bulk-Out and Bulk-In have the endpoints of data-out and data-in, without streams; a stream there, and any endpoint
+//!    that the disk has halted, is told with Stall Error.
 //!
 //! What is promised: every call is safe and total, for any bytes in memory, any register access and any order; no step takes memory
 //! ([`Machine::new`] takes all). A read is `read_of`, and the interrupt's pin `is_asserted`. Of the whole machine, a write is `page_done`, with
@@ -42,6 +45,7 @@
 #![tactic(auto)]
 
 mod access;
+mod bulk;
 mod changes;
 mod command;
 mod interrupts;
@@ -55,6 +59,7 @@ mod turns;
 mod wanting;
 mod work;
 
+use guest_bulk::Bulk;
 use guest_tasks::GuestTasks;
 use guest_transfers::Transfers;
 use interrupts::Interrupts;
@@ -80,6 +85,7 @@ pub struct Machine {
     interrupts: Interrupts,
     control: ControlPipe,
     transfers: Transfers,
+    bulk: Bulk,
     device: GuestTasks,
     /// The endpoints' states as their contexts have them.
     told: States,

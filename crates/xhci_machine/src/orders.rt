@@ -281,7 +281,12 @@ impl Machine {
                     self.transfers.forget_command(EndpointState::Stopped);
                 }
             }
-            Endpoint::Streams(name) => self.transfers.reset(name, keeps),
+            Endpoint::Streams(name) => {
+                self.transfers.reset(name, keeps);
+                if !keeps {
+                    self.forget_bulk(name);
+                }
+            }
         }
     }
 
@@ -367,6 +372,7 @@ impl Machine {
         } else if stream == 0 && !pipe.has_stream(1) {
             set_pointer(memory, at, cursor)?;
             self.transfers.forget_lone(name);
+            self.forget_bulk(name);
             Ok(SUCCESS)
         } else {
             Ok(INVALID_STREAM_ID)

@@ -6,7 +6,7 @@ ghost use Rattle.std.specs.Result.{result_ok};
 ghost use Rattle.xhci_machine.specs.Contexts.{is_asleep, lacks_context};
 ghost use Rattle.xhci_machine.specs.Bus.{fault_in, is_cut, is_silent};
 ghost use Rattle.xhci_machine.specs.Ring.{is_addressable, is_unanswered};
-ghost use Rattle.xhci_machine.specs.Rounds.{command_pipe_stepped, control_stepped, data_due, data_of, is_stray, status_due, status_of, stray_stepped};
+ghost use Rattle.xhci_machine.specs.Rounds.{answered, command_pipe_stepped, control_stepped, data_due, data_of, is_stray, status_due, status_of, stray_stepped};
 
 use crate::Machine;
 use crate::wanting::is_due;
@@ -14,12 +14,14 @@ use guest_memory::rings::EventRing;
 use guest_memory::{GuestMemory, Outside};
 use guest_pipes::Acted;
 use guest_transfers::{StreamPipe, next_rung};
+use uas_profile::Pipe;
+use xhci_control::Served;
 use xhci_registers::Link;
 use xhci_slots::SlotCommand;
 use xhci_slots::contexts::{InputContext, SlotState};
 
-/// Completion code of a TD in a ring without streams, which the disk doesn't have (table 6-90).
-const STALL_ERROR: u8 = 6;
+/// Stall Error (table 6-90): of an endpoint that the disk halted, or a ring that its alternate setting doesn't have.
+pub(crate) const STALL_ERROR: u8 = 6;
 
 /// USB Transaction Error (table 6-90): nothing answers on the bus.
 pub(crate) const TRANSACTION_ERROR: u8 = 4;
@@ -83,16 +85,16 @@ impl Machine {
         }
     }
 
-    /// Whether a doorbell of a pipe is looked at that no tag's turn serves: any where nothing serves the pipes.
+    /// Whether a doorbell of a pipe is looked at that no tag's turn serves: any of an endpoint that isn't served.
     pub(crate) fn is_stray(&self, name: StreamPipe) -> bool
         ensures { result ≡ is_stray self.now name }
     {
         let pipe = self.transfers.pipe(name);
         pipe.state().runs()
-            && if self.is_silent() {
-                pipe.has_stray() || next_rung(pipe).is_some()
-            } else {
-                pipe.has_stray()
+            && match (self.stream_fault(name), self.is_bulk()) {
+                (Some(_), _) => pipe.has_stray() || next_rung(pipe).is_some(),
+                (None, false) => pipe.has_stray(),
+                (None, true) => pipe.consumer(0).rung,
             }
     }
 
@@ -121,7 +123,22 @@ impl Machine {
         }
     }
 
-    /// A step of endpoint 0. One that configures the disk anew ends every task.
+    /// What the disk's answer to a request of endpoint 0 leaves: where it was configured anew, or Bulk-Only's transport reset, every task is gone.
+    fn answer(&mut self, served: Served)
+        ensures { self.new ≡ answered served self.old }
+    {
+        self.end_tasks_if(served.restarted || served.bulk_reset);
+        if served.restarted {
+            self.transfers.clear_tags();
+            self.bulk.restart();
+        }
+        if served.bulk_reset {
+            self.bulk.reset();
+        }
+        self.keep_halted();
+    }
+
+    /// A step of endpoint 0.
     #[tactic(auto, unfolding(crate::specs::Rounds::control_stepped))]
     pub(crate) fn step_control<M: GuestMemory>(
         &mut self,
@@ -138,10 +155,7 @@ impl Machine {
         self.test_context(memory, events, self.control.is_due())?;
         let fault = self.fault();
         let served = self.control.step(memory, events, fault)?;
-        if served.restarted {
-            self.device.end_tasks();
-            self.transfers.clear_tags();
-        }
+        self.answer(served);
         Ok(served.acted)
     }
 
@@ -159,12 +173,11 @@ impl Machine {
             return Ok(Acted::Idle);
         }
         self.test_context(memory, events, is_due(&self.transfers.command()))?;
-        if self.is_silent() {
-            self.transfers
-                .step_silent_command(memory, events, TRANSACTION_ERROR)
-        } else {
-            self.transfers
-                .step_command(memory, events, &mut self.device)
+        match self.pipe_fault(Pipe::Command) {
+            Some(code) => self.transfers.step_silent_command(memory, events, code),
+            None => self
+                .transfers
+                .step_command(memory, events, &mut self.device),
         }
     }
 
@@ -177,18 +190,16 @@ impl Machine {
     ) -> Result<Acted, Outside>
         ensures stepped { (record { memory = M.contents memory.new; events = events.new; machine = self.new }, result_ok result)
             ≡ stray_stepped (record { memory = M.contents memory.old; events = events.old; machine = self.old }) name }
-        ensures device { self.new.device ≡ self.old.device }
         ensures same_loan { M.loan memory.new ≡ M.loan memory.old }
     {
         if self.is_asleep() {
             return Ok(Acted::Idle);
         }
         self.test_context(memory, events, self.is_stray(name))?;
-        if self.is_silent() {
-            self.transfers
-                .step_silent(memory, events, name, TRANSACTION_ERROR)
-        } else {
-            self.transfers.step_stray(memory, events, name, STALL_ERROR)
+        match (self.stream_fault(name), self.is_bulk()) {
+            (Some(code), _) => self.transfers.step_silent(memory, events, name, code),
+            (None, false) => self.transfers.step_stray(memory, events, name, STALL_ERROR),
+            (None, true) => self.step_bulk(memory, events, name),
         }
     }
 
@@ -204,7 +215,7 @@ impl Machine {
             ≡ data_of (record { memory = M.contents memory.old; events = events.old; machine = self.old }) tag }
         ensures same_loan { M.loan memory.new ≡ M.loan memory.old }
     {
-        if self.is_silent() {
+        if self.has_no_tags() {
             return Ok(Acted::Idle);
         }
         self.step_data_due(memory, events, tag)
@@ -244,7 +255,7 @@ impl Machine {
             ≡ status_of (record { memory = M.contents memory.old; events = events.old; machine = self.old }) tag }
         ensures same_loan { M.loan memory.new ≡ M.loan memory.old }
     {
-        if self.is_silent() {
+        if self.has_no_tags() {
             return Ok(Acted::Idle);
         }
         self.step_status_due(memory, events, tag)

@@ -191,7 +191,7 @@ impl Machine {
         self.note(memory, events, turn, acted)
     }
 
-    /// A doorbell that no tag's turn serves.
+    /// A doorbell that no tag's turn serves; of Bulk-Only any.
     fn turn_stray<M: GuestMemory>(
         &mut self,
         memory: &mut M,
@@ -202,7 +202,6 @@ impl Machine {
         ensures turned { ((record { memory = M.contents memory.new; events = events.new; machine = self.new }, turn.new.left), is_ok result)
             ≡ turned turn.old.left (record { memory = M.contents memory.old; events = events.old; machine = self.old })
             (stray_stepped (record { memory = M.contents memory.old; events = events.old; machine = self.old }) name) }
-        ensures device { self.new.device ≡ self.old.device }
         ensures same_loan { M.loan memory.new ≡ M.loan memory.old }
     {
         if turn.is_over() {

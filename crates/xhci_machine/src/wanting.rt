@@ -37,7 +37,7 @@ pub(crate) enum End {
 }
 
 /// The look goes on where nothing is missing.
-fn needs(missing: Option<Range>) -> Result<(), End>
+pub(crate) fn needs(missing: Option<Range>) -> Result<(), End>
     ensures { result ≡ needs missing }
 {
     match missing {
@@ -47,7 +47,7 @@ fn needs(missing: Option<Range>) -> Result<(), End>
 }
 
 /// The step is of this turn, by what is missing of that.
-fn acts(missing: Option<Range>) -> Result<(), End>
+pub(crate) fn acts(missing: Option<Range>) -> Result<(), End>
     ensures { result ≡ acts missing }
 {
     match missing {
@@ -185,7 +185,7 @@ impl Machine {
         self.look_stray(memory, events, StreamPipe::Status)?;
         self.look_stray(memory, events, StreamPipe::DataOut)?;
         self.look_stray(memory, events, StreamPipe::DataIn)?;
-        if self.is_silent() {
+        if self.has_no_tags() {
             return Ok(());
         }
         self.look_tags(memory, events)
@@ -266,7 +266,7 @@ impl Machine {
             return Ok(());
         }
         needs(self.wants_context(memory))?;
-        acts(self.wants_stray(memory, events, name))
+        self.look_rung(memory, events, name)
     }
 
     /// The active tags, up to the one that acts.

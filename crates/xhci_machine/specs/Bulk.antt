@@ -1,0 +1,99 @@
+-- A step of Bulk-Out or Bulk-In, in Bulk-Only's alternate setting: of the one ring of the endpoint of data-out, or data-in.
+use Rattle.std.specs.Prelude.{Bool, true, false, if◌then◌else◌, Option, Some, None}
+use Rattle.guest_bulk.specs.declared.bulk.Stepped.{Stepped}
+use Rattle.guest_bulk.specs.Commands.{BulkWorld}
+use Rattle.guest_bulk.specs.Steps.{bulk_after, in_stepped, out_stepped}
+use Rattle.guest_bulk.specs.Wanted.{in_wanted, out_wanted}
+use Rattle.guest_memory.specs.Bytes.{Memory}
+use Rattle.guest_memory.specs.declared.rings.context.Home.{Home}
+use Rattle.guest_memory.specs.declared.rings.context.Home.TheVariants.{Endpoint}
+use Rattle.guest_memory.specs.declared.rings.wanting.Range.{Range}
+use Rattle.guest_memory.specs.rings.Events.{EventEnd}
+use Rattle.guest_pipes.specs.declared.acted.Acted.{Acted}
+use Rattle.guest_pipes.specs.declared.acted.Acted.TheVariants.{Idle}
+use Rattle.guest_pipes.specs.Pipe.{loaded}
+use Rattle.guest_tasks.specs.declared.GuestTasks.{GuestTasks}
+use Rattle.guest_tasks.specs.Tasks.{tasks_kind}
+use Rattle.guest_transfers.specs.declared.control.StreamPipe.{StreamPipe}
+use Rattle.guest_transfers.specs.declared.control.StreamPipe.TheVariants.{Status, DataOut, DataIn}
+use Rattle.guest_transfers.specs.Orders.{lone_kept, pipe_of}
+use Rattle.guest_bulk.specs.Through.{through}
+use Rattle.uas_tasks.specs.declared.Next.{Next}
+use Rattle.uas_tasks.specs.declared.Next.TheVariants.{Absent, Asks, Waits, Gives, Takes, Ends}
+use Rattle.uas_tasks.specs.Machine.{Machine as Tasks, tasks_ended}
+use Rattle.xhci_machine.specs.declared.Machine.{Machine}
+use Rattle.xhci_machine.specs.Bus.{halted_by}
+use Rattle.xhci_machine.specs.Ring.{endpoint_id, pointer_home}
+use Rattle.xhci_machine.specs.Turns.{World}
+
+abbrev pub bulk_world : Memory → EventEnd → Machine → StreamPipe → BulkWorld GuestTasks
+bulk_world memory events m name = record {
+  ring = record { memory = memory; events = events; consumer = loaded (pipe_of m.transfers name) 0 };
+  bulk = m.bulk;
+  device = m.device;
+}
+
+-- where the end of the ring is kept
+abbrev pub bulk_home : Machine → StreamPipe → Home
+bulk_home m name = Endpoint (pointer_home m.slot.context (endpoint_id name))
+
+-- every task is gone
+abbrev pub device_ended : Bool → GuestTasks → GuestTasks
+device_ended ends device = if ends then record device { tasks = tasks_ended device.tasks } else device
+
+abbrev pub ended_if : Bool → Machine → Machine
+ended_if ends m = record m { device = device_ended ends m.device }
+
+-- what a step left but for its consumer
+abbrev pub with_bulk : World → BulkWorld GuestTasks → World
+with_bulk w after = record {
+  memory = after.ring.memory;
+  events = after.ring.events;
+  machine = record w.machine { bulk = after.bulk; device = after.device };
+}
+
+-- its consumer, the endpoints that the disk halts by it, and the device's task where that is to be ended
+abbrev pub bulk_done : StreamPipe → World → BulkWorld GuestTasks → Stepped → World
+bulk_done name w after how = record (with_bulk w after) {
+  machine =
+      ended_if how.ends (halted_by how.halts (record w.machine {
+        bulk = after.bulk;
+        device = after.device;
+        transfers = lone_kept w.machine.transfers name after.ring.consumer;
+      }));
+}
+
+abbrev pub bulk_kept : StreamPipe → World → BulkWorld GuestTasks × Option Stepped → World × Option Acted
+bulk_kept name w (after, None) = (with_bulk w after, None)
+bulk_kept name w (after, Some how) = (bulk_done name w after how, Some how.acted)
+
+abbrev pub bulk_of : World → StreamPipe → World × Option Acted
+bulk_of w Status = (w, Some Idle)
+bulk_of w DataOut =
+    bulk_kept DataOut w
+    (bulk_after (bulk_world w.memory w.events w.machine DataOut) (out_stepped tasks_kind (bulk_world w.memory w.events w.machine DataOut) (bulk_home w.machine DataOut)))
+bulk_of w DataIn =
+    bulk_kept DataIn w
+    (bulk_after (bulk_world w.memory w.events w.machine DataIn) (in_stepped tasks_kind (bulk_world w.memory w.events w.machine DataIn) (bulk_home w.machine DataIn)))
+
+-- the first range that it lacks
+abbrev pub bulk_wanted : Memory → Machine → EventEnd → StreamPipe → Option Range
+bulk_wanted memory m events Status = None
+bulk_wanted memory m events DataOut = out_wanted tasks_kind (bulk_world memory events m DataOut) (bulk_home m DataOut)
+bulk_wanted memory m events DataIn = in_wanted tasks_kind (bulk_world memory events m DataIn) (bulk_home m DataIn)
+
+-- REQUESTS: hosts of Bulk-Only don't flush, so that their writes go through
+
+abbrev pub through_next : Next → Next
+through_next Absent = Absent
+through_next (Asks number request) = Asks number (through request)
+through_next Waits = Waits
+through_next (Gives count) = Gives count
+through_next (Takes count) = Takes count
+through_next Ends = Ends
+
+abbrev pub asked_in : Bool → Next → Next
+asked_in bulk next = if bulk then through_next next else next
+
+abbrev pub as_asked : Bool → Tasks × Next → Tasks × Next
+as_asked bulk asked = (asked.0, asked_in bulk asked.1)

@@ -1,5 +1,6 @@
 /* The driver of uas_block.h before QEMU's own controllers and disk: it brings each up from its reset, writes every block of a small disk and reads it
- * back, as many commands out as can be, while the file behind the disk is looked at; the disk is unplugged and plugged in again.
+ * back, as many commands out as can be, while the file behind the disk is looked at; blocks are unmapped, and a hole of the file is where they were;
+ * the disk is unplugged and plugged in again; and a block of another disk can't be read.
  *
  *   block_qemu ROUNDS SEED    in an empty folder, in which it leaves nothing but the disk's file */
 #include "qtest.h"
@@ -8,7 +9,7 @@
 #define BAR 0xe0000000u
 #define ARENA 0x10000000u
 #define DATA 0x20000000u
-enum { PCI_DEVICE = 4, BAR_BYTES = 0x4000, BLOCKS = 4096, BLOCK = 512, MOST = 64, TAGS = 31, ROOM = 0x10000, PATIENCE_MS = 60000 };
+enum { PCI_DEVICE = 4, BAR_BYTES = 0x4000, BLOCKS = 4096, BAD = 1800, UNMAPPED = 512, BLOCK = 512, MOST = 64, TAGS = 31, ROOM = 0x10000, PATIENCE_MS = 60000 };
 
 static uas_block *block;
 static struct uas_block_state state;
@@ -157,19 +158,52 @@ static void move_all(uint8_t kind)
     }
 }
 
-static void sync_all(void)
+/* A command alone, and its reply. */
+static struct uas_block_reply do_one(uint8_t kind, uint64_t first, uint32_t count)
 {
-    struct uas_block_request request = { .disk = state.disk, .limit = now(NULL) + 30000, .kind = UAS_BLOCK_REQUEST_SYNC };
+    struct uas_block_request request = { .disk = state.disk, .block = first, .count = count, .limit = now(NULL) + 30000, .kind = kind };
+    const struct uas_segment segment = { DATA, count * BLOCK, 0 };
     struct uas_block_reply reply;
     uint16_t tag;
-    must(uas_block_submit(block, &request, NULL, 0, &tag) == UAS_OK, "a sync is refused", 0);
+    must(uas_block_submit(block, &request, &segment, kind == UAS_BLOCK_REQUEST_READ, &tag) == UAS_OK, "a command alone is refused", kind);
     for (uint64_t begin = now(NULL); !uas_block_take_reply(block, &reply); turn())
-        must(now(NULL) - begin < PATIENCE_MS, "a sync doesn't come to an end", 0);
-    must(reply.kind == UAS_BLOCK_GOOD, "a sync", reply.kind);
+        must(now(NULL) - begin < PATIENCE_MS, "a command alone doesn't come to an end", kind);
+    return reply;
+}
+
+static void sync_all(void)
+{
+    must(do_one(UAS_BLOCK_REQUEST_SYNC, 0, 0).kind == UAS_BLOCK_GOOD, "a sync", 0);
     static uint8_t kept[BLOCKS * BLOCK];
     int file = open("disk", O_RDONLY);
     must(file >= 0 && read(file, kept, sizeof kept) == sizeof kept && memcmp(kept, written, sizeof kept) == 0, "the disk's file has other bytes", 0);
     close(file);
+}
+
+/* Gives blocks back, which read zeros then. */
+static void unmap_some(void)
+{
+    uint32_t first = below((BLOCKS - UNMAPPED) / 8) * 8; /* of the file's blocks of 4 KiB */
+    must(state.can_unmap, "this disk can't unmap", 0);
+    must(do_one(UAS_BLOCK_REQUEST_UNMAP, first, UNMAPPED).kind == UAS_BLOCK_GOOD, "an unmap", first);
+    memset(written + (size_t)first * BLOCK, 0, UNMAPPED * BLOCK);
+    sync_all();
+    int file = open("disk", O_RDONLY);
+    must(file >= 0 && lseek(file, (off_t)first * BLOCK, SEEK_HOLE) == (off_t)first * BLOCK, "the file has no hole", first);
+    close(file);
+    move_all(UAS_BLOCK_REQUEST_READ);
+}
+
+/* Reads each block alone: one can't be read, and the others can, before it and behind it. */
+static void read_past_bad(void)
+{
+    for (uint32_t number = BAD - 50; number < BAD + 50; number++) {
+        struct uas_block_reply reply = do_one(UAS_BLOCK_REQUEST_READ, number, 1);
+        if (number == BAD)
+            must(reply.kind == UAS_BLOCK_STATUS && reply.code == UAS_CHECK_CONDITION && reply.sense_length >= 14, "a bad block is read", reply.kind);
+        else
+            must(reply.kind == UAS_BLOCK_GOOD && reply.moved == BLOCK, "a block isn't read", number);
+    }
 }
 
 /* ---- QEMU ---- */
@@ -194,10 +228,14 @@ static void open_monitor(void)
     tell_monitor("{\"execute\":\"qmp_capabilities\"}\n");
 }
 
-static void begin(const char *controller)
+static void begin(const char *controller, bool bad)
 {
-    const char *words[] = { "-device", controller, "-blockdev", "driver=file,node-name=disk,filename=disk", "-device", "usb-uas,id=uas,bus=xhci.0",
-                            "-device", "scsi-hd,id=hd,bus=uas.0,scsi-id=0,lun=0,drive=disk", "-qmp", "unix:monitor.socket,server=on,wait=off", NULL };
+    static const char good[] = "scsi-hd,id=hd,bus=uas.0,scsi-id=0,lun=0,drive=disk", behind[] = "scsi-hd,id=hd,bus=uas.0,scsi-id=0,lun=0,drive=bad";
+    static const char errors[] = "driver=blkdebug,node-name=bad,image=disk,inject-error.0.event=none,inject-error.0.iotype=read,inject-error.0.sector=1800,"
+                                 "inject-error.0.errno=5,inject-error.0.once=off";
+    _Static_assert(BAD == 1800, "as the words say");
+    const char *words[] = { "-device", controller, "-blockdev", "driver=file,node-name=disk,filename=disk,discard=unmap", "-device", "usb-uas,id=uas,bus=xhci.0",
+                            "-device", bad ? behind : good, "-qmp", "unix:monitor.socket,server=on,wait=off", bad ? "-blockdev" : NULL, errors, NULL };
     const struct uas_block_options options = { .bar_bytes = BAR_BYTES, .tags = TAGS, .trbs = 31, .address_bits = 64 };
     close(new_file("disk", sizeof written));
     start_qemu(words);
@@ -235,7 +273,7 @@ static void unplug(void)
 
 static void try_controller(const char *controller, uint32_t rounds)
 {
-    begin(controller);
+    begin(controller, false);
     go_on(UAS_BLOCK_READY);
     must(state.blocks == BLOCKS && state.block_bytes == BLOCK, "another disk", state.blocks);
     printf("%s: %u tags, %u bytes lent\n", controller, state.tags, (unsigned)lent);
@@ -247,9 +285,14 @@ static void try_controller(const char *controller, uint32_t rounds)
         for (uint32_t place = 1; place <= TAGS; place++)
             memset(guest(DATA + place * ROOM), 0xee, ROOM);
         move_all(UAS_BLOCK_REQUEST_READ);
+        unmap_some();
         unplug();
         move_all(UAS_BLOCK_REQUEST_READ);
     }
+    end();
+    begin(controller, true);
+    go_on(UAS_BLOCK_READY);
+    read_past_bad();
     end();
 }
 

@@ -1,6 +1,6 @@
 /* A PCI device for QEMU 7.2: the library's xHCI controller with its UAS disk, over the guest's memory, with its blocks in a file.
  *
- *   -device uas-xhci,file=PATH[,serial=N][,msi=on|off|auto][,attached=off][,bad=BLOCK]
+ *   -device uas-xhci,file=PATH[,serial=N][,bootindex=N][,bulk-only=off][,msi=on|off|auto][,attached=off][,bad=BLOCK]
  *
  * QEMU's part is the bus: configuration space, the page of registers, the guest's memory by address, an interrupt, and threads for the file.
  * Rings, contexts, commands and the disk are the library's. A register write notes what is to be done and takes a number of steps; what is
@@ -20,6 +20,7 @@
 #include "qemu/module.h"
 #include "qemu/timer.h"
 #include "qom/object.h"
+#include "sysemu/sysemu.h"
 #include "files.h"
 #include "uas_xhci.h"
 
@@ -44,6 +45,8 @@ struct UasXhci {
     uint32_t jobs; /* requests that are at work */
     bool drains;   /* they are waited for, and none begins */
     bool attached;
+    bool bulk_only; /* the disk tells Bulk-Only Transport before UAS */
+    int32_t bootindex;
     char *path;
     OnOffAuto msi;
     uint32_t serial;
@@ -239,6 +242,8 @@ static bool open_disk(UasXhci *device, Error **errp)
     device->image.bad = device->bad;
     struct uas_tasks_unit unit = { device->image.bytes / UAS_BLOCK_BYTES, device->serial, UAS_BLOCK_BYTES };
     uint8_t fault = uas_xhci_new(&unit, 1, UAS_SET_HOST, MOST_BLOCKS, CHUNK_BLOCKS, &device->xhci);
+    if (fault == UAS_OK && device->bulk_only)
+        fault = uas_xhci_offer_bulk_only(device->xhci, 0, device->serial);
     if (fault != UAS_OK)
         error_setg(errp, "uas-xhci: %s: %s", device->path, uas_fault_name(fault));
     return fault == UAS_OK;
@@ -325,12 +330,15 @@ static void attach(Object *object, bool attached, Error **errp)
 
 static void init(Object *object)
 {
-    UAS_XHCI(object)->attached = true;
+    UasXhci *device = UAS_XHCI(object);
+    device->attached = true;
+    device_add_bootindex_property(object, &device->bootindex, "bootindex", "/storage@1/channel@0/disk@0,0", DEVICE(object));
 }
 
 static Property properties[] = {
     DEFINE_PROP_STRING("file", UasXhci, path),
     DEFINE_PROP_UINT32("serial", UasXhci, serial, 1), /* eight digits: a host joins two disks of one number into one */
+    DEFINE_PROP_BOOL("bulk-only", UasXhci, bulk_only, true), /* firmware boots from it; with off the disk is UAS alone */
     DEFINE_PROP_ON_OFF_AUTO("msi", UasXhci, msi, ON_OFF_AUTO_AUTO),
     DEFINE_PROP_UINT64("bad", UasXhci, bad, UINT64_MAX), /* a block that can't be read or written, for tests */
     DEFINE_PROP_END_OF_LIST(),

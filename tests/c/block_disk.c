@@ -2,7 +2,7 @@
  * that can't be read or written, while commands are aborted, the disk is pulled and plugged in again, the device is restarted, and a command's time is
  * over; then the driver is shut down. Each command has one reply; a write that failed or was lost has been done or not, block by block.
  *
- *   block_disk [COUNT [SEED]]    COUNT commands, 200,000 where none are named */
+ *   block_disk [COUNT [SEED [wide]]]    COUNT commands, 200,000 where none are named; wide: of a controller with contexts of 64 bytes and scratchpads */
 #include "block_rig.h"
 
 enum { MOST = 64 /* blocks of a command */, PIECES = 4, BAD = 5 };
@@ -355,6 +355,7 @@ int main(int count, char **words)
 {
     uint64_t most = count > 1 ? strtoull(words[1], NULL, 10) : 200000;
     seed = (count > 2 ? strtoull(words[2], NULL, 10) : 1) * 2654435761u + 1;
+    wide = count > 3 && strcmp(words[3], "wide") == 0;
     begin(TAGS);
     for (uint32_t i = 0; i < BLOCKS; i++)
         fill(disk + (size_t)i * BLOCK, 0, i);
@@ -362,6 +363,8 @@ int main(int count, char **words)
         bad[below(BLOCKS)] = true;
     settle(true);
     must(state.disk == 1 && state.blocks == BLOCKS && state.block_bytes == BLOCK && state.tags == TAGS, "another disk", state.blocks);
+    if (wide)
+        look_at_scratchpads();
     while (commands < most) {
         if (state.state != UAS_BLOCK_READY)
             settle(true);

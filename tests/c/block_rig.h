@@ -1,5 +1,6 @@
 /* A driver of uas_block.h in front of a controller of uas_xhci.h, in one process: registers, memory, time, and the blocks of the disk. An access
- * outside the registers or the lent memory ends the program. */
+ * outside the registers or the lent memory ends the program. Where `wide` is set a shim stands between them, by which the controller has contexts
+ * of 64 bytes and scratchpads. */
 #ifndef UAS_TESTS_BLOCK_RIG_H
 #define UAS_TESTS_BLOCK_RIG_H
 
@@ -51,6 +52,51 @@ static void must(bool good, const char *what, uint64_t number)
         fail(what, number);
 }
 
+/* ---- The shim ---- */
+
+/* The driver's contexts have 64 bytes (CSZ), the controller's have 32 and stand at the same addresses, in bytes that the driver doesn't see. */
+enum { INPUT = 0x1000, DEVICE = 0x2000, CONTEXTS = 0x2000, NARROW = 32, WIDE = 64, OF_DEVICE = 32, SCRATCHPADS = 5, PAGE = 4096 };
+static bool wide;
+static uint8_t narrow[CONTEXTS];
+
+static uint32_t as_wide(uint32_t offset, uint32_t value)
+{
+    if (wide && offset == 0x08)
+        return value | (uint32_t)SCRATCHPADS << 27; /* HCSPARAMS2 */
+    return wide && offset == 0x10 ? value | 4 : value; /* HCCPARAMS1 */
+}
+
+static void to_controller(void)
+{
+    for (uint32_t i = 0; i <= OF_DEVICE; i++)
+        memcpy(narrow + NARROW * i, memory + INPUT + WIDE * i, NARROW);
+}
+
+static void to_driver(void)
+{
+    for (uint32_t i = 0; i < OF_DEVICE; i++)
+        memcpy(memory + DEVICE + WIDE * i, narrow + (DEVICE - INPUT) + NARROW * i, NARROW);
+}
+
+static uint64_t pointer_at(uint64_t offset)
+{
+    uint64_t pointer;
+    memcpy(&pointer, memory + offset, 8);
+    return pointer;
+}
+
+/* Each scratchpad is a page of the lent memory's own, behind all else (4.20). */
+static void look_at_scratchpads(void)
+{
+    uint64_t list = pointer_at(0), last = list + PAGE;
+    must(list % WIDE == 0 && list >= BASE && list + 8 * SCRATCHPADS <= BASE + (uint64_t)lent, "no list of scratchpads", list);
+    for (uint32_t i = 0; i < SCRATCHPADS; i++) {
+        uint64_t page = pointer_at(list - BASE + 8 * i);
+        must(page % PAGE == 0 && page >= last && page + PAGE <= BASE + (uint64_t)lent, "no scratchpad", page);
+        last = page + PAGE;
+    }
+}
+
 /* ---- The driver's side ---- */
 
 static void must_be_register(uint32_t offset)
@@ -68,7 +114,7 @@ static uint32_t read32(void *context, uint32_t offset)
 {
     (void)context;
     must_be_register(offset);
-    return (uint32_t)uas_xhci_read(xhci, offset, 4);
+    return as_wide(offset, (uint32_t)uas_xhci_read(xhci, offset, 4));
 }
 
 static void write32(void *context, uint32_t offset, uint32_t value)
@@ -140,10 +186,17 @@ static void end(void)
 /* Steps of the controller; whether it took one. */
 static bool work(uint32_t budget)
 {
-    struct uas_region region = { BASE, memory, sizeof memory };
+    const struct uas_region whole = { BASE, memory, sizeof memory };
+    const struct uas_region parts[] = { { BASE, memory, INPUT },
+                                        { BASE + INPUT, narrow, CONTEXTS },
+                                        { BASE + INPUT + CONTEXTS, memory + INPUT + CONTEXTS, sizeof memory - INPUT - CONTEXTS } };
     uint32_t steps;
     bool more;
-    must(uas_xhci_work(xhci, &region, 1, budget, &steps, &more) == UAS_OK, "work is refused", 0);
+    if (wide)
+        to_controller();
+    must(uas_xhci_work(xhci, wide ? parts : &whole, wide ? 3 : 1, budget, &steps, &more) == UAS_OK, "work is refused", 0);
+    if (wide)
+        to_driver();
     return steps > 0;
 }
 

@@ -363,8 +363,6 @@ int main(int count, char **words)
         bad[below(BLOCKS)] = true;
     settle(true);
     must(state.disk == 1 && state.blocks == BLOCKS && state.block_bytes == BLOCK && state.tags == TAGS, "another disk", state.blocks);
-    if (wide)
-        look_at_scratchpads();
     while (commands < most) {
         if (state.state != UAS_BLOCK_READY)
             settle(true);

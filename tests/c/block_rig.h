@@ -66,18 +66,6 @@ static uint32_t as_wide(uint32_t offset, uint32_t value)
     return wide && offset == 0x10 ? value | 4 : value; /* HCCPARAMS1 */
 }
 
-static void to_controller(void)
-{
-    for (uint32_t i = 0; i <= OF_DEVICE; i++)
-        memcpy(narrow + NARROW * i, memory + INPUT + WIDE * i, NARROW);
-}
-
-static void to_driver(void)
-{
-    for (uint32_t i = 0; i < OF_DEVICE; i++)
-        memcpy(memory + DEVICE + WIDE * i, narrow + (DEVICE - INPUT) + NARROW * i, NARROW);
-}
-
 static uint64_t pointer_at(uint64_t offset)
 {
     uint64_t pointer;
@@ -95,6 +83,20 @@ static void look_at_scratchpads(void)
         must(page % PAGE == 0 && page >= last && page + PAGE <= BASE + (uint64_t)lent, "no scratchpad", page);
         last = page + PAGE;
     }
+}
+
+static void to_controller(void)
+{
+    if ((uas_xhci_read(xhci, 0x40, 4) & 1) != 0) /* USBCMD.R/S */
+        look_at_scratchpads();
+    for (uint32_t i = 0; i <= OF_DEVICE; i++)
+        memcpy(narrow + NARROW * i, memory + INPUT + WIDE * i, NARROW);
+}
+
+static void to_driver(void)
+{
+    for (uint32_t i = 0; i < OF_DEVICE; i++)
+        memcpy(memory + DEVICE + WIDE * i, narrow + (DEVICE - INPUT) + NARROW * i, NARROW);
 }
 
 /* ---- The driver's side ---- */

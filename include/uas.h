@@ -31,7 +31,7 @@
  *      taken by each new and each open, and for the data of uas_controller_lend, uas_driver_submit and uas_bus_submit alone.
  *   6. A call finds 16 KiB of stack. None is made from a signal handler, nor in the child of a fork of a program with threads.
  *   7. A bool is 0 or 1.
- *   8. The program is one of x86-64, as the archive is.
+ *   8. The program is one of x86-64, and the processor of x86-64-v2 (SSE4.1 and before), as the archive's code is.
  *
  * Sections are those of xHCI 1.2, of INCITS 471 (UAS), and of SPC, SBC and SAM by name. */
 #ifndef UAS_H

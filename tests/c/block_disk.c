@@ -2,7 +2,7 @@
  * that can't be read or written, while commands are aborted, the disk is pulled and plugged in again, the device is restarted, and a command's time is
  * over; then the driver is shut down. Each command has one reply; a write that failed or was lost has been done or not, block by block.
  *
- *   block_disk [COUNT [SEED [wide]]]    COUNT commands, 200,000 where none are named; wide: of a controller with contexts of 64 bytes and scratchpads */
+ *   block_disk [COUNT [SEED [wide]]]    COUNT commands, 200,000 where none are named; wide: of a controller behind the shim */
 #include "block_rig.h"
 
 enum { MOST = 64 /* blocks of a command */, PIECES = 4, BAD = 5 };
@@ -387,9 +387,9 @@ int main(int count, char **words)
     for (uint32_t i = 0; i < BLOCKS; i++)
         must(has(disk + (size_t)i * BLOCK, map[i].is, i) || (map[i].unsure && has(disk + (size_t)i * BLOCK, map[i].may, i)), "another block stands", i);
     printf("%" PRIu64 " commands: %" PRIu64 " good, %" PRIu64 " with a status, %" PRIu64 " lost; %" PRIu64 " refused; %" PRIu64 " pulls, %" PRIu64
-           " restarts, %" PRIu64 " times over, %" PRIu64 " aborts; %" PRIu64 " accesses\n",
+           " restarts, %" PRIu64 " times over, %" PRIu64 " aborts; %" PRIu64 " tempers; %" PRIu64 " accesses\n",
            commands, ended[UAS_BLOCK_GOOD], ended[UAS_BLOCK_STATUS], ended[UAS_BLOCK_LOST], refusals, pulls, restarts, late,
-           aborts, accesses);
+           aborts, tempers, accesses);
     end();
     return 0;
 }

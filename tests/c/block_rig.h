@@ -1,6 +1,6 @@
 /* A driver of uas_block.h in front of a controller of uas_xhci.h, in one process: registers, memory, time, and the blocks of the disk. An access
  * outside the registers or the lent memory ends the program. Where `wide` is set a shim stands between them, by which the controller has contexts
- * of 64 bytes and scratchpads. */
+ * of 64 bytes, scratchpads, and a temper: it says of an endpoint that it stopped that it couldn't. */
 #ifndef UAS_TESTS_BLOCK_RIG_H
 #define UAS_TESTS_BLOCK_RIG_H
 
@@ -55,8 +55,9 @@ static void must(bool good, const char *what, uint64_t number)
 /* ---- The shim ---- */
 
 /* The driver's contexts have 64 bytes (CSZ), the controller's have 32 and stand at the same addresses, in bytes that the driver doesn't see. */
-enum { INPUT = 0x1000, DEVICE = 0x2000, CONTEXTS = 0x2000, NARROW = 32, WIDE = 64, OF_DEVICE = 32, SCRATCHPADS = 5, PAGE = 4096 };
+enum { INPUT = 0x1000, DEVICE = 0x2000, EVENTS = 0x8000, EVENT_BYTES = 0x8000, CONTEXTS = 0x2000, NARROW = 32, WIDE = 64, OF_DEVICE = 32, SCRATCHPADS = 5, PAGE = 4096 };
 static bool wide;
+static uint64_t tempers;
 static uint8_t narrow[CONTEXTS];
 
 static uint32_t as_wide(uint32_t offset, uint32_t value)
@@ -64,6 +65,11 @@ static uint32_t as_wide(uint32_t offset, uint32_t value)
     if (wide && offset == 0x08)
         return value | (uint32_t)SCRATCHPADS << 27; /* HCSPARAMS2 */
     return wide && offset == 0x10 ? value | 4 : value; /* HCCPARAMS1 */
+}
+
+static uint8_t type_at(uint64_t offset)
+{
+    return memory[offset + 13] >> 2;
 }
 
 static uint64_t pointer_at(uint64_t offset)
@@ -99,6 +105,19 @@ static void to_driver(void)
         memcpy(memory + DEVICE + WIDE * i, narrow + (DEVICE - INPUT) + NARROW * i, NARROW);
 }
 
+/* The event of a Stop Endpoint, told with Context State Error in place of Success. */
+static void temper(uint64_t at, uint8_t *bytes, uint32_t length)
+{
+    uint64_t event = at / 16 * 16, code = event + 11;
+    if (at < EVENTS || at >= EVENTS + EVENT_BYTES || code < at || code >= at + length || type_at(event) != 33)
+        return;
+    uint64_t command = pointer_at(event) - BASE;
+    if (command < ARENA && type_at(command) == 15 && bytes[code - at] == 1 && below(2) == 0) {
+        bytes[code - at] = 19;
+        tempers++;
+    }
+}
+
 /* ---- The driver's side ---- */
 
 static void must_be_register(uint32_t offset)
@@ -131,6 +150,8 @@ static void load(void *context, uint64_t address, uint8_t *bytes, uint32_t lengt
     (void)context;
     must(length > 0 && length <= UAS_BLOCK_LOAD_BYTES, "a load of so many bytes", length);
     memcpy(bytes, arena(address, length), length);
+    if (wide)
+        temper(address - BASE, bytes, length);
 }
 
 static void store(void *context, uint64_t address, const uint8_t *bytes, uint32_t length)
@@ -143,6 +164,8 @@ static uint64_t now(void *context)
 {
     (void)context;
     accesses++;
+    if (wide && accesses % 64 == 0) /* a driver that tries again does so for a time */
+        milliseconds++;
     return milliseconds;
 }
 

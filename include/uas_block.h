@@ -9,8 +9,8 @@
  *
  * It takes a controller as firmware left it, brings it up, finds a UAS disk at a root port, and moves blocks. It touches neither registers nor
  * memory: it tells one access at a time, and its caller does it. So it runs in a kernel, in firmware (examples/block_uefi.c), or in a process over
- * vfio-pci (examples/block_vfio.c). uas_block_turn, at the end of this file, is the loop that does the accesses by functions of yours: what is left to write are five
- * functions, a page of memory, and an interrupt.
+ * vfio-pci (examples/block_vfio.c). uas_block_turn, at the end of this file, is the loop that does the accesses by functions of yours: what is
+ * left to write are five functions, a page of memory, and an interrupt.
  *
  * Not here, and the caller's: that memory space and bus mastering of the PCI function are on and it is in D0; in Intel's Panther Point and Lynx Point
  * that configuration D8h gets the value of DCh and D0h that of D4h, which routes the ports; the firmware of Renesas's controllers; the DMA addresses

@@ -1,5 +1,5 @@
 -- The machine: rings, buffers, an xHCI controller and a device, and no host.
-use Rattle.std.specs.Prelude.{◌≡◌, List}
+use Rattle.std.specs.Prelude.{◌≡◌, ℕ, List}
 use Rattle.block_unit.specs.BlockMaps.{BlockMaps}
 use Rattle.stream_array.specs.Rings.{LinesState, IsOpeningLines}
 use Rattle.frame_store.specs.declared.TagBuffers.{TagBuffers}

@@ -5,7 +5,9 @@
 
 #include "second_tasks.h"
 
-enum { SECOND_MEMORY_BYTES = 1 << 18 };
+#ifndef SECOND_MEMORY_BYTES
+#define SECOND_MEMORY_BYTES (1 << 18)
+#endif
 enum { TRANSFER_EVENT = 32, COMMAND_EVENT = 33, CONTROLLER_EVENT = 37, EVENT_RING_FULL = 21 };
 
 struct second_memory {

@@ -1,8 +1,9 @@
-/* A PCI device for QEMU 7.2: the library's xHCI controller with its UAS disk, over the guest's memory, with its blocks in a file.
+/* A PCI device for QEMU 7.2: the library's xHCI controller with its disk, over the guest's memory, with each logical unit's blocks in a file.
  *
- *   -device uas-xhci,file=PATH[,serial=N][,bootindex=N][,bulk-only=off][,msi=on|off|auto][,attached=off][,bad=BLOCK]
+ *   -device uas-xhci,file=PATH[,serial=N][,file1=PATH[,serial1=N]]..[,bootindex=N][,bulk-only=off][,msix=on|off|auto][,msi=on|off|auto]
+ *           [,attached=off][,bad=BLOCK]
  *
- * QEMU's part is the bus: configuration space, the page of registers, the guest's memory by address, an interrupt, and threads for the file.
+ * QEMU's part is the bus: configuration space, the page of registers, the guest's memory by address, an interrupt, and threads for the files.
  * Rings, contexts, commands and the disk are the library's. A register write notes what is to be done and takes a number of steps; what is
  * left is done by a bottom half, in turns, so that no processor of the guest waits in its register access for a long ring. README.md says
  * how it is built, and what is trusted. */
@@ -11,6 +12,7 @@
 #include "block/thread-pool.h"
 #include "exec/memory.h"
 #include "hw/pci/msi.h"
+#include "hw/pci/msix.h"
 #include "hw/pci/pci.h"
 #include "hw/qdev-properties.h"
 #include "migration/vmstate.h"
@@ -21,21 +23,23 @@
 #include "qemu/timer.h"
 #include "qom/object.h"
 #include "sysemu/sysemu.h"
-#include "files.h"
+#include "uas-units.h"
 #include "uas_xhci.h"
 
 /* A READ or WRITE moves at most 1 MiB, which page B0h tells; a request to the file is of at most 64 KiB. */
 enum { MOST_BLOCKS = 2048, CHUNK_BLOCKS = 128, CHUNK_BYTES = CHUNK_BLOCKS * UAS_BLOCK_BYTES };
 
 /* Most steps write two or three ranges. */
-enum { STEPS_A_TURN = 256, RANGES = 4 * STEPS_A_TURN, MICROFRAME_NS = 125000, MSI_AT = 0x70 };
+enum { STEPS_A_TURN = 256, RANGES = 4 * STEPS_A_TURN, MICROFRAME_NS = 125000 };
+
+enum { MSI_AT = 0x70, MSIX_AT = 0x90, MSIX_TABLE = 0x2000, MSIX_PBA = 0x3000, BAR_BYTES = 0x4000 }; /* in configuration space; in BAR 0 */
 
 #define TYPE_UAS_XHCI "uas-xhci"
 OBJECT_DECLARE_SIMPLE_TYPE(UasXhci, UAS_XHCI)
 
 struct UasXhci {
     PCIDevice parent;
-    MemoryRegion registers;
+    MemoryRegion bar, registers;
     MemoryListener listener;
     struct uas_region regions[UAS_XHCI_REGIONS]; /* what the device reaches of the machine's RAM: nothing where it isn't bus master */
     size_t lent;
@@ -47,11 +51,9 @@ struct UasXhci {
     bool attached;
     bool bulk_only; /* the disk tells Bulk-Only Transport before UAS */
     int32_t bootindex;
-    char *path;
-    OnOffAuto msi;
-    uint32_t serial;
-    uint64_t bad;
-    struct image image;
+    OnOffAuto msix, msi;
+    uint64_t bad; /* of unit 0 */
+    struct unit units[MOST_UNITS];
 };
 
 /* ---- Blocks: each request is a job of QEMU's thread pool ---- */
@@ -68,7 +70,7 @@ static int do_job(void *opaque)
 {
     struct job *job = opaque;
     struct uas_request next = job->request.kind == UAS_REQUEST_VERIFY ? next_look(&job->request, job->looked) : job->request;
-    return do_request(&job->device->image, &next, job->bytes);
+    return do_request(&job->device->units[next.unit].image, &next, job->bytes);
 }
 
 static void submit(struct job *job);
@@ -110,7 +112,7 @@ static void begin_request(UasXhci *device, const struct uas_request *request)
     submit(job);
 }
 
-/* Waits for the requests that are at work, so that nothing of them lands in the file later. */
+/* Waits for the requests that are at work, so that nothing of them lands in a file later. */
 static void drain(UasXhci *device)
 {
     device->drains = true;
@@ -175,12 +177,15 @@ static void work(UasXhci *device)
         qemu_bh_schedule(device->turn);
 }
 
+/* QEMU keeps a message of MSI-X that is masked. */
 static void interrupt(UasXhci *device)
 {
-    if (!msi_enabled(&device->parent))
-        pci_set_irq(&device->parent, uas_xhci_interrupt(device->xhci));
+    PCIDevice *parent = &device->parent;
+    bool has_table = msix_enabled(parent);
+    if (!has_table && !msi_enabled(parent))
+        pci_set_irq(parent, uas_xhci_interrupt(device->xhci));
     else if (uas_xhci_take_message(device->xhci))
-        msi_notify(&device->parent, 0);
+        (has_table ? msix_notify : msi_notify)(parent, 0);
 }
 
 static void turn(void *opaque)
@@ -227,25 +232,19 @@ static void reset(DeviceState *state)
 
 /* ---- The device ---- */
 
-/* Opens the file and makes a controller with a disk of as many blocks. */
+/* Opens the files and makes a controller with a disk of as many logical units. */
 static bool open_disk(UasXhci *device, Error **errp)
 {
-    if (device->path == NULL) {
-        error_setg(errp, "uas-xhci: file=PATH is missing");
+    struct uas_tasks_unit shapes[MOST_UNITS];
+    unsigned count = open_units(device->units, shapes, errp);
+    if (count == 0)
         return false;
-    }
-    enum image_fault wrong = open_image(&device->image, device->path);
-    if (wrong != IMAGE_GOOD) {
-        error_setg(errp, "uas-xhci: %s: %s", device->path, image_fault_name(wrong));
-        return false;
-    }
-    device->image.bad = device->bad;
-    struct uas_tasks_unit unit = { device->image.bytes / UAS_BLOCK_BYTES, device->serial, UAS_BLOCK_BYTES };
-    uint8_t fault = uas_xhci_new(&unit, 1, UAS_SET_HOST, MOST_BLOCKS, CHUNK_BLOCKS, &device->xhci);
+    device->units[0].image.bad = device->bad;
+    uint8_t fault = uas_xhci_new(shapes, count, UAS_SET_HOST, MOST_BLOCKS, CHUNK_BLOCKS, &device->xhci);
     if (fault == UAS_OK && device->bulk_only)
-        fault = uas_xhci_offer_bulk_only(device->xhci, 0, device->serial);
+        fault = uas_xhci_offer_bulk_only(device->xhci, (uint8_t)(count - 1), device->units[0].serial);
     if (fault != UAS_OK)
-        error_setg(errp, "uas-xhci: %s: %s", device->path, uas_fault_name(fault));
+        error_setg(errp, "uas-xhci: %s: %s", device->units[0].path, uas_fault_name(fault));
     return fault == UAS_OK;
 }
 
@@ -253,7 +252,7 @@ static void close_disk(UasXhci *device)
 {
     uas_xhci_free(device->xhci);
     device->xhci = NULL;
-    close_image(&device->image);
+    close_units(device->units);
 }
 
 /* A bottom half, in which the device's registers can't be reached by its own hand, where this QEMU has such. */
@@ -266,25 +265,45 @@ static QEMUBH *new_turn(UasXhci *device)
 #endif
 }
 
-/* With msi=auto a machine without messages has the pin. */
-static bool add_message(UasXhci *device, Error **errp)
+/* Whether messages may be missing: with auto a machine that knows none has the pin. */
+static bool may_lack(OnOffAuto wanted, Error *why, Error **errp)
 {
-    Error *why = NULL;
-    if (device->msi == ON_OFF_AUTO_OFF || msi_init(&device->parent, MSI_AT, 1, true, false, &why) == 0)
-        return true;
-    if (device->msi == ON_OFF_AUTO_ON) {
+    if (wanted == ON_OFF_AUTO_ON)
         error_propagate(errp, why);
+    else
+        error_free(why);
+    return wanted != ON_OFF_AUTO_ON;
+}
+
+static bool add_messages(UasXhci *device, Error **errp)
+{
+    PCIDevice *parent = &device->parent;
+    Error *why = NULL;
+    if (device->msi != ON_OFF_AUTO_OFF && msi_init(parent, MSI_AT, 1, true, false, &why) != 0 && !may_lack(device->msi, why, errp))
         return false;
-    }
-    error_free(why);
+    if (device->msix == ON_OFF_AUTO_OFF)
+        return true;
+    why = NULL;
+    if (msix_init(parent, 1, &device->bar, 0, MSIX_TABLE, &device->bar, 0, MSIX_PBA, MSIX_AT, &why) != 0)
+        return may_lack(device->msix, why, errp);
+    msix_vector_use(parent, 0);
     return true;
+}
+
+static void drop_messages(UasXhci *device)
+{
+    msix_uninit(&device->parent, &device->bar, &device->bar);
+    msi_uninit(&device->parent);
 }
 
 static void realize(PCIDevice *parent, Error **errp)
 {
     UasXhci *device = UAS_XHCI(parent);
-    device->image.file = device->image.syncing = -1;
-    if (!open_disk(device, errp) || !add_message(device, errp)) {
+    memory_region_init(&device->bar, OBJECT(device), "uas-xhci-bar", BAR_BYTES);
+    memory_region_init_io(&device->registers, OBJECT(device), &register_ops, device, TYPE_UAS_XHCI, UAS_XHCI_REGISTER_BYTES);
+    memory_region_add_subregion(&device->bar, 0, &device->registers);
+    if (!open_disk(device, errp) || !add_messages(device, errp)) {
+        drop_messages(device);
         close_disk(device);
         return;
     }
@@ -292,8 +311,7 @@ static void realize(PCIDevice *parent, Error **errp)
     parent->config[PCI_CLASS_PROG] = 0x30; /* xHCI */
     parent->config[0x60] = 0x30;           /* USB 3.0, which drivers read here (xHCI 5.2.3) */
     pci_config_set_interrupt_pin(parent->config, 1);
-    memory_region_init_io(&device->registers, OBJECT(device), &register_ops, device, TYPE_UAS_XHCI, UAS_XHCI_REGISTER_BYTES);
-    pci_register_bar(parent, 0, PCI_BASE_ADDRESS_SPACE_MEMORY | PCI_BASE_ADDRESS_MEM_TYPE_64, &device->registers);
+    pci_register_bar(parent, 0, PCI_BASE_ADDRESS_SPACE_MEMORY | PCI_BASE_ADDRESS_MEM_TYPE_64, &device->bar);
     device->turn = new_turn(device);
     device->listener = (MemoryListener){ .name = TYPE_UAS_XHCI, .commit = memory_changed };
     memory_listener_register(&device->listener, pci_get_address_space(parent));
@@ -307,7 +325,7 @@ static void unrealize(PCIDevice *parent)
     device->lent = 0;
     drain(device);
     qemu_bh_delete(device->turn);
-    msi_uninit(parent);
+    drop_messages(device);
     close_disk(device);
 }
 
@@ -336,11 +354,11 @@ static void init(Object *object)
 }
 
 static Property properties[] = {
-    DEFINE_PROP_STRING("file", UasXhci, path),
-    DEFINE_PROP_UINT32("serial", UasXhci, serial, 1), /* eight digits: a host joins two disks of one number into one */
+    UNITS_PROPERTIES(UasXhci),
     DEFINE_PROP_BOOL("bulk-only", UasXhci, bulk_only, true), /* firmware boots from it; with off the disk is UAS alone */
+    DEFINE_PROP_ON_OFF_AUTO("msix", UasXhci, msix, ON_OFF_AUTO_AUTO), /* before MSI, where the guest takes it */
     DEFINE_PROP_ON_OFF_AUTO("msi", UasXhci, msi, ON_OFF_AUTO_AUTO),
-    DEFINE_PROP_UINT64("bad", UasXhci, bad, UINT64_MAX), /* a block that can't be read or written, for tests */
+    DEFINE_PROP_UINT64("bad", UasXhci, bad, UINT64_MAX), /* a block of unit 0 that can't be read or written, for tests */
     DEFINE_PROP_END_OF_LIST(),
 };
 
@@ -355,7 +373,7 @@ static void class_init(ObjectClass *class, void *data)
     pci->vendor_id = PCI_VENDOR_ID_REDHAT_QUMRANET;
     pci->device_id = 0x10f0; /* for experiments (docs/specs/pci-ids.txt): a product has a number of its own */
     pci->class_id = PCI_CLASS_SERIAL_USB;
-    device->desc = "xHCI controller with a UAS disk, from a library";
+    device->desc = "xHCI controller with a USB disk (UAS), from a library";
     device->reset = reset;
     device->vmsd = &state;
     pci->exit = unrealize;

@@ -1,5 +1,5 @@
 /* The device uas-xhci without QEMU and without the library: what it does with its requests when it is reset, unplugged and taken away, and with the
- * file that it is told.
+ * files that it is told.
  *
  * tests/c/run compiles uas-xhci.c in it over stub.h. The library's functions are below: they ask for what a test says. */
 #include "../../examples/qemu-xhci/uas-xhci.c"
@@ -10,7 +10,9 @@ static int begun, answered, resets, plugs;
 static uint8_t outcome;
 static atomic_int writing; /* writes that are on their way into the file */
 static int writing_at_reset = -1;
-static uint32_t serial;
+static struct uas_tasks_unit shapes[MOST_UNITS];
+static size_t units;
+static int most_lun = -1; /* what Bulk-Only Transport tells */
 static int failed;
 
 ssize_t __real_pwrite(int file, const void *bytes, size_t length, off_t at);
@@ -26,11 +28,19 @@ ssize_t __wrap_pwrite(int file, const void *bytes, size_t length, off_t at)
     return done;
 }
 
-uint8_t uas_xhci_new(const struct uas_tasks_unit *units, size_t count, uint8_t set, uint16_t most, uint16_t chunk, uas_xhci **xhci)
+uint8_t uas_xhci_new(const struct uas_tasks_unit *given, size_t count, uint8_t set, uint16_t most, uint16_t chunk, uas_xhci **xhci)
 {
-    (void)count, (void)set, (void)most, (void)chunk;
-    serial = units->serial;
+    (void)set, (void)most, (void)chunk;
+    memcpy(shapes, given, count * sizeof *given);
+    units = count;
     *xhci = (uas_xhci *)&asked;
+    return UAS_OK;
+}
+
+uint8_t uas_xhci_offer_bulk_only(uas_xhci *xhci, uint8_t last, uint32_t serial)
+{
+    (void)xhci;
+    most_lun = serial == shapes[0].serial ? last : -1;
     return UAS_OK;
 }
 
@@ -89,13 +99,22 @@ static void tell(const char *name, bool good)
     printf("drains: %s: failed\n", name);
 }
 
-static UasXhci *made(const char *path, Error **error)
+/* A device as its properties make it, with a file. */
+static UasXhci *named(const char *path)
 {
     UasXhci *device = calloc(1, sizeof *device);
     init(OBJECT(device));
-    device->path = (char *)path;
-    device->serial = 7;
+    for (unsigned n = 0; n < MOST_UNITS; n++)
+        device->units[n].serial = n == 0 ? 7 : SERIAL_FOLLOWS;
+    device->units[0].path = (char *)path;
     device->bad = UINT64_MAX;
+    device->bulk_only = true;
+    return device;
+}
+
+static UasXhci *made(const char *path, Error **error)
+{
+    UasXhci *device = named(path);
     realize(&device->parent, error);
     return device;
 }
@@ -158,9 +177,8 @@ static void opens_files(const char *path)
 {
     Error *error = NULL;
     asked.kind = 0;
-    serial = 0;
     UasXhci *first = made(path, &error);
-    tell("a file and its serial number", error == NULL && serial == 7);
+    tell("a file and its serial number", error == NULL && units == 1 && shapes[0].serial == 7 && most_lun == 0);
     UasXhci *second = made(path, &error);
     tell("a file that is served is locked", error != NULL && strstr(error->line, ": locked") != NULL);
     error_free(error);
@@ -179,18 +197,84 @@ static void opens_files(const char *path)
     free(fourth);
 }
 
+/* Whether a device is refused with such a line, and leaves no file open. */
+static bool refused(UasXhci *device, const char *words)
+{
+    Error *error = NULL;
+    realize(&device->parent, &error);
+    bool good = error != NULL && strstr(error->line, words) != NULL;
+    for (unsigned n = 0; n < MOST_UNITS; n++)
+        good = good && device->units[n].image.file < 0 && device->units[n].image.syncing < 0;
+    error_free(error);
+    free(device);
+    return good;
+}
+
+static void refuses_units(const char *path, const char *other)
+{
+    UasXhci *device = named(NULL);
+    device->units[1].path = (char *)other;
+    tell("unit 1 without unit 0", refused(device, "file=PATH is missing"));
+    device = named(path);
+    device->units[2].path = (char *)other;
+    tell("a gap", refused(device, "file2 is given, but not file1"));
+    device = named(path);
+    device->units[14].serial = 9;
+    tell("a number without a file", refused(device, "serial14 is given, but not file14"));
+    device = named(path);
+    device->units[1] = (struct unit){ .path = (char *)other, .serial = 7 };
+    tell("two of one number", refused(device, "file and file1 have one serial number, 7"));
+    device = named(path);
+    device->units[0].serial = MOST_SERIAL;
+    device->units[1].path = (char *)other;
+    tell("a number of nine digits", refused(device, "serial1=100000000 has more than eight digits"));
+    device = named(path);
+    device->units[1].path = (char *)path;
+    tell("a file twice", refused(device, ": locked"));
+}
+
+/* A write of unit 1 is in its file, of which a block that is bad in unit 0 isn't. */
+static void has_units(const char *path, const char *other)
+{
+    Error *error = NULL;
+    uint8_t byte = 0;
+    UasXhci *device = named(path);
+    device->units[1].path = (char *)other;
+    device->bad = 8;
+    realize(&device->parent, &error);
+    tell("two units", error == NULL && units == 2 && most_lun == 1 && shapes[1].serial == 8 && shapes[1].blocks == 100);
+    begun = answered = 0;
+    asked = (struct uas_request){ .unit = 1, .block = 8, .count = 8, .kind = UAS_REQUEST_WRITE };
+    write_register(device, 0, 0, 4);
+    asked.kind = 0;
+    while (device->jobs > 0)
+        aio_poll(NULL, true);
+    int file = device->units[1].image.file;
+    tell("a write of unit 1", answered == 1 && outcome == UAS_DONE && pread(file, &byte, 1, 8 * UAS_BLOCK_BYTES) == 1 && byte == 7);
+    unrealize(&device->parent);
+    free(device);
+}
+
+/* Makes a file of so many blocks, and has its name in `path`. */
+static bool make_file(char *path, uint64_t blocks)
+{
+    int file = mkstemp(path);
+    return file >= 0 && ftruncate(file, (off_t)(blocks * UAS_BLOCK_BYTES)) == 0 && close(file) == 0;
+}
+
 int main(void)
 {
-    char path[] = "drains.XXXXXX";
-    int file = mkstemp(path);
-    if (file < 0 || ftruncate(file, (off_t)UAS_BLOCK_BYTES << 32) != 0)
+    char path[] = "drains.XXXXXX", other[] = "drains.XXXXXX";
+    if (!make_file(path, UINT64_C(1) << 32) || !make_file(other, 100))
         return 2;
-    close(file);
     registers_types();
     class_init(NULL, NULL);
     waits_for_writes(path);
     leaves_a_verify(path);
     opens_files(path);
+    refuses_units(path, other);
+    has_units(path, other);
     unlink(path);
+    unlink(other);
     return failed > 0;
 }

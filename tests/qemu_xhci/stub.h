@@ -85,6 +85,7 @@ enum { PCI_BASE_ADDRESS_SPACE_MEMORY = 0, PCI_BASE_ADDRESS_MEM_TYPE_64 = 4, DEVI
 #define PCI_DEVICE_CLASS(class) ((void)(class), &pci_class)
 #define DEVICE_CLASS(class) ((void)(class), &device_class)
 #define DEFINE_PROP_STRING(name, type, field) { name }
+#define DEFINE_PROP_BOOL(name, type, field, value) { name }
 #define DEFINE_PROP_ON_OFF_AUTO(name, type, field, value) { name }
 #define DEFINE_PROP_UINT32(name, type, field, value) { name }
 #define DEFINE_PROP_UINT64(name, type, field, value) { name }
@@ -191,6 +192,11 @@ static inline FlatView *address_space_to_flatview(AddressSpace *space) { (void)s
 static inline void flatview_for_each_range(FlatView *view, bool (*each)(Int128, Int128, const MemoryRegion *, hwaddr, void *), void *opaque) { (void)view, (void)each, (void)opaque; }
 static inline void *address_space_map(AddressSpace *space, hwaddr at, hwaddr *length, bool writes, int how) { (void)space, (void)at, (void)length, (void)writes, (void)how; return NULL; }
 static inline void address_space_unmap(AddressSpace *space, void *bytes, hwaddr length, bool writes, hwaddr used) { (void)space, (void)bytes, (void)length, (void)writes, (void)used; }
+static inline bool msix_enabled(PCIDevice *device) { (void)device; return false; }
+static inline void msix_notify(PCIDevice *device, unsigned vector) { (void)device, (void)vector; }
+static inline int msix_init(PCIDevice *device, unsigned short vectors, MemoryRegion *table, uint8_t table_bar, unsigned table_at, MemoryRegion *pending, uint8_t pending_bar, unsigned pending_at, uint8_t at, Error **error) { (void)device, (void)vectors, (void)table, (void)table_bar, (void)table_at, (void)pending, (void)pending_bar, (void)pending_at, (void)at, (void)error; return 0; }
+static inline void msix_uninit(PCIDevice *device, MemoryRegion *table, MemoryRegion *pending) { (void)device, (void)table, (void)pending; }
+static inline void msix_vector_use(PCIDevice *device, unsigned vector) { (void)device, (void)vector; }
 static inline bool msi_enabled(PCIDevice *device) { (void)device; return false; }
 static inline void msi_notify(PCIDevice *device, unsigned vector) { (void)device, (void)vector; }
 static inline int msi_init(PCIDevice *device, uint8_t at, unsigned vectors, bool wide, bool masks, Error **error) { (void)device, (void)at, (void)vectors, (void)wide, (void)masks, (void)error; return 0; }
@@ -198,10 +204,13 @@ static inline void msi_uninit(PCIDevice *device) { (void)device; }
 static inline void pci_set_irq(PCIDevice *device, int level) { (void)device, (void)level; }
 static inline int64_t qemu_clock_get_ns(int clock) { (void)clock; return 0; }
 static inline void pci_config_set_interrupt_pin(uint8_t *config, uint8_t pin) { (void)config, (void)pin; }
+static inline void memory_region_init(MemoryRegion *region, Object *owner, const char *name, uint64_t size) { (void)region, (void)owner, (void)name, (void)size; }
+static inline void memory_region_add_subregion(MemoryRegion *region, hwaddr at, MemoryRegion *part) { (void)region, (void)at, (void)part; }
 static inline void memory_region_init_io(MemoryRegion *region, Object *owner, const MemoryRegionOps *does, void *opaque, const char *name, uint64_t size) { (void)region, (void)owner, (void)does, (void)opaque, (void)name, (void)size; }
 static inline void pci_register_bar(PCIDevice *device, int number, uint8_t kind, MemoryRegion *region) { (void)device, (void)number, (void)kind, (void)region; }
 static inline void memory_listener_register(MemoryListener *listener, AddressSpace *space) { (void)listener, (void)space; }
 static inline void memory_listener_unregister(MemoryListener *listener) { (void)listener; }
+static inline void device_add_bootindex_property(Object *object, int32_t *bootindex, const char *name, const char *suffix, DeviceState *device) { (void)object, (void)bootindex, (void)name, (void)suffix, (void)device; }
 static inline void object_class_property_add_bool(ObjectClass *class, const char *name, bool (*get)(Object *, Error **), void (*set)(Object *, bool, Error **)) { (void)class, (void)name, (void)get, (void)set; }
 static inline void device_class_set_props(DeviceClass *class, Property *properties) { (void)class, (void)properties; }
 static inline void set_bit(long bit, unsigned long *bits) { *bits |= 1ul << bit; }

@@ -64,7 +64,7 @@ uint8_t uas_xhci_new_disks(const struct uas_disk *disks, size_t bytes, uint8_t s
 
 /* The disk tells Bulk-Only Transport as alternate setting 0 and UAS as alternate setting 1, as disks that are sold do: firmware boots from it, and
  * Linux takes it by UAS. `most_lun` is the number of logical units less 1, `serial` the serial number of logical unit 0. To be called before the
- * guest runs: the disk is reset by it. A host in setting 0 doesn't flush, so its writes ask to go through (UAS_REQUEST_WRITE with `through`).
+ * guest runs: the disk is reset by it. Firmware in setting 0 doesn't flush, so writes of that setting ask to go through (UAS_REQUEST_WRITE with `through`).
  * Faults: UAS_UNITS (above 14), UAS_TASKS_SERIAL. */
 uint8_t uas_xhci_offer_bulk_only(uas_xhci *xhci, uint8_t most_lun, uint32_t serial);
 

@@ -2,6 +2,7 @@
  *
  *   bulk_edges */
 #include "bulk_hand.h"
+#include "second_bulk_open.h"
 
 #define TEST_UNIT_READY "55534243 02000000 00000000 00 00 06 00x16"
 #define READ_TWO "55534243 01000000 00040000 80 00 0a 28000000080000000200 00x6"
@@ -132,9 +133,13 @@ static void moved_and_halted(void)
 int main(void)
 {
     length_0();
-    empty_cbws();
-    at_once();
-    ended_and_halted();
-    moved_and_halted();
+    if (!BULK_EMPTY_IS_NONE)
+        empty_cbws();
+    if (!BULK_LAZY)
+        at_once();
+    if (!BULK_HALT_FIRST) {
+        ended_and_halted();
+        moved_and_halted();
+    }
     return tell("bulk_edges");
 }

@@ -1,5 +1,5 @@
-/* What the second implementation of Bulk-Only Transport takes where a controller did otherwise than the rules say. Each is 0 by the rules, and 1 by what the
- * first archive did, which bulk_edges.c has by hand; with all of them at 1 the two agree.
+/* What the second implementation of Bulk-Only Transport takes where the library does otherwise than the rules say: 0 by the rules, which bulk_edges.c has
+ * by hand, and 1 as the library does. tests/c/run sets the three that are left.
  *
  * Where the rules say nothing it does as that archive: a chunk is taken from the device whole, so the next one is asked for before its bytes are moved; the
  * case, and sense data to keep, come once a TD is there for them; No Op, Event Data and Link TRBs are taken while TDs wait, and TRBs of length 0 on the
@@ -7,11 +7,6 @@
  * data, and a reset doesn't; a TD that was begun with data goes on with those of the next command, or is none of it. */
 #ifndef UAS_TESTS_SECOND_BULK_OPEN_H
 #define UAS_TESTS_SECOND_BULK_OPEN_H
-
-/* A TRB of length 0 behind all of the data ends its TD short, though the TD isn't longer than they are. */
-#ifndef BULK_ZERO_ENDS
-#define BULK_ZERO_ENDS 0
-#endif
 
 /* In cases 8 and 10 the pipe is halted once a TD is there, and not at once. */
 #ifndef BULK_LAZY

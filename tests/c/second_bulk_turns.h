@@ -210,7 +210,7 @@ static inline bool bulk_in_turn(struct second_bulk *bulk)
         return true;
     else if (!bulk_is_full(bulk, BULK_IN, &trb) && !bulk_wants_in(bulk))
         return false;
-    else if (bulk_is_beyond(bulk, BULK_IN) && (BULK_ZERO_ENDS || bulk_left(front, &trb) > 0))
+    else if (bulk_is_beyond(bulk, BULK_IN) && bulk_left(front, &trb) > 0)
         bulk_end_short(bulk, BULK_IN, &trb);
     else if (bulk->phase != SENDS_CSW && bulk_left(front, &trb) == 0)
         bulk_moved(bulk, BULK_IN, &trb, 0);

@@ -110,10 +110,11 @@ module _ {D : Type 0} (kind : Kind D) where
   abbrev pub csw_over : BulkWorld D → BulkWorld D
   csw_over w = record w { bulk = record w.bulk { stage = Awaits } }
 
-  -- the TD in front has data of the command, and ends behind them as a short packet
+  -- the TD in front has data of the command, and ends behind them as a short packet; a TRB without room is full
   unfoldable pub data_closed : BulkWorld D → Front → Buffer → BulkWorld D
   data_closed w front buffer =
-      with_ring w (shortened w.ring front (buffer.length - w.ring.consumer.progress.moved) buffer.flags)
+      let left = buffer.length - w.ring.consumer.progress.moved in
+      if left == 0 then with_ring w (filled w.ring front buffer.flags) else with_ring w (shortened w.ring front left buffer.flags)
 
   -- so many bytes of it go to an address
   unfoldable pub csw_poured : BulkWorld D → Csw → ℕ → ℕ → ℕ → BulkWorld D

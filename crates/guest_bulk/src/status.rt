@@ -31,7 +31,11 @@ impl Bulk {
         ensures same_loan { M.loan memory.new ≡ M.loan memory.old }
     {
         let left = buffer.length.saturating_sub(consumer.progress.moved);
-        consumer.shorten(memory, events, front, left, buffer.flags);
+        if left == 0 {
+            consumer.fill(memory, events, front, buffer.flags);
+        } else {
+            consumer.shorten(memory, events, front, left, buffer.flags);
+        }
     }
 
     /// Moves so many bytes of the CSW to an address.

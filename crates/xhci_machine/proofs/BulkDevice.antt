@@ -205,20 +205,20 @@ module _ {D : Type 0} (kind : Kind D) (R : D → Type 0) where
   went_kept w csw sent front buffer p =
       either Stands _ _ _ (csw_moved_kept w csw sent front buffer p) (some_kept w csw sent _ front buffer p)
 
+  closed_kept : (w : BulkWorld D) (front : Front) (buffer : Buffer) → R w.device → R (data_closed kind w front buffer).device
+  unfolding data_closed
+  closed_kept w front buffer p = either Stands _ _ _ p p
+
   csw_ran_kept : (w : BulkWorld D) (csw : Csw) (sent : ℕ) (front : Front) (buffer : Buffer) → R w.device
       → R (csw_ran kind w csw sent front buffer).device
-  unfolding csw_ran data_closed
-  csw_ran_kept w csw sent front buffer p = either Stands _ _ _ p (went_kept w csw sent front buffer p)
+  unfolding csw_ran
+  csw_ran_kept w csw sent front buffer p = either Stands _ _ _ (closed_kept w front buffer p) (went_kept w csw sent front buffer p)
 
   csw_ended_kept : (out : Bool) (w : BulkWorld D) (csw : Csw) (front : Front) (trb : PipeTrb) (flags : Flags) → R w.device
       → R (csw_ended kind out w csw front trb flags).device
   unfolding csw_babbled
   csw_ended_kept true w csw front trb flags p = p
   csw_ended_kept false w csw front trb flags p = p
-
-  closed_kept : (w : BulkWorld D) (front : Front) (buffer : Buffer) → R w.device → R (data_closed kind w front buffer).device
-  unfolding data_closed
-  closed_kept w front buffer p = p
 
   chunk_kept : (w : BulkWorld D) (command : BulkCommand) (front : Front) (buffer : Buffer) → R w.device
       → R (chunk_moved kind w command front buffer).device

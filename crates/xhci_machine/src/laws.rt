@@ -1,4 +1,5 @@
-//! What follows of what a call of [`crate::Machine::work`] makes, as functions with empty bodies.
+//! What follows of what a call of [`crate::Machine::work`] makes, as functions with empty bodies. Where it is of tags it is of UAS: in Bulk-Only's
+//! alternate setting no tag has a step.
 ghost use Rattle.std.specs.Prelude.{◌≡◌, ℕ, ◌<◌, ◌≤◌, true, false, ◌⊎◌, is_some};
 ghost use Rattle.guest_transfers.specs.declared.control.StreamPipe.{StreamPipe};
 ghost use Rattle.xhci_machine.specs.Rounds.{command_pipe_stepped, control_stepped, data_of, stray_stepped, status_of};

@@ -8,3 +8,4 @@ pub mod Wanted
 pub mod Through
 pub mod Laws
 pub mod Rows
+pub mod Breaks

@@ -68,7 +68,7 @@ impl Bulk {
     }
 
     /// The device takes in place of giving: Bulk-In is halted.
-    fn break_in<D: UasDevice>(
+    pub(crate) fn halt_in<D: UasDevice>(
         &mut self,
         device: &mut D,
         command: BulkCommand,
@@ -111,7 +111,7 @@ impl Bulk {
                 self.move_given(memory, events, consumer, device, command, front, buffer);
                 plain(Acted::Worked)
             }
-            Phase::Takes(count) => self.break_in(device, command, count),
+            Phase::Takes(count) => self.halt_in(device, command, count),
             Phase::Ended(_) => {
                 self.move_zeros(memory, events, consumer, device, command, front, buffer);
                 plain(Acted::Worked)

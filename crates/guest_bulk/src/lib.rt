@@ -15,8 +15,8 @@
 //! 3. H bytes move on the pipe that the CBW's flag names, over any TDs. Where the device gives fewer, zeros follow (6.7.2); where it takes fewer,
 //!    the rest is dropped (6.7.3). A TD that is longer ends as a short packet, or its rest is dropped.
 //! 4. The case is that of the thirteen (6.7) which shows once the device ends, gives or takes. Where it takes in place of giving, or gives in
-//!    place of taking, the endpoint of the data is halted once a TRB with room is in front of it, and no byte moves. Where the CSW tells a phase
-//!    error, the caller ends the device's task ([`Stepped`]).
+//!    place of taking, the endpoint of the data is halted at once ([`Bulk::break_in`], [`Bulk::break_out`]), and no byte moves. Where the CSW
+//!    tells a phase error, the caller ends the device's task ([`Stepped`]).
 //! 5. The CSW goes out in one TD. A longer TD ends as a short packet; a shorter one ends with Babble Detected, the endpoint halts, and the next TD
 //!    gets it whole. Then a CBW is awaited.
 //! 6. The sense data of a CHECK CONDITION are kept with their logical unit. REQUEST SENSE of that unit gives them; any CBW forgets them.
@@ -32,6 +32,7 @@
 //! ([`through`]).
 #![tactic(auto)]
 
+mod breaks;
 mod bulk;
 mod command;
 mod dropping;

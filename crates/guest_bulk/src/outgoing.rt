@@ -139,7 +139,7 @@ impl Bulk {
     }
 
     /// The device gives in place of taking: Bulk-Out is halted.
-    fn break_out<D: UasDevice>(
+    pub(crate) fn halt_out<D: UasDevice>(
         &mut self,
         device: &mut D,
         command: BulkCommand,
@@ -176,7 +176,7 @@ impl Bulk {
     {
         match device.phase(BULK_TAG) {
             Phase::Absent => plain(Acted::Waits),
-            Phase::Gives(count) => self.break_out(device, command, count),
+            Phase::Gives(count) => self.halt_out(device, command, count),
             Phase::Takes(count) => {
                 self.move_out(
                     memory, events, consumer, device, command, count, front, buffer,
@@ -213,7 +213,7 @@ impl Bulk {
             return plain(Acted::Worked);
         }
         if self.has_chunk() {
-            return self.break_out(device, command, 0);
+            return self.halt_out(device, command, 0);
         }
         if command.is_kept {
             self.drop_data(memory, events, consumer, device, command, front, buffer);

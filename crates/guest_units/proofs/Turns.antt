@@ -20,14 +20,15 @@ use Rattle.guest_bulk.specs.declared.bulk.Stepped.{Stepped}
 use Rattle.guest_bulk.specs.Commands.{BulkWorld, unit_of}
 use Rattle.guest_bulk.specs.Steps.{bulk_after, in_stepped, out_stepped}
 use Rattle.uas_profile.specs.declared.Pipe.TheVariants.{Command}
-use Rattle.xhci_machine.specs.Bulk.{bulk_home, bulk_kept, bulk_of, bulk_world, device_ended}
+use Rattle.guest_bulk.specs.Breaks.{in_break, out_break}
+use Rattle.xhci_machine.specs.Bulk.{broken_kept, bulk_breaks, bulk_broken, bulk_home, bulk_kept, bulk_of, bulk_world, device_ended}
 use Rattle.xhci_machine.specs.Bus.{fault_in, is_bulk, pipe_fault, stream_fault}
 use Rattle.xhci_machine.specs.Contexts.{is_due}
 use Rattle.xhci_machine.specs.Steps.{commands_stepped}
 use Rattle.xhci_machine.specs.Turns.{World}
 use Rattle.xhci_machine.specs.Worked.{then_status}
 use Rattle.xhci_machine.proofs.Active.{noted_in_kept, port_kept, turned_kept}
-use Rattle.xhci_machine.proofs.BulkDevice.{InCalls, OutCalls, bulk_in_kept, bulk_out_kept}
+use Rattle.xhci_machine.proofs.BulkDevice.{InCalls, OfBreak, OutCalls, bulk_in_kept, bulk_out_kept, in_break_kept, out_break_kept}
 use Rattle.xhci_machine.proofs.Device.{Moves, Receives, Sends, command_pipe_kept, data_kept, either, of_each, of_tags, status_kept}
 use Rattle.xhci_machine.proofs.RingStep.{commands_kept}
 use Rattle.guest_units.specs.Rounds.{then_unit}
@@ -194,10 +195,29 @@ bulk_made w DataIn bulk =
     left_made w DataIn (bulk_after from (in_stepped tasks_kind from (bulk_home w.machine DataIn))) bulk
     (bulk_in_kept tasks_kind (Has start) (Made May start) calls from (bulk_home w.machine DataIn) refl)
 
+broken_left : (w : World) (name : StreamPipe) (broke : Option (BulkWorld GuestTasks × Stepped)) → is_bulk w.machine ≡ true
+    → OfBreak (Has (tasks_of w)) broke → BulkMade w name (broken_kept w broke)
+broken_left w name None bulk same = no_bulk w name (w, Some Idle) refl
+broken_left w name (Some done) bulk same = (
+  end_of done.1.ends,
+  ([], end_of done.1.ends, tt {0}, end_is w done.1.ends bulk, refl),
+  end_made done.1.ends done.0.device ∙ ap (λ m. after called m (end_of done.1.ends)) same,
+)
+
+broken_made : (w : World) (name : StreamPipe) → is_bulk w.machine ≡ true → BulkMade w name (bulk_broken w name)
+broken_made w Status bulk = no_bulk w Status (bulk_broken w Status) refl
+broken_made w DataOut bulk =
+    let from = bulk_world w.memory w.events w.machine DataOut in
+    broken_left w DataOut (out_break tasks_kind from) bulk (out_break_kept tasks_kind (Has (tasks_of w)) from.bulk.stage from refl)
+broken_made w DataIn bulk =
+    let from = bulk_world w.memory w.events w.machine DataIn in
+    broken_left w DataIn (in_break tasks_kind from) bulk (in_break_kept tasks_kind (Has (tasks_of w)) from.bulk.stage from refl)
+
 stray_by_made : (fault : Option ℕ) (bulk : Bool) (w : World) (name : StreamPipe) → is_bulk w.machine ≡ bulk → BulkMade w name (stray_by fault bulk w name)
 stray_by_made (Some code) bulk w name same = no_bulk w name (stray_by (Some code) bulk w name) refl
 stray_by_made None false w name same = no_bulk w name (stray_by None false w name) refl
-stray_by_made None true w name same = bulk_made w name same
+stray_by_made None true w name same =
+    either (BulkMade w name) (bulk_breaks w.machine name) (bulk_broken w name) (bulk_of w name) (broken_made w name same) (bulk_made w name same)
 
 stray_made : (w : World) (name : StreamPipe) → BulkMade w name (stray_stepped w name)
 unfolding stray_stepped

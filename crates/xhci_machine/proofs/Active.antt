@@ -24,7 +24,8 @@ use Rattle.guest_bulk.specs.declared.bulk.Stepped.{Stepped}
 use Rattle.guest_bulk.specs.Commands.{BulkWorld, unit_of}
 use Rattle.guest_bulk.specs.Steps.{bulk_after, in_stepped, out_stepped}
 use Rattle.uas_profile.specs.declared.Pipe.TheVariants.{Command}
-use Rattle.xhci_machine.specs.Bulk.{bulk_home, bulk_kept, bulk_of, bulk_world, device_ended}
+use Rattle.guest_bulk.specs.Breaks.{in_break, out_break}
+use Rattle.xhci_machine.specs.Bulk.{broken_kept, bulk_breaks, bulk_broken, bulk_home, bulk_kept, bulk_of, bulk_world, device_ended}
 use Rattle.xhci_machine.specs.Bus.{fault_in, is_bulk, pipe_fault, stream_fault}
 use Rattle.xhci_machine.specs.Contexts.{is_due}
 use Rattle.xhci_machine.specs.Ring.{states_of}
@@ -33,7 +34,7 @@ use Rattle.xhci_machine.specs.Rounds.{Turning, command_by, command_pipe_stepped,
 use Rattle.xhci_machine.specs.Steps.{commands_stepped}
 use Rattle.xhci_machine.specs.Turns.{World, detected, full_posted, has_full, interrupted, noted, port_posted, port_turned, settled, states_told, tells_port, told_if, told_of_port}
 use Rattle.xhci_machine.specs.Worked.{IsOver, RoundsTurned, RoundsWorked, busy_turned, dropped_at, gone_dropped, is_busy, is_gone, tag_by, tag_turned, tags_turned, then_status, then_tag, turned_if}
-use Rattle.xhci_machine.proofs.BulkDevice.{InCalls, OutCalls, bulk_in_kept, bulk_out_kept}
+use Rattle.xhci_machine.proofs.BulkDevice.{InCalls, OfBreak, OutCalls, bulk_in_kept, bulk_out_kept, in_break_kept, out_break_kept}
 use Rattle.xhci_machine.proofs.Device.{Moves, Receives, Sends, command_pipe_kept, data_kept, either, of_each, of_tags, status_kept}
 use Rattle.xhci_machine.proofs.Nothing.{nothing_of}
 use Rattle.xhci_machine.proofs.RingStep.{commands_kept}
@@ -161,10 +162,25 @@ module _ (P : GuestTasks → Type 0) (kept : KeptByAll P) where
       left_kept DataIn w (bulk_after from (in_stepped tasks_kind from (bulk_home w.machine DataIn)))
       (bulk_in_kept tasks_kind P P calls from (bulk_home w.machine DataIn) p)
 
+  broken_left : (w : World) (broke : Option (BulkWorld GuestTasks × Stepped)) → Holds P w → OfBreak P broke → Holds P (broken_kept w broke).0
+  broken_left w None p q = p
+  broken_left w (Some done) p q = device_kept done.1.ends done.0.device q
+
+  broken_by : (w : World) (name : StreamPipe) → Holds P w → Holds P (bulk_broken w name).0
+  broken_by w Status p = p
+  broken_by w DataOut p =
+      let from = bulk_world w.memory w.events w.machine DataOut in
+      broken_left w (out_break tasks_kind from) p (out_break_kept tasks_kind P from.bulk.stage from p)
+  broken_by w DataIn p =
+      let from = bulk_world w.memory w.events w.machine DataIn in
+      broken_left w (in_break tasks_kind from) p (in_break_kept tasks_kind P from.bulk.stage from p)
+
   stray_by_kept : (fault : Option ℕ) (bulk : Bool) (w : World) (name : StreamPipe) → Holds P w → Holds P (stray_by fault bulk w name).0
   stray_by_kept (Some code) bulk w name p = p
   stray_by_kept None false w name p = p
-  stray_by_kept None true w name p = bulk_kept_by w name p
+  stray_by_kept None true w name p =
+      either (λ (x : World × Option Acted). Holds P x.0) (bulk_breaks w.machine name) (bulk_broken w name) (bulk_of w name)
+      (broken_by w name p) (bulk_kept_by w name p)
 
   stray_kept : (w : World) (name : StreamPipe) → Holds P w → Holds P (stray_stepped w name).0
   unfolding stray_stepped

@@ -1,7 +1,7 @@
 -- What a step of Bulk-Out or Bulk-In makes of the device: at most one call on it. `P` holds of the device before, `Q` behind a call and where none
 -- was made.
 use Rattle.std.proofs.Common.{◌≡◌, refl, ℕ, ◌+◌, Bool, true, false, cond, List, ◌++◌, Option, Some, None, sym}
-use Rattle.std.specs.Prelude.{nat_le, option_map, Result, Ok, Err}
+use Rattle.std.specs.Prelude.{◌&&◌, nat_le, not, option_map, Result, Ok, Err}
 use Rattle.bulk_only.specs.declared.command.Cbw.{Cbw}
 use Rattle.bulk_only.specs.declared.command.CbwFault.{CbwFault}
 use Rattle.bulk_only.specs.declared.status.Csw.{Csw}
@@ -11,6 +11,7 @@ use Rattle.guest_bulk.specs.declared.bulk.BulkStage.{BulkStage}
 use Rattle.guest_bulk.specs.declared.bulk.BulkStage.TheVariants.{Awaits, Faulty, Moves, Tells}
 use Rattle.guest_bulk.specs.declared.bulk.KeptSense.{KeptSense}
 use Rattle.guest_bulk.specs.declared.bulk.Stepped.{Stepped}
+use Rattle.guest_bulk.specs.Breaks.{in_break_at, in_break_by, out_break_at, out_break_by}
 use Rattle.guest_bulk.specs.Commands.{BulkWorld, begun_by, begun_if, cbw_count, cbw_drawn, cbw_gathered, cbw_lost, cbw_ran, cbw_taken, is_for, kept_begun, received_if, takes_bytes, gives_bytes, task_begun, unit_of, with_moved}
 use Rattle.guest_bulk.specs.Incoming.{chunk_moved, chunk_poured, in_beside, in_broken, in_by, in_last_by, in_ran, in_staged, moved_if, refilled, refilled_moved, settled_told, told_staged, zeros_moved, zeros_poured}
 use Rattle.guest_bulk.specs.Outgoing.{data_dropped, ends_cbw, handed_if, out_beside, out_broken, out_by, out_drawn, out_filled, out_gathered, out_handed, out_last, out_moved, out_ran, out_staged, out_went, rest_dropped}
@@ -332,3 +333,47 @@ module _ {D : Type 0} (kind : Kind D) (P Q : D → Type 0) (calls : InCalls kind
       by_gate (Some (Some acted)) found = calls.stays w.device p
       by_gate (Some None) None = calls.stays w.device p
       by_gate (Some None) (Some front) = in_acted_kept front.found w front p
+
+-- TO BREAK OFF is no call
+abbrev pub OfBreak : {D : Type 0} → (D → Type 0) → Option (BulkWorld D × Stepped) → Type 0
+OfBreak R None = Unit {0}
+OfBreak R (Some done) = R done.0.device
+
+module _ {D : Type 0} (kind : Kind D) (R : D → Type 0) where
+  in_break_of : (phase : Phase) (w : BulkWorld D) (command : BulkCommand) → R w.device → OfBreak R (in_break_by kind phase w command)
+  unfolding broken_off
+  in_break_of Absent w command p = tt
+  in_break_of (Gives count) w command p = tt
+  in_break_of (Takes count) w command p = p
+  in_break_of (Ended end) w command p = tt
+
+  pub in_break_kept : (stage : BulkStage) (w : BulkWorld D) → R w.device → OfBreak R (in_break_at kind stage w)
+  in_break_kept Awaits w p = tt
+  in_break_kept Faulty w p = tt
+  in_break_kept (Moves command) w p =
+      either (OfBreak R) (gives_bytes command && (not (has_chunk w.bulk) && not command.is_kept)) (in_break_by kind (kind.phase w.device 1) w command) None
+      (in_break_of (kind.phase w.device 1) w command p) tt
+  in_break_kept (Tells csw sent) w p = tt
+
+  out_break_of : (phase : Phase) (w : BulkWorld D) (command : BulkCommand) → R w.device → OfBreak R (out_break_by kind phase w command)
+  unfolding broken_off
+  out_break_of Absent w command p = tt
+  out_break_of (Gives count) w command p = p
+  out_break_of (Takes count) w command p = tt
+  out_break_of (Ended end) w command p = tt
+
+  out_chunk_kept : (w : BulkWorld D) (command : BulkCommand) → R w.device → OfBreak R (Some (out_broken kind w command 0))
+  unfolding broken_off
+  out_chunk_kept w command p = p
+
+  pub out_break_kept : (stage : BulkStage) (w : BulkWorld D) → R w.device → OfBreak R (out_break_at kind stage w)
+  out_break_kept Awaits w p = tt
+  out_break_kept Faulty w p = tt
+  out_break_kept (Moves command) w p =
+      let phase : Phase = kind.phase w.device 1 in
+      let last : Option (BulkWorld D × Stepped) = cond command.is_kept None (out_break_by kind phase w command) in
+      let chunk : Option (BulkWorld D × Stepped) = cond (has_chunk w.bulk) (Some (out_broken kind w command 0)) last in
+      either (OfBreak R) (not (takes_bytes command)) None chunk tt
+      (either (OfBreak R) (has_chunk w.bulk) (Some (out_broken kind w command 0)) last (out_chunk_kept w command p)
+      (either (OfBreak R) command.is_kept None (out_break_by kind phase w command) tt (out_break_of phase w command p)))
+  out_break_kept (Tells csw sent) w p = tt

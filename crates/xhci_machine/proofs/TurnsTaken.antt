@@ -26,12 +26,12 @@ use Rattle.guest_bulk.specs.Steps.{bulk_after, in_stepped, out_stepped}
 use Rattle.guest_bulk.specs.Wanted.{in_wanted, out_wanted}
 use Rattle.guest_memory.specs.declared.rings.context.Home.{Home}
 use Rattle.uas_profile.specs.declared.Pipe.TheVariants.{Command}
-use Rattle.xhci_machine.specs.Bulk.{bulk_home, bulk_kept, bulk_of, bulk_wanted, bulk_world}
+use Rattle.xhci_machine.specs.Bulk.{break_on, broken_kept, bulk_breaks, bulk_broken, bulk_home, bulk_kept, bulk_of, bulk_wanted, bulk_world}
 use Rattle.xhci_machine.specs.Bus.{fault_in, is_bulk, pipe_fault, stall_error, stream_fault}
 use Rattle.xhci_machine.specs.Rounds.{command_by, command_pipe_stepped, control_stepped, control_world, data_due, data_of, has_rung, is_stray, rings_by, ring_on, served, status_due, status_of, stray_by, stray_stepped, transfers_world}
 use Rattle.xhci_machine.specs.Turns.{World}
 use Rattle.xhci_machine.specs.Contexts.{context_wanted, is_due}
-use Rattle.xhci_machine.specs.Wanted.{acts_on_data, acts_on_status, command_pipe_looked, command_pipe_wanted, command_wanted_by, control_looked, lacks_nothing, needs, stray_looked, stray_looked_by}
+use Rattle.xhci_machine.specs.Wanted.{acts, acts_on_data, acts_on_status, command_pipe_looked, command_pipe_wanted, command_wanted_by, control_looked, lacks_nothing, needs, stray_looked, stray_looked_by}
 use Rattle.xhci_machine.specs.Wanted.{tag_context_wanted, tag_looked, then_look, unless}
 use Rattle.xhci_machine.proofs.Taken.{acts_whole, idle_gate, needs_whole, needs_context, needs_nothing, of_tag_there, of_there, wants_nothing}
 
@@ -122,6 +122,13 @@ bulk_taken laws w DataIn none =
     let from = bulk_world w.memory w.events w.machine DataIn in
     kept_there DataIn w (bulk_after from (in_stepped tasks_kind from (bulk_home w.machine DataIn))) (laws.to_host from (bulk_home w.machine DataIn) none)
 
+broken_there : (w : World) (name : StreamPipe) → is_some (bulk_broken w name).1 ≡ true
+broken_there w name = by_break (break_on w.memory w.events w.machine name)
+  where
+    by_break : (broke : Option (BulkWorld GuestTasks × Stepped)) → is_some (broken_kept w broke).1 ≡ true
+    by_break None = refl
+    by_break (Some done) = refl
+
 -- a ring of theirs that isn't looked at
 bulk_idle : (w : World) (name : StreamPipe) → (is_running (pipe_of w.machine.transfers name).state && rung_on (pipe_of w.machine.transfers name) 0) ≡ false
     → bulk_wanted w.memory w.machine w.events name ≡ None
@@ -134,21 +141,32 @@ bulk_idle w DataIn rests = idle_gate w.memory w.events (loaded (pipe_of w.machin
 abbrev stray_wanted_by : Option ℕ → Bool → World → StreamPipe → Option Range
 stray_wanted_by (Some code) bulk w name = silent_wanted w.memory w.events (pipe_of w.machine.transfers name)
 stray_wanted_by None false w name = stray_wanted w.memory w.events (pipe_of w.machine.transfers name)
-stray_wanted_by None true w name = bulk_wanted w.memory w.machine w.events name
+stray_wanted_by None true w name = if bulk_breaks w.machine name then None else bulk_wanted w.memory w.machine w.events name
 
 -- a look that lacks nothing has nothing of that
 looks_whole : (fault : Option ℕ) (bulk : Bool) (w : World) (name : StreamPipe)
     → lacks_nothing (stray_looked_by fault bulk w.memory w.machine w.events name) ≡ true → stray_wanted_by fault bulk w name ≡ None
 looks_whole (Some code) bulk w name is = acts_whole (silent_wanted w.memory w.events (pipe_of w.machine.transfers name)) is
 looks_whole None false w name is = acts_whole (stray_wanted w.memory w.events (pipe_of w.machine.transfers name)) is
-looks_whole None true w name is = needs_whole (bulk_wanted w.memory w.machine w.events name) is
+looks_whole None true w name is = by_break (bulk_breaks w.machine name) is
+  where
+    by_break : (breaks : Bool)
+        → lacks_nothing (if breaks then acts None else needs (bulk_wanted w.memory w.machine w.events name)) ≡ true
+        → (if breaks then None else bulk_wanted w.memory w.machine w.events name) ≡ None
+    by_break true is = refl
+    by_break false is = needs_whole (bulk_wanted w.memory w.machine w.events name) is
 
 stray_idle : (fault : Option ℕ) (bulk : Bool) (w : World) (name : StreamPipe)
-    → (is_running (pipe_of w.machine.transfers name).state && rings_by fault bulk (pipe_of w.machine.transfers name)) ≡ false
-    → stray_wanted_by fault bulk w name ≡ None
+    → rings_by fault bulk w.machine name ≡ false → stray_wanted_by fault bulk w name ≡ None
 stray_idle (Some code) bulk w name rests = not_rung w.memory w.events (pipe_of w.machine.transfers name) rests
 stray_idle None false w name rests = not_stray w.memory w.events (pipe_of w.machine.transfers name) rests
-stray_idle None true w name rests = bulk_idle w name rests
+stray_idle None true w name rests = by_break (bulk_breaks w.machine name) rests
+  where
+    by_break : (breaks : Bool)
+        → (breaks || (is_running (pipe_of w.machine.transfers name).state && rung_on (pipe_of w.machine.transfers name) 0)) ≡ false
+        → (if breaks then None else bulk_wanted w.memory w.machine w.events name) ≡ None
+    by_break true rests = refl
+    by_break false rests = bulk_idle w name rests
 
 pub stray_taken : ((memory : Memory) (events : EventEnd) (t : TransfersState) (name : StreamPipe) → stray_wanted memory events (pipe_of t name) ≡ None
     → is_some (stray_on stall_error memory events t name).1.1.1 ≡ true)
@@ -169,16 +187,21 @@ stray_taken law silent_law laws w name is =
     in_context false is due = absurd (false≢true due)
 
     lacks : (fault : Option ℕ) (bulk due : Bool)
-        → (is_running (pipe_of w.machine.transfers name).state && rings_by fault bulk (pipe_of w.machine.transfers name)) ≡ due
+        → rings_by fault bulk w.machine name ≡ due
         → lacks_nothing (if due then then_look (needs (context_wanted w.memory w.machine.slot)) (stray_looked_by fault bulk w.memory w.machine w.events name) else Ok tt) ≡ true
         → stray_wanted_by fault bulk w name ≡ None
     lacks fault bulk true same is = looks_whole fault bulk w name (needs_nothing (context_wanted w.memory w.machine.slot) _ is).1
     lacks fault bulk false same is = stray_idle fault bulk w name same
 
+    by_break : (breaks : Bool) → (if breaks then None else bulk_wanted w.memory w.machine w.events name) ≡ None
+        → is_some (if breaks then bulk_broken w name else bulk_of w name).1 ≡ true
+    by_break true none = broken_there w name
+    by_break false none = bulk_taken laws w name none
+
     by_fault : (fault : Option ℕ) (bulk : Bool) → stray_wanted_by fault bulk w name ≡ None → is_some (stray_by fault bulk w name).1 ≡ true
     by_fault (Some code) bulk none = silent_law code w.memory w.events w.machine.transfers name none
     by_fault None false none = law w.memory w.events w.machine.transfers name none
-    by_fault None true none = bulk_taken laws w name none
+    by_fault None true none = by_break (bulk_breaks w.machine name) none
 
 -- A TAG
 

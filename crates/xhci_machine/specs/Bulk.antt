@@ -1,5 +1,6 @@
 -- A step of Bulk-Out or Bulk-In, in Bulk-Only's alternate setting: of the one ring of the endpoint of data-out, or data-in.
-use Rattle.std.specs.Prelude.{Bool, true, false, if◌then◌else◌, Option, Some, None}
+use Rattle.std.specs.Prelude.{Bool, true, false, if◌then◌else◌, Option, Some, None, is_some}
+use Rattle.guest_bulk.specs.Breaks.{in_break, out_break}
 use Rattle.guest_bulk.specs.declared.bulk.Stepped.{Stepped}
 use Rattle.guest_bulk.specs.Commands.{BulkWorld}
 use Rattle.guest_bulk.specs.Steps.{bulk_after, in_stepped, out_stepped}
@@ -75,6 +76,36 @@ bulk_of w DataOut =
 bulk_of w DataIn =
     bulk_kept DataIn w
     (bulk_after (bulk_world w.memory w.events w.machine DataIn) (in_stepped tasks_kind (bulk_world w.memory w.events w.machine DataIn) (bulk_home w.machine DataIn)))
+
+-- AT ONCE: the disk halts an endpoint whether a TD is there or not (BOT 6.7, cases 8 and 10), and ends its task
+
+abbrev pub broken_kept : World → Option (BulkWorld GuestTasks × Stepped) → World × Option Acted
+broken_kept w None = (w, Some Idle)
+broken_kept w (Some done) = (
+  record w {
+    machine = ended_if done.1.ends (halted_by done.1.halts (record w.machine { bulk = done.0.bulk; device = done.0.device }));
+  },
+  Some done.1.acted,
+)
+
+abbrev pub break_on : Memory → EventEnd → Machine → StreamPipe → Option (BulkWorld GuestTasks × Stepped)
+break_on memory events m Status = None
+break_on memory events m DataOut = out_break tasks_kind (bulk_world memory events m DataOut)
+break_on memory events m DataIn = in_break tasks_kind (bulk_world memory events m DataIn)
+
+abbrev pub bulk_broken : World → StreamPipe → World × Option Acted
+bulk_broken w name = broken_kept w (break_on w.memory w.events w.machine name)
+
+-- that asks nothing of memory or of the event ring
+abbrev pub no_events : EventEnd
+no_events = record { base = 0; places = 0; place = 0; cycle = false; free = 0; asks = false }
+
+abbrev pub bulk_breaks : Machine → StreamPipe → Bool
+bulk_breaks m name = is_some (break_on (λ a. None) no_events m name)
+
+-- Bulk-Out's turn, or Bulk-In's
+abbrev pub bulk_turned : World → StreamPipe → World × Option Acted
+bulk_turned w name = if bulk_breaks w.machine name then bulk_broken w name else bulk_of w name
 
 -- the first range that it lacks
 abbrev pub bulk_wanted : Memory → Machine → EventEnd → StreamPipe → Option Range

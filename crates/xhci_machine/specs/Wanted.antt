@@ -34,7 +34,7 @@ use Rattle.xhci_machine.specs.declared.states.States.{States}
 use Rattle.xhci_machine.specs.declared.wanting.End.{End}
 use Rattle.xhci_machine.specs.declared.wanting.End.TheVariants.{Lacks, Acts}
 use Rattle.uas_profile.specs.declared.Pipe.TheVariants.{Command}
-use Rattle.xhci_machine.specs.Bulk.{bulk_wanted}
+use Rattle.xhci_machine.specs.Bulk.{bulk_breaks, bulk_wanted}
 use Rattle.xhci_machine.specs.Bus.{fault_in, has_no_tags, is_bulk, pipe_fault, stream_fault}
 use Rattle.xhci_machine.specs.Contexts.{context_wanted, is_asleep, is_due}
 use Rattle.xhci_machine.specs.Interrupter.{seen}
@@ -121,7 +121,7 @@ command_pipe_looked memory m events =
 abbrev pub stray_looked_by : Option ℕ → Bool → Memory → Machine → EventEnd → StreamPipe → Look
 stray_looked_by (Some code) bulk memory m events name = acts (silent_wanted memory events (pipe_of m.transfers name))
 stray_looked_by None false memory m events name = acts (stray_wanted memory events (pipe_of m.transfers name))
-stray_looked_by None true memory m events name = needs (bulk_wanted memory m events name)
+stray_looked_by None true memory m events name = if bulk_breaks m name then acts None else needs (bulk_wanted memory m events name)
 
 unfoldable pub stray_looked : Memory → Machine → EventEnd → StreamPipe → Look
 stray_looked memory m events name =

@@ -1,8 +1,10 @@
 //! Bulk-Only Transport, in the disk's alternate setting 0: which endpoints are served then, and the steps of Bulk-Out and Bulk-In.
-ghost use Rattle.std.specs.Prelude.{◌≡◌};
+ghost use Rattle.std.specs.Prelude.{◌≡◌, Some};
+ghost use Rattle.guest_memory.specs.Bytes.{Memory};
+ghost use Rattle.guest_memory.specs.rings.Events.{EventEnd};
 ghost use Rattle.std.specs.Result.{result_ok};
 ghost use Rattle.usb_disk.specs.Answers.{alternate_of, has_pipe};
-ghost use Rattle.xhci_machine.specs.Bulk.{asked_in, bulk_home, bulk_of, bulk_wanted, ended_if};
+ghost use Rattle.xhci_machine.specs.Bulk.{asked_in, bulk_breaks, bulk_broken, bulk_home, bulk_of, bulk_turned, bulk_wanted, ended_if};
 ghost use Rattle.xhci_machine.specs.Bus.{bulk_forgotten, halted_by, has_no_tags, is_bulk, pipe_fault, pipe_named, stalled_if, still_halted, stream_fault};
 ghost use Rattle.xhci_machine.specs.Wanted.{stray_looked_by};
 
@@ -157,7 +159,7 @@ impl Machine {
 
     /// A step of Bulk-Out or Bulk-In. Refused where a byte of the event's place, of the ring's end or of the TRB isn't there, and then nothing
     /// changes.
-    pub(crate) fn step_bulk<M: GuestMemory>(
+    fn step_bulk<M: GuestMemory>(
         &mut self,
         memory: &mut M,
         events: &mut EventRing,
@@ -182,6 +184,50 @@ impl Machine {
         };
         self.transfers.keep_lone(name, &consumer);
         Ok(self.finish_bulk(stepped))
+    }
+
+    /// Whether the disk halts an endpoint now, whether a TD is there or not.
+    pub(crate) fn breaks(&self, name: StreamPipe) -> bool
+        ensures { result ≡ bulk_breaks self.now name }
+    {
+        match name {
+            StreamPipe::Status => false,
+            StreamPipe::DataOut => self.bulk.breaks_out(&self.device),
+            StreamPipe::DataIn => self.bulk.breaks_in(&self.device),
+        }
+    }
+
+    fn break_now(&mut self, name: StreamPipe) -> Acted
+        ensures broken { (memory : Memory) (events : EventEnd) → (record { memory = memory; events = events; machine = self.new }, Some result)
+            ≡ bulk_broken (record { memory = memory; events = events; machine = self.old }) name }
+    {
+        let stepped = match name {
+            StreamPipe::Status => None,
+            StreamPipe::DataOut => self.bulk.break_out(&mut self.device),
+            StreamPipe::DataIn => self.bulk.break_in(&mut self.device),
+        };
+        match stepped {
+            Some(stepped) => self.finish_bulk(stepped),
+            None => Acted::Idle,
+        }
+    }
+
+    /// The turn of Bulk-Out or of Bulk-In.
+    pub(crate) fn turn_bulk<M: GuestMemory>(
+        &mut self,
+        memory: &mut M,
+        events: &mut EventRing,
+        name: StreamPipe,
+    ) -> Result<Acted, Outside>
+        ensures stepped { (record { memory = M.contents memory.new; events = events.new; machine = self.new }, result_ok result)
+            ≡ bulk_turned (record { memory = M.contents memory.old; events = events.old; machine = self.old }) name }
+        ensures same_loan { M.loan memory.new ≡ M.loan memory.old }
+    {
+        if self.breaks(name) {
+            Ok(self.break_now(name))
+        } else {
+            self.step_bulk(memory, events, name)
+        }
     }
 
     fn finish_bulk(&mut self, stepped: Stepped) -> Acted
@@ -229,7 +275,11 @@ impl Machine {
         match (self.stream_fault(name), self.is_bulk()) {
             (Some(_), _) => acts(self.transfers.wants_silent(memory, events, name)),
             (None, false) => acts(self.transfers.wants_stray(memory, events, name)),
-            (None, true) => needs(self.wants_bulk(memory, events, name)),
+            (None, true) => if self.breaks(name) {
+                acts(None)
+            } else {
+                needs(self.wants_bulk(memory, events, name))
+            },
         }
     }
 }

@@ -90,12 +90,12 @@ impl Machine {
         ensures { result ≡ is_stray self.now name }
     {
         let pipe = self.transfers.pipe(name);
-        pipe.state().runs()
-            && match (self.stream_fault(name), self.is_bulk()) {
-                (Some(_), _) => pipe.has_stray() || next_rung(pipe).is_some(),
-                (None, false) => pipe.has_stray(),
-                (None, true) => pipe.consumer(0).rung,
-            }
+        let runs = pipe.state().runs();
+        match (self.stream_fault(name), self.is_bulk()) {
+            (Some(_), _) => runs && (pipe.has_stray() || next_rung(pipe).is_some()),
+            (None, false) => runs && pipe.has_stray(),
+            (None, true) => self.breaks(name) || runs && pipe.consumer(0).rung,
+        }
     }
 
     /// Whether the port is suspended: no endpoint has a step then, and the doorbells stay (4.15.1).
@@ -199,7 +199,7 @@ impl Machine {
         match (self.stream_fault(name), self.is_bulk()) {
             (Some(code), _) => self.transfers.step_silent(memory, events, name, code),
             (None, false) => self.transfers.step_stray(memory, events, name, STALL_ERROR),
-            (None, true) => self.step_bulk(memory, events, name),
+            (None, true) => self.turn_bulk(memory, events, name),
         }
     }
 

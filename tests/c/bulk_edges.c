@@ -135,8 +135,7 @@ int main(void)
     length_0();
     if (!BULK_EMPTY_IS_NONE)
         empty_cbws();
-    if (!BULK_LAZY)
-        at_once();
+    at_once();
     if (!BULK_HALT_FIRST) {
         ended_and_halted();
         moved_and_halted();

@@ -172,7 +172,7 @@ static bool step(void)
     bool acted = bulk_step(&model);
     AGREE(memcmp(memory.bytes, model.memory.bytes, SECOND_MEMORY_BYTES) == 0);
     match_requests();
-    AGREE(taken == (acted && model.codes[EVENT_RING_FULL] == told));
+    AGREE(model.codes[EVENT_RING_FULL] != told || taken == acted);
     steps += acted;
     return acted;
 }

@@ -215,16 +215,20 @@ static inline void bulk_good_case(struct second_bulk *bulk)
 static inline bool bulk_is_wrong(struct second_bulk *bulk)
 {
     uint64_t left;
-    if (bulk->phase != MOVES_DATA || bulk->over || bulk->cbw.length == 0 || bulk->from < bulk->to)
+    if (bulk->phase != MOVES_DATA || bulk->over || bulk->cbw.length == 0 || bulk->moved == bulk->cbw.length)
         return false;
+    if (bulk->from < bulk->to)
+        return bulk->own && !bulk->cbw.in; /* kept sense data */
     return bulk_next(bulk, &left) == (bulk->cbw.in ? UAS_TAKES : UAS_GIVES);
 }
 
-/* A pipe is halted at once where that is so. */
-static inline void bulk_halt_wrong(struct second_bulk *bulk)
+/* A pipe is halted at once where that is so, in a step of its own. */
+static inline bool bulk_halts_wrong(struct second_bulk *bulk, int dci)
 {
-    if (bulk_is_wrong(bulk))
-        bulk_phase_error(bulk, bulk->cbw.in ? 8 : 10, bulk->cbw.length, bulk->cbw.in ? BULK_IN : BULK_OUT);
+    if (bulk->cbw.in != (dci == BULK_IN) || !bulk_is_wrong(bulk))
+        return false;
+    bulk_phase_error(bulk, bulk->cbw.in ? 8 : 10, bulk->cbw.length, dci);
+    return true;
 }
 
 /* What the device does by itself: it asks. */
@@ -233,8 +237,6 @@ static inline void bulk_run_device(struct second_bulk *bulk)
     uint64_t left;
     if (bulk->phase == MOVES_DATA && !bulk->over)
         bulk_next(bulk, &left);
-    if (!BULK_LAZY)
-        bulk_halt_wrong(bulk);
 }
 
 /* A TD is there that goes on with the data or takes the status: the case, where the device shows it by now. */

@@ -260,9 +260,15 @@ static inline bool bulk_port_turn(struct second_bulk *bulk)
 /* Takes a step; false where no turn acts. */
 static inline bool bulk_step(struct second_bulk *bulk)
 {
+    unsigned long told = bulk->codes[EVENT_RING_FULL];
     bool acted = bulk_port_turn(bulk) || bulk_command_turn(bulk);
     if (!acted && !bulk->suspended)
         acted = bulk_control_turn(bulk) || bulk_out_turn(bulk) || bulk_in_turn(bulk);
+    /* a full event ring holds back all but a halt, which posts nothing */
+    if (bulk->codes[EVENT_RING_FULL] != told && !bulk->suspended)
+        for (int dci = BULK_OUT; dci <= BULK_IN; dci++)
+            if (bulk_unserved(bulk, dci) == 0)
+                bulk_halts_wrong(bulk, dci);
     bulk_run_device(bulk);
     return acted;
 }

@@ -1,5 +1,5 @@
 /* What the second implementation of Bulk-Only Transport takes where the library does otherwise than the rules say: 0 by the rules, which bulk_edges.c has
- * by hand, and 1 as the library does. tests/c/run sets the three that are left.
+ * by hand, and 1 as the library does. tests/c/run sets the two that are left.
  *
  * Where the rules say nothing it does as that archive: a chunk is taken from the device whole, so the next one is asked for before its bytes are moved; the
  * case, and sense data to keep, come once a TD is there for them; No Op, Event Data and Link TRBs are taken while TDs wait, and TRBs of length 0 on the
@@ -7,11 +7,6 @@
  * data, and a reset doesn't; a TD that was begun with data goes on with those of the next command, or is none of it. */
 #ifndef UAS_TESTS_SECOND_BULK_OPEN_H
 #define UAS_TESTS_SECOND_BULK_OPEN_H
-
-/* In cases 8 and 10 the pipe is halted once a TD is there, and not at once. */
-#ifndef BULK_LAZY
-#define BULK_LAZY 0
-#endif
 
 /* What is left of a TD that has ended isn't skipped where its pipe is halted since, but told as any TD there. */
 #ifndef BULK_HALT_FIRST

@@ -32,7 +32,6 @@ static inline bool bulk_settle_at(struct second_bulk *bulk, int dci, const struc
     if (bulk->phase != MOVES_DATA || bulk_is_beyond(bulk, dci) || (is_data ? bulk_left(&bulk->endpoints[dci].front, trb) == 0 : dci == BULK_OUT || !moved))
         return false;
     bulk_settle(bulk);
-    bulk_halt_wrong(bulk);
     return bulk->endpoints[dci].halted;
 }
 
@@ -90,6 +89,8 @@ static inline bool bulk_out_turn(struct second_bulk *bulk)
     struct bulk_front *front = &bulk->endpoints[BULK_OUT].front;
     struct second_trb trb;
     uint8_t unserved = bulk_unserved(bulk, BULK_OUT);
+    if (unserved == 0 && bulk_halts_wrong(bulk, BULK_OUT))
+        return true;
     enum bulk_found found = bulk_look(bulk, BULK_OUT, &trb);
     if (found != FOUND_TRB)
         return found == FOUND_ACTED;
@@ -192,6 +193,8 @@ static inline bool bulk_in_turn(struct second_bulk *bulk)
     struct bulk_front *front = &bulk->endpoints[BULK_IN].front;
     struct second_trb trb;
     uint8_t unserved = bulk_unserved(bulk, BULK_IN);
+    if (unserved == 0 && bulk_halts_wrong(bulk, BULK_IN))
+        return true;
     enum bulk_found found = bulk_look(bulk, BULK_IN, &trb);
     if (found != FOUND_TRB)
         return found == FOUND_ACTED;

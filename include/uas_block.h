@@ -12,9 +12,10 @@
  * vfio-pci (examples/block_vfio.c). uas_block_turn, at the end of this file, is the loop that does the accesses by functions of yours: what is
  * left to write are five functions, a page of memory, and an interrupt.
  *
- * Not here, and the caller's: that memory space and bus mastering of the PCI function are on and it is in D0; in Intel's Panther Point and Lynx Point
- * that configuration D8h gets the value of DCh and D0h that of D4h, which routes the ports; the firmware of Renesas's controllers; the DMA addresses
- * of memory, which a translation may stand before. One logical unit, 0, of one disk, at a port of the controller's own: no hubs, no USB 2.
+ * Not here, and the caller's: that the PCI function is at full power, with memory space and bus mastering on; that in Intel's Panther Point and Lynx
+ * Point its configuration register 0xd8 gets the value of 0xdc and 0xd0 that of 0xd4, which routes the ports; the firmware of Renesas's controllers;
+ * the DMA addresses of memory, which a translation may stand before. One logical unit, 0, of one disk, at a port of the controller's own: no hubs, no
+ * USB 2.
  *
  * An access stays within `bar_bytes` of registers and within the memory that was lent, whatever the controller answers. What the controller itself
  * is told to read and write is that memory and the segments of commands that have no reply: leave those in place until the reply, and the lent

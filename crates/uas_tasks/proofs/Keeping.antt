@@ -3,7 +3,7 @@
 use Rattle.std.proofs.Common.{◌≡◌, ℕ, ◌+◌, ◌<◌, Bool, true, false, cond, List, length, Option, Some, None, IfSome, Result, Ok, Err}
 use Rattle.std.proofs.Common.{refl, sym, ◌∙◌}
 use Rattle.std.proofs.lemmas.Bool.{false≢true}
-use Rattle.std.specs.Prelude.{is_some, IsSome, nat_lt, ◌==◌, ◌&&◌, option_and_then, option_map, slice_index}
+use Rattle.std.specs.Prelude.{is_some, IsSome, nat_le, nat_lt, ◌==◌, ◌&&◌, option_and_then, option_map, slice_index}
 use Rattle.std.specs.Option.{option_map_or}
 use Rattle.scsi_cmd.specs.declared.Sense.{Sense}
 use Rattle.host_commands.specs.declared.Attention.{Attention}
@@ -21,20 +21,20 @@ use Rattle.uas_target.specs.declared.DeviceAnswer.TheVariants.{Status}
 use Rattle.device_server.specs.declared.Answer.TheVariants.{Good}
 use Rattle.uas_tasks.specs.declared.Job.{Job}
 use Rattle.uas_tasks.specs.declared.JobKind.{JobKind}
-use Rattle.uas_tasks.specs.declared.JobKind.TheVariants.{Reads, Writes, Compares, Verifies, Synchronizes, WritesAndVerifies}
+use Rattle.uas_tasks.specs.declared.JobKind.TheVariants.{Reads, ReadsBeforeBad, Writes, Compares, Verifies, Synchronizes, WritesAndVerifies}
 use Rattle.uas_tasks.specs.declared.LogicalUnit.{LogicalUnit}
 use Rattle.uas_tasks.specs.declared.Outcome.{Outcome}
-use Rattle.uas_tasks.specs.declared.Outcome.TheVariants.{Done, Differs, MediumError, NotReady}
+use Rattle.uas_tasks.specs.declared.Outcome.TheVariants.{Done, Differs, MediumError, NotReady, DiffersAt, MediumErrorAt, NoSpace, WriteProtected, Aborted, Busy}
 use Rattle.uas_tasks.specs.declared.Stage.{Stage}
 use Rattle.uas_tasks.specs.declared.Stage.TheVariants.{Asking, Waiting, Moving}
 use Rattle.uas_tasks.specs.declared.Task.{Task}
-use Rattle.uas_tasks.specs.declared.Task.TheVariants.{Giving, Blocks, Ended, Held}
+use Rattle.uas_tasks.specs.declared.Task.TheVariants.{Giving, Blocks, Ended, Failed, Held}
 use Rattle.uas_tasks.specs.declared.Wants.{Wants}
 use Rattle.uas_tasks.specs.declared.Wants.TheVariants.{Absent, Asks, Waits, Ends}
 use Rattle.uas_tasks.specs.declared.slot.Out.{Out}
 use Rattle.uas_tasks.specs.Machine.{Machine, begun, begun_as, is_held, reported_as, slot_of, wanted}
-use Rattle.uas_tasks.specs.Slots.{SlotState, after_answer, after_outcome, answered_slot, asked_slot, blocks_synchronized, chunk_blocks, chunk_bytes, done_by, ended_good, first_stage}
-use Rattle.uas_tasks.specs.Slots.{done_slot, gave_slot, gave_task, is_command_of, is_done, is_read, job_task, moved_on, next_chunk, out_of, passed_out, passing_out, request_of, slot_wants, spared_slot, stage_wants}
+use Rattle.uas_tasks.specs.Slots.{SlotState, after_answer, after_bad, after_outcome, answered_slot, asked_slot, blocks_synchronized, chunk_blocks, chunk_bytes, done_by, ended_good, first_stage}
+use Rattle.uas_tasks.specs.Slots.{done_slot, before_bad, brings as brings_some, failed_at, gave_chunk, gave_slot, gave_task, is_command_of, is_read, is_reading, medium_error, job_task, moved_on, next_chunk, out_of, passed_out, passing_out, request_of, slot_wants, spared_slot, stage_wants}
 use Rattle.uas_tasks.specs.Slots.{started, started_none, started_none_work, started_work, task_waits, task_wants, took_slot, took_task, waiting, with_task}
 use Rattle.uas_tasks.specs.Soundness.{IsAnswer, IsTaskWithin, IsWithin}
 use Rattle.uas_tasks.specs.Stale.{stale_unit, unit_written}
@@ -68,6 +68,7 @@ rests-keeps many before after out still rests = record {
 
 first_stage-rests : (many unit : ℕ) (job : Job) (kind : JobKind) → unit < many → Rests many (Blocks unit job (first_stage kind))
 first_stage-rests many unit job Reads there = (refl, there)
+first_stage-rests many unit job ReadsBeforeBad there = (refl, there)
 first_stage-rests many unit job (Writes through) there = (refl, there)
 first_stage-rests many unit job Compares there = (refl, there)
 first_stage-rests many unit job Verifies there = (refl, there)
@@ -83,6 +84,15 @@ next_chunk-rests many chunk unit job there =
     let done : ℕ = job.done + chunk_blocks chunk job in
     either-rests many (nat_lt done job.count) (Blocks unit (record job { done = done }) (first_stage job.kind)) (ended_good unit)
     (first_stage-rests many unit (record job { done = done }) job.kind there) (refl, tt)
+
+gave_chunk-rests : (many chunk unit : ℕ) (job : Job) (kind : JobKind) → unit < many → Rests many (gave_chunk kind chunk unit job)
+gave_chunk-rests many chunk unit job Reads there = next_chunk-rests many chunk unit job there
+gave_chunk-rests many chunk unit job ReadsBeforeBad there = (refl, tt)
+gave_chunk-rests many chunk unit job (Writes through) there = next_chunk-rests many chunk unit job there
+gave_chunk-rests many chunk unit job Compares there = next_chunk-rests many chunk unit job there
+gave_chunk-rests many chunk unit job Verifies there = next_chunk-rests many chunk unit job there
+gave_chunk-rests many chunk unit job Synchronizes there = next_chunk-rests many chunk unit job there
+gave_chunk-rests many chunk unit job (WritesAndVerifies compares has_written) there = next_chunk-rests many chunk unit job there
 
 -- BYTES THAT MOVE
 
@@ -110,8 +120,9 @@ gave_task-stays many chunk given moved None within = (refl, tt)
 gave_task-stays many chunk given moved (Some (Giving unit at)) within =
     either-rests many (nat_lt (at + moved) given) (Giving unit (at + moved)) (Ended unit (Status Good)) (refl, tt) (refl, tt)
 gave_task-stays many chunk given moved (Some (Blocks unit job stage)) within =
-    moved_on-stays many chunk moved unit job (next_chunk chunk unit job) stage (next_chunk-rests many chunk unit job) within
+    moved_on-stays many chunk moved unit job (gave_chunk job.kind chunk unit job) stage (gave_chunk-rests many chunk unit job job.kind) within
 gave_task-stays many chunk given moved (Some (Ended unit answer)) within = (refl, tt)
+gave_task-stays many chunk given moved (Some (Failed unit failure)) within = (refl, tt)
 gave_task-stays many chunk given moved (Some (Held unit code)) within = (refl, tt)
 
 pub gave-keeps : (many : ℕ) (slot : SlotState) (moved : ℕ) → IsWithin many slot → Keeps many slot (gave_slot slot moved)
@@ -125,6 +136,7 @@ took_task-stays many chunk moved (Some (Giving unit at)) within = (refl, tt)
 took_task-stays many chunk moved (Some (Blocks unit job stage)) within =
     moved_on-stays many chunk moved unit job (Blocks unit job Asking) stage (λ there. (refl, there)) within
 took_task-stays many chunk moved (Some (Ended unit answer)) within = (refl, tt)
+took_task-stays many chunk moved (Some (Failed unit failure)) within = (refl, tt)
 took_task-stays many chunk moved (Some (Held unit code)) within = (refl, tt)
 
 pub took-keeps : (many : ℕ) (slot : SlotState) (new : List ℕ) → IsWithin many slot → Keeps many slot (took_slot slot new)
@@ -147,11 +159,13 @@ asks_none slot asks = by_task slot.chunk (length slot.given) slot.out slot.task 
     by_task chunk given None (Some (Blocks unit job stage)) is = (refl, by_stage chunk job unit stage is)
     by_task chunk given (Some o) (Some (Blocks unit job stage)) is = let it : ⊥ = cc in absurd it
     by_task chunk given out (Some (Ended unit answer)) is = let it : ⊥ = cc in absurd it
+    by_task chunk given out (Some (Failed unit failure)) is = let it : ⊥ = cc in absurd it
     by_task chunk given out (Some (Held unit code)) is = let it : ⊥ = cc in absurd it
 
 -- a Write of a job is of the job's logical unit
 request_of-written : (many unit chunk : ℕ) (job : Job) (kind : JobKind) → unit < many → IfSome (unit_written (request_of kind unit chunk job)) (λ u. u < many)
 request_of-written many unit chunk job Reads there = tt
+request_of-written many unit chunk job ReadsBeforeBad there = tt
 request_of-written many unit chunk job (Writes through) there = there
 request_of-written many unit chunk job Compares there = tt
 request_of-written many unit chunk job Verifies there = tt
@@ -167,6 +181,7 @@ asked_task many chunk None within = (tt, tt)
 asked_task many chunk (Some (Giving unit at)) within = (tt, tt)
 asked_task many chunk (Some (Blocks unit job stage)) within = (within, request_of-written many unit chunk job job.kind within)
 asked_task many chunk (Some (Ended unit answer)) within = (tt, tt)
+asked_task many chunk (Some (Failed unit failure)) within = (tt, tt)
 asked_task many chunk (Some (Held unit code)) within = (tt, tt)
 
 -- nothing is stale before, and nothing after
@@ -176,6 +191,7 @@ asked_stale slot None still = refl
 asked_stale slot (Some (Giving unit at)) still = refl
 asked_stale slot (Some (Blocks unit job stage)) still = refl
 asked_stale slot (Some (Ended unit answer)) still = refl
+asked_stale slot (Some (Failed unit failure)) still = refl
 asked_stale slot (Some (Held unit code)) still = refl
 
 pub asked-stale : (slot : SlotState) → slot_wants slot ≡ Asks → stale_unit (asked_slot slot) ≡ None
@@ -206,6 +222,7 @@ ends_still slot ends = by_task slot.chunk (length slot.given) slot.out slot.task
     by_task chunk given None (Some (Blocks unit job stage)) is = by_kind chunk unit job stage is
     by_task chunk given (Some o) (Some (Blocks unit job stage)) is = let it : ⊥ = cc in absurd it
     by_task chunk given out (Some (Ended unit answer)) is = refl
+    by_task chunk given out (Some (Failed unit failure)) is = refl
     by_task chunk given out (Some (Held unit code)) is = refl
 
 -- A TAG WITHOUT A TASK
@@ -218,6 +235,7 @@ answer-rests : (many : ℕ) (task : Task) → IsAnswer task → Rests many task
 answer-rests many (Giving unit at) is = absurd is
 answer-rests many (Blocks unit job stage) is = absurd is
 answer-rests many (Ended unit answer) is = (refl, tt)
+answer-rests many (Failed unit failure) is = absurd is
 answer-rests many (Held unit code) is = (refl, tt)
 
 pub answer-keeps : (many : ℕ) (slot : SlotState) (task : Task) → waits slot.task ≡ false → IsAnswer task → Keeps many slot (with_task slot (Some task))
@@ -289,6 +307,10 @@ started_none-keeps many slot (Err sense) still = rests-keeps many slot (started_
 
 -- A REQUEST IS ANSWERED: nothing is out any more
 
+after_bad-within : (many : ℕ) (b : Bool) (one other : Task) → IsTaskWithin many one → IsTaskWithin many other → IsTaskWithin many (cond b one other)
+after_bad-within many true one other first second = first
+after_bad-within many false one other first second = second
+
 after_answer-within : (many : ℕ) (outcome : Outcome) (chunk : ℕ) (task : Option Task) → IfSome task (IsTaskWithin many) →
     IfSome (option_map (after_answer outcome chunk) task) (IsTaskWithin many)
 after_answer-within many outcome chunk None within = tt
@@ -298,6 +320,7 @@ after_answer-within many outcome chunk (Some (Blocks unit job Waiting)) within =
   where
     done : (kind : JobKind) → IsTaskWithin many (done_by kind chunk unit job)
     done Reads = within
+    done ReadsBeforeBad = within
     done (Writes through) = (next_chunk-rests many chunk unit job within).1
     done Compares = (next_chunk-rests many chunk unit job within).1
     done Verifies = tt
@@ -310,8 +333,17 @@ after_answer-within many outcome chunk (Some (Blocks unit job Waiting)) within =
     by_outcome Differs = tt
     by_outcome MediumError = tt
     by_outcome NotReady = tt
+    by_outcome (DiffersAt byte) = tt
+    by_outcome (MediumErrorAt block brings) =
+        after_bad-within many (brings && is_reading job.kind && nat_lt (job.lba + job.done) block && nat_le block (job.lba + job.count))
+        (before_bad block unit job) (failed_at unit (medium_error job.kind) block) within tt
+    by_outcome NoSpace = tt
+    by_outcome WriteProtected = tt
+    by_outcome Aborted = tt
+    by_outcome Busy = tt
 after_answer-within many outcome chunk (Some (Blocks unit job (Moving at))) within = within
 after_answer-within many outcome chunk (Some (Ended unit answer)) within = tt
+after_answer-within many outcome chunk (Some (Failed unit failure)) within = tt
 after_answer-within many outcome chunk (Some (Held unit code)) within = tt
 
 pub answered-within : (many : ℕ) (slot : SlotState) (out : Out) (outcome : Outcome) (new : List ℕ) → IsWithin many slot →
@@ -333,7 +365,7 @@ waits_if false c d len some = absurd (false≢true some)
 
 pub passed-keeps : (many : ℕ) (slot : SlotState) (out : Out) → IsSome (passing_out slot out) → IsWithin many slot → Keeps many slot (passed_out slot out)
 passed-keeps many slot out some was =
-    let waits_is : waits slot.task ≡ true = waits_if (waits slot.task) (is_read out.request) (is_done Done) out.len some in
+    let waits_is : waits slot.task ≡ true = waits_if (waits slot.task) (is_read out.request) (brings_some Done) out.len some in
     let none : stale_unit slot ≡ None = rw waits_is refl in
     let within : IsWithin many (done_slot slot) = record { task = after_answer-within many Done slot.chunk slot.task was.task; written = tt } in
     let gave = gave-keeps many (done_slot slot) out.len within in

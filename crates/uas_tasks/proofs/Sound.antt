@@ -1,16 +1,21 @@
 -- Slots stay sound. Cited by the answers of a slot's calls.
-use Rattle.std.proofs.Common.{◌≡◌, ℕ, ◌+◌, ◌*◌, ◌<◌, ◌≤◌, true, false, cond, Option, Some, None, IfSome, arith, refl}
-use Rattle.std.specs.Prelude.{Bool, nat_lt, option_map}
+use Rattle.std.proofs.Math.Nat.{mul-div-le, mul-le-mul_right}
+use Rattle.std.proofs.Common.{◌≡◌, ℕ, ◌+◌, ◌*◌, ◌/◌, ◌<◌, ◌≤◌, true, false, cond, Option, Some, None, IfSome, arith, refl}
+use Rattle.std.specs.Prelude.{Bool, nat_le, nat_lt, option_map, ◌-◌, ◌^◌, ◌&&◌}
 use Rattle.std.proofs.lemmas.Bool.Decides.{nat_tests}
 use Rattle.uas_tasks.specs.declared.Job.{Job}
 use Rattle.uas_tasks.specs.declared.JobKind.{JobKind}
-use Rattle.uas_tasks.specs.declared.JobKind.TheVariants.{Reads, Writes, Compares, Verifies, Synchronizes, WritesAndVerifies}
+use Rattle.uas_tasks.specs.declared.JobKind.TheVariants.{Reads, ReadsBeforeBad, Writes, Compares, Verifies, Synchronizes, WritesAndVerifies}
 use Rattle.uas_tasks.specs.declared.Outcome.{Outcome}
-use Rattle.uas_tasks.specs.declared.Outcome.TheVariants.{Done, Differs, MediumError, NotReady}
+use Rattle.uas_tasks.specs.declared.Outcome.TheVariants.{Done, Differs, MediumError, NotReady, DiffersAt, MediumErrorAt, NoSpace, WriteProtected, Aborted, Busy}
 use Rattle.uas_tasks.specs.declared.Stage.TheVariants.{Asking, Waiting, Moving}
 use Rattle.uas_tasks.specs.declared.Task.{Task}
-use Rattle.uas_tasks.specs.declared.Task.TheVariants.{Giving, Blocks, Ended, Held}
-use Rattle.uas_tasks.specs.Slots.{after_answer, after_outcome, chunk_blocks, chunk_bytes, done_by, ended_good, first_stage, next_chunk}
+use Rattle.uas_tasks.specs.declared.Task.TheVariants.{Giving, Blocks, Ended, Failed, Held}
+use Rattle.uas_tasks.specs.Slots.{after_answer, after_bad, after_outcome, before_bad, chunk_blocks, chunk_bytes, done_by, ended_good, failed_at, first_stage, gave_chunk}
+use Rattle.uas_tasks.specs.Slots.{gave_task, is_reading, medium_error, moved_on, next_chunk}
+use Rattle.device_server.specs.declared.Answer.TheVariants.{Good}
+use Rattle.uas_target.specs.declared.DeviceAnswer.TheVariants.{Status}
+use Rattle.uas_tasks.specs.declared.Stage.{Stage}
 use Rattle.uas_tasks.specs.Soundness.{FitsRoom, IsSoundJob, IsSoundStage, IsSoundTask}
 
 -- a product of two numbers that aren't 0
@@ -24,6 +29,7 @@ chunk_bytes-some chunk job some sound =
 
 first_stage-sound : (chunk : ℕ) (job : Job) (kind : JobKind) → 1 ≤ chunk → IsSoundJob job → IsSoundStage chunk job (first_stage kind)
 first_stage-sound chunk job Reads some sound = tt
+first_stage-sound chunk job ReadsBeforeBad some sound = tt
 first_stage-sound chunk job (Writes through) some sound = chunk_bytes-some chunk job some sound
 first_stage-sound chunk job Compares some sound = chunk_bytes-some chunk job some sound
 first_stage-sound chunk job Verifies some sound = tt
@@ -62,6 +68,7 @@ next_chunk-fits chunk room unit job some sound fits =
 
 done_by-sound : (kind : JobKind) (chunk given unit : ℕ) (job : Job) → 1 ≤ chunk → IsSoundJob job → IsSoundTask chunk given (done_by kind chunk unit job)
 done_by-sound Reads chunk given unit job some sound = (sound, chunk_bytes-some chunk job some sound)
+done_by-sound ReadsBeforeBad chunk given unit job some sound = (sound, chunk_bytes-some chunk job some sound)
 done_by-sound (Writes through) chunk given unit job some sound = next_chunk-sound chunk given unit job some sound
 done_by-sound Compares chunk given unit job some sound = next_chunk-sound chunk given unit job some sound
 done_by-sound Verifies chunk given unit job some sound = tt
@@ -73,6 +80,7 @@ done_by-sound (WritesAndVerifies compares true) chunk given unit job some sound 
 done_by-fits : (kind : JobKind) (chunk room unit : ℕ) (job : Job) → 1 ≤ chunk → IsSoundJob job → chunk * job.block_bytes ≤ room →
     FitsRoom chunk room (done_by kind chunk unit job)
 done_by-fits Reads chunk room unit job some sound fits = fits
+done_by-fits ReadsBeforeBad chunk room unit job some sound fits = fits
 done_by-fits (Writes through) chunk room unit job some sound fits = next_chunk-fits chunk room unit job some sound fits
 done_by-fits Compares chunk room unit job some sound fits = next_chunk-fits chunk room unit job some sound fits
 done_by-fits Verifies chunk room unit job some sound fits = tt
@@ -81,12 +89,71 @@ done_by-fits (WritesAndVerifies compares false) chunk room unit job some sound f
 done_by-fits (WritesAndVerifies compares true) chunk room unit job some sound fits =
     next_chunk-fits chunk room unit (record job { kind = WritesAndVerifies compares false }) some (again-sound compares false job sound) fits
 
+-- the last byte of a chunk moved
+pub gave_chunk-sound : (kind : JobKind) (chunk given unit : ℕ) (job : Job) → 1 ≤ chunk → IsSoundJob job → IsSoundTask chunk given (gave_chunk kind chunk unit job)
+gave_chunk-sound Reads chunk given unit job some sound = next_chunk-sound chunk given unit job some sound
+gave_chunk-sound ReadsBeforeBad chunk given unit job some sound = tt
+gave_chunk-sound (Writes through) chunk given unit job some sound = next_chunk-sound chunk given unit job some sound
+gave_chunk-sound Compares chunk given unit job some sound = next_chunk-sound chunk given unit job some sound
+gave_chunk-sound Verifies chunk given unit job some sound = next_chunk-sound chunk given unit job some sound
+gave_chunk-sound Synchronizes chunk given unit job some sound = next_chunk-sound chunk given unit job some sound
+gave_chunk-sound (WritesAndVerifies compares has_written) chunk given unit job some sound = next_chunk-sound chunk given unit job some sound
+
+pub gave_chunk-fits : (kind : JobKind) (chunk room unit : ℕ) (job : Job) → 1 ≤ chunk → IsSoundJob job → chunk * job.block_bytes ≤ room →
+    FitsRoom chunk room (gave_chunk kind chunk unit job)
+gave_chunk-fits Reads chunk room unit job some sound fits = next_chunk-fits chunk room unit job some sound fits
+gave_chunk-fits ReadsBeforeBad chunk room unit job some sound fits = tt
+gave_chunk-fits (Writes through) chunk room unit job some sound fits = next_chunk-fits chunk room unit job some sound fits
+gave_chunk-fits Compares chunk room unit job some sound fits = next_chunk-fits chunk room unit job some sound fits
+gave_chunk-fits Verifies chunk room unit job some sound fits = next_chunk-fits chunk room unit job some sound fits
+gave_chunk-fits Synchronizes chunk room unit job some sound fits = next_chunk-fits chunk room unit job some sound fits
+gave_chunk-fits (WritesAndVerifies compares has_written) chunk room unit job some sound fits = next_chunk-fits chunk room unit job some sound fits
+
+-- the blocks of a READ before a bad one
+before_bad-sound : (block : ℕ) (job : Job) → IsSoundJob job → job.lba + job.done < block → block ≤ job.lba + job.count →
+    IsSoundJob (record job { kind = ReadsBeforeBad; count = block - job.lba })
+before_bad-sound block job sound more most =
+    record { blocks = omega (arith, sound.blocks, more, most); left = omega (arith, more); some = sound.some; most = sound.most }
+
+-- this holds of a task behind a bad block where it holds of one that gives the blocks before it, and of one that failed
+after_bad-so : (P : Task → Type 0) (block : ℕ) (brings : Bool) (unit : ℕ) (job : Job) →
+    (job.lba + job.done < block → block ≤ job.lba + job.count → P (before_bad block unit job)) → P (failed_at unit (medium_error job.kind) block) →
+    P (after_bad block brings unit job)
+after_bad-so P block brings unit job on failed =
+    by brings (is_reading job.kind) (nat_lt (job.lba + job.done) block) (nat_le block (job.lba + job.count)) refl refl
+  where
+    by : (b r l m : Bool) → nat_lt (job.lba + job.done) block ≡ l → nat_le block (job.lba + job.count) ≡ m →
+        P (cond (b && r && l && m) (before_bad block unit job) (failed_at unit (medium_error job.kind) block))
+    by true true true true less most = on (grind (arith, nat_tests)) (grind (arith, nat_tests))
+    by true true true false less most = failed
+    by true true false m less most = failed
+    by true false l m less most = failed
+    by false r l m less most = failed
+
+after_bad-sound : (chunk given block : ℕ) (brings : Bool) (unit : ℕ) (job : Job) → 1 ≤ chunk → IsSoundJob job →
+    IsSoundTask chunk given (after_bad block brings unit job)
+after_bad-sound chunk given block brings unit job some sound =
+    after_bad-so (IsSoundTask chunk given) block brings unit job
+    (λ more most.
+    let so = before_bad-sound block job sound more most in
+    (so, chunk_bytes-some chunk (record job { kind = ReadsBeforeBad; count = block - job.lba }) some so)) tt
+
+after_bad-fits : (chunk room block : ℕ) (brings : Bool) (unit : ℕ) (job : Job) → chunk * job.block_bytes ≤ room →
+    FitsRoom chunk room (after_bad block brings unit job)
+after_bad-fits chunk room block brings unit job fits = after_bad-so (FitsRoom chunk room) block brings unit job (λ more most. fits) tt
+
 after_outcome-sound : (outcome : Outcome) (chunk given unit : ℕ) (job : Job) → 1 ≤ chunk → IsSoundJob job →
     IsSoundTask chunk given (after_outcome outcome chunk unit job)
 after_outcome-sound Done chunk given unit job some sound = done_by-sound job.kind chunk given unit job some sound
 after_outcome-sound Differs chunk given unit job some sound = tt
 after_outcome-sound MediumError chunk given unit job some sound = tt
 after_outcome-sound NotReady chunk given unit job some sound = tt
+after_outcome-sound (DiffersAt byte) chunk given unit job some sound = tt
+after_outcome-sound (MediumErrorAt block brings) chunk given unit job some sound = after_bad-sound chunk given block brings unit job some sound
+after_outcome-sound NoSpace chunk given unit job some sound = tt
+after_outcome-sound WriteProtected chunk given unit job some sound = tt
+after_outcome-sound Aborted chunk given unit job some sound = tt
+after_outcome-sound Busy chunk given unit job some sound = tt
 
 after_outcome-fits : (outcome : Outcome) (chunk room unit : ℕ) (job : Job) → 1 ≤ chunk → IsSoundJob job → chunk * job.block_bytes ≤ room →
     FitsRoom chunk room (after_outcome outcome chunk unit job)
@@ -94,6 +161,12 @@ after_outcome-fits Done chunk room unit job some sound fits = done_by-fits job.k
 after_outcome-fits Differs chunk room unit job some sound fits = tt
 after_outcome-fits MediumError chunk room unit job some sound fits = tt
 after_outcome-fits NotReady chunk room unit job some sound fits = tt
+after_outcome-fits (DiffersAt byte) chunk room unit job some sound fits = tt
+after_outcome-fits (MediumErrorAt block brings) chunk room unit job some sound fits = after_bad-fits chunk room block brings unit job fits
+after_outcome-fits NoSpace chunk room unit job some sound fits = tt
+after_outcome-fits WriteProtected chunk room unit job some sound fits = tt
+after_outcome-fits Aborted chunk room unit job some sound fits = tt
+after_outcome-fits Busy chunk room unit job some sound fits = tt
 
 pub after_answer-sound : (outcome : Outcome) (chunk given : ℕ) (task : Option Task) → 1 ≤ chunk → IfSome task (IsSoundTask chunk given) →
     IfSome (option_map (after_answer outcome chunk) task) (IsSoundTask chunk given)
@@ -103,6 +176,7 @@ after_answer-sound outcome chunk given (Some (Blocks unit job Asking)) some soun
 after_answer-sound outcome chunk given (Some (Blocks unit job Waiting)) some sound = after_outcome-sound outcome chunk given unit job some sound.0
 after_answer-sound outcome chunk given (Some (Blocks unit job (Moving at))) some sound = sound
 after_answer-sound outcome chunk given (Some (Ended unit answer)) some sound = tt
+after_answer-sound outcome chunk given (Some (Failed unit failure)) some sound = tt
 after_answer-sound outcome chunk given (Some (Held unit code)) some sound = tt
 
 pub after_answer-fits : (outcome : Outcome) (chunk given room : ℕ) (task : Option Task) → 1 ≤ chunk → IfSome task (IsSoundTask chunk given) →
@@ -114,4 +188,60 @@ after_answer-fits outcome chunk given room (Some (Blocks unit job Waiting)) some
     after_outcome-fits outcome chunk room unit job some sound.0 fits
 after_answer-fits outcome chunk given room (Some (Blocks unit job (Moving at))) some sound fits = fits
 after_answer-fits outcome chunk given room (Some (Ended unit answer)) some sound fits = tt
+after_answer-fits outcome chunk given room (Some (Failed unit failure)) some sound fits = tt
 after_answer-fits outcome chunk given room (Some (Held unit code)) some sound fits = tt
+
+-- BYTES THAT WERE GIVEN
+
+either-so : (P : Task → Type 0) (b : Bool) (one other : Task) → (b ≡ true → P one) → P other → P (cond b one other)
+either-so P true one other first second = first refl
+either-so P false one other first second = second
+
+moved_on-sound : (chunk given moved unit : ℕ) (job : Job) (after : Task) (stage : Stage) → IsSoundJob job → IsSoundStage chunk job stage →
+    IsSoundTask chunk given after → IsSoundTask chunk given (moved_on chunk moved unit job after stage)
+moved_on-sound chunk given moved unit job after Asking sound here next = (sound, tt)
+moved_on-sound chunk given moved unit job after Waiting sound here next = (sound, tt)
+moved_on-sound chunk given moved unit job after (Moving at) sound here next =
+    either-so (IsSoundTask chunk given) (nat_lt (at + moved) (chunk_bytes chunk job)) (Blocks unit job (Moving (at + moved))) after
+    (λ less. (sound, grind (arith, nat_tests))) next
+
+moved_on-fits : (chunk room moved unit : ℕ) (job : Job) (after : Task) (stage : Stage) → chunk * job.block_bytes ≤ room →
+    FitsRoom chunk room after → FitsRoom chunk room (moved_on chunk moved unit job after stage)
+moved_on-fits chunk room moved unit job after Asking fits next = fits
+moved_on-fits chunk room moved unit job after Waiting fits next = fits
+moved_on-fits chunk room moved unit job after (Moving at) fits next =
+    either-so (FitsRoom chunk room) (nat_lt (at + moved) (chunk_bytes chunk job)) (Blocks unit job (Moving (at + moved))) after (λ less. fits) next
+
+pub gave_task-sound : (chunk given moved : ℕ) (task : Option Task) → 1 ≤ chunk → IfSome task (IsSoundTask chunk given) →
+    IfSome (option_map (gave_task chunk given moved) task) (IsSoundTask chunk given)
+gave_task-sound chunk given moved None some sound = tt
+gave_task-sound chunk given moved (Some (Giving unit at)) some sound =
+    either-so (IsSoundTask chunk given) (nat_lt (at + moved) given) (Giving unit (at + moved)) (Ended unit (Status Good))
+    (λ less. grind (arith, nat_tests)) tt
+gave_task-sound chunk given moved (Some (Blocks unit job stage)) some sound =
+    moved_on-sound chunk given moved unit job (gave_chunk job.kind chunk unit job) stage sound.0 sound.1
+    (gave_chunk-sound job.kind chunk given unit job some sound.0)
+gave_task-sound chunk given moved (Some (Ended unit answer)) some sound = tt
+gave_task-sound chunk given moved (Some (Failed unit failure)) some sound = tt
+gave_task-sound chunk given moved (Some (Held unit code)) some sound = tt
+
+pub gave_task-fits : (chunk given moved room : ℕ) (task : Option Task) → 1 ≤ chunk → IfSome task (IsSoundTask chunk given) →
+    IfSome task (FitsRoom chunk room) → IfSome (option_map (gave_task chunk given moved) task) (FitsRoom chunk room)
+gave_task-fits chunk given moved room None some sound fits = tt
+gave_task-fits chunk given moved room (Some (Giving unit at)) some sound fits =
+    either-so (FitsRoom chunk room) (nat_lt (at + moved) given) (Giving unit (at + moved)) (Ended unit (Status Good)) (λ less. tt) tt
+gave_task-fits chunk given moved room (Some (Blocks unit job stage)) some sound fits =
+    moved_on-fits chunk room moved unit job (gave_chunk job.kind chunk unit job) stage fits
+    (gave_chunk-fits job.kind chunk room unit job some sound.0 fits)
+gave_task-fits chunk given moved room (Some (Ended unit answer)) some sound fits = tt
+gave_task-fits chunk given moved room (Some (Failed unit failure)) some sound fits = tt
+gave_task-fits chunk given moved room (Some (Held unit code)) some sound fits = tt
+
+-- WHAT AN ANSWER BRINGS
+
+-- the bytes of some of the blocks of a request are no more than all of them have
+pub brought_most : (before count len : ℕ) → before ≤ count → before * (len / count) ≤ len
+brought_most before count len most =
+    let all : count * (len / count) ≤ len = mul-div-le len count in
+    let some : before * (len / count) ≤ count * (len / count) = mul-le-mul_right (len / count) most in
+    omega (arith, all, some)

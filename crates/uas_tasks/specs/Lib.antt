@@ -1,4 +1,5 @@
 -- A device without blocks: its tasks by tag, and what each call makes of them.
+pub mod Answers
 pub mod Slots
 pub mod Stale
 pub mod Machine

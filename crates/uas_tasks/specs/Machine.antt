@@ -24,7 +24,7 @@ use Rattle.uas_target.specs.declared.Took.TheVariants.{Began, Dropped}
 use Rattle.uas_target.specs.Fields.{tag_in, lun_in, cdb_in, function_in, task_tag_in, addressed}
 use Rattle.uas_profile.specs.declared.TheConstants.{GREATEST_TAG}
 use Rattle.uas_tasks.specs.declared.AnswerFault.{AnswerFault}
-use Rattle.uas_tasks.specs.declared.AnswerFault.TheVariants.{NotOut, WrongLength}
+use Rattle.uas_tasks.specs.declared.AnswerFault.TheVariants.{NotOut, NoSuchOutcome, WrongPlace, WrongLength}
 use Rattle.uas_tasks.specs.declared.LogicalUnit.{LogicalUnit}
 use Rattle.uas_tasks.specs.declared.Next.{Next}
 use Rattle.uas_tasks.specs.declared.Next.TheVariants.{Absent as NextAbsent, Asks as NextAsks, Waits as NextWaits, Gives as NextGives, Takes as NextTakes, Ends as NextEnds}
@@ -35,7 +35,7 @@ use Rattle.uas_tasks.specs.declared.Task.TheVariants.{Ended, Held}
 use Rattle.uas_tasks.specs.declared.Wants.{Wants}
 use Rattle.uas_tasks.specs.declared.Wants.TheVariants.{Absent, Asks, Waits, Gives, Takes, Ends}
 use Rattle.uas_tasks.specs.declared.slot.Out.{Out}
-use Rattle.uas_tasks.specs.Slots.{SlotState, answered_slot, asked_slot, fresh_slot, gave_slot, has_command, is_tag, is_wrong_length, next_bytes, passed_out, passing_out, slot_wants}
+use Rattle.uas_tasks.specs.Slots.{SlotState, answered_slot, asked_slot, fresh_slot, gave_slot, has_command, has_place, is_known, is_of, is_tag, is_wrong_length, next_bytes, passed_out, passing_out, slot_wants}
 use Rattle.uas_tasks.specs.Slots.{spared_slot, started, started_none, task_answer, took_slot, with_task}
 use Rattle.uas_tasks.specs.Stale.{held_by, is_stale, stale_unit}
 
@@ -308,8 +308,10 @@ bytes_out machine number = option_map (λ out. take out.len (slot_of machine (nu
 abbrev pub answered_out : Machine → ℕ → Outcome → List ℕ → Option Out → Machine × Result (Unit {0}) AnswerFault
 answered_out machine tag outcome new None = (machine, Err NotOut)
 answered_out machine tag outcome new (Some out) =
-    if is_wrong_length (slot_of machine tag) out outcome (length new) then (machine, Err WrongLength)
-    else (with_slot machine tag (answered_slot (slot_of machine tag) out outcome new), Ok tt)
+    if not (is_known machine.set outcome && is_of out.request outcome) then (machine, Err NoSuchOutcome)
+    else (if not (has_place out outcome) then (machine, Err WrongPlace)
+    else (if is_wrong_length (slot_of machine tag) out outcome (length new) then (machine, Err WrongLength)
+    else (with_slot machine tag (answered_slot (slot_of machine tag) out outcome new), Ok tt)))
 
 abbrev pub answered : Machine → ℕ → Outcome → List ℕ → Machine × Result (Unit {0}) AnswerFault
 answered machine number outcome new = answered_out machine (number % 256) outcome new (out_of_number machine number)

@@ -1,5 +1,5 @@
 -- What the device has for one tag, and what each call makes of it.
-use Rattle.std.specs.Prelude.{ℕ, ◌+◌, ◌-◌, ◌*◌, ◌%◌, ◌^◌, ◌==◌, nat_lt, nat_le, min, Bool, true, false, not, ◌&&◌, if◌then◌else◌, List, [], length, take, drop, replicate}
+use Rattle.std.specs.Prelude.{ℕ, ◌+◌, ◌-◌, ◌*◌, ◌/◌, ◌%◌, ◌^◌, ◌==◌, nat_lt, nat_le, min, Bool, true, false, not, ◌&&◌, if◌then◌else◌, List, [], length, take, drop, replicate}
 use Rattle.std.specs.Prelude.{Option, Some, None, is_some, option_map, option_and_then, Result, Ok, Err}
 use Rattle.std.specs.Option.{option_map_or}
 use Rattle.scsi_cmd.specs.Buffers.{with_bytes_at}
@@ -12,21 +12,29 @@ use Rattle.host_commands.specs.declared.Work.TheVariants.{Nothing, Gives as Give
 use Rattle.host_commands.specs.declared.Work.TheVariants.{Verifies as VerifiesWork, Compares as ComparesWork, WritesAndVerifies as WritesAndVerifiesWork}
 use Rattle.host_commands.specs.Data.{given_bytes}
 use Rattle.host_commands.specs.Shapes.{Shape, block_bytes}
+use Rattle.host_commands.specs.declared.CommandSet.{CommandSet}
+use Rattle.host_commands.specs.declared.CommandSet.TheVariants.{Profile, Host, Disk}
+use Rattle.host_sense.specs.declared.Detail.TheVariants.{Information}
+use Rattle.host_sense.specs.declared.SenseFormat.TheVariants.{Fixed}
+use Rattle.host_sense.specs.Formats.{sense_data_bytes}
 use Rattle.uas_iu.specs.declared.Iu.{Iu}
+use Rattle.uas_iu.specs.declared.Iu.TheVariants.{Sense as SenseUnit}
 use Rattle.uas_profile.specs.declared.TheConstants.{GREATEST_TAG}
 use Rattle.uas_target.specs.declared.DeviceAnswer.TheVariants.{Status, Response}
 use Rattle.uas_target.specs.Tasks.{answer_unit, is_at}
+use Rattle.uas_tasks.specs.declared.Failure.{Failure}
+use Rattle.uas_tasks.specs.declared.Failure.TheVariants.{Sensed, Busy as AsBusy}
 use Rattle.uas_tasks.specs.declared.Job.{Job}
 use Rattle.uas_tasks.specs.declared.JobKind.{JobKind}
-use Rattle.uas_tasks.specs.declared.JobKind.TheVariants.{Reads, Writes, Compares, Verifies, Synchronizes, WritesAndVerifies}
+use Rattle.uas_tasks.specs.declared.JobKind.TheVariants.{Reads, ReadsBeforeBad, Writes, Compares, Verifies, Synchronizes, WritesAndVerifies}
 use Rattle.uas_tasks.specs.declared.Outcome.{Outcome}
-use Rattle.uas_tasks.specs.declared.Outcome.TheVariants.{Done, Differs, MediumError, NotReady}
+use Rattle.uas_tasks.specs.declared.Outcome.TheVariants.{Done, Differs, MediumError, NotReady, DiffersAt, MediumErrorAt, NoSpace, WriteProtected, Aborted, Busy}
 use Rattle.uas_tasks.specs.declared.Request.{Request}
 use Rattle.uas_tasks.specs.declared.Request.TheVariants.{Read, Write, Compare, Verify, Sync}
 use Rattle.uas_tasks.specs.declared.Stage.{Stage}
 use Rattle.uas_tasks.specs.declared.Stage.TheVariants.{Asking, Waiting, Moving}
 use Rattle.uas_tasks.specs.declared.Task.{Task}
-use Rattle.uas_tasks.specs.declared.Task.TheVariants.{Giving, Blocks, Ended, Held}
+use Rattle.uas_tasks.specs.declared.Task.TheVariants.{Giving, Blocks, Ended, Failed, Held}
 use Rattle.uas_tasks.specs.declared.Wants.{Wants}
 use Rattle.uas_tasks.specs.declared.Wants.TheVariants.{Absent, Asks, Waits, Gives, Takes, Ends}
 use Rattle.uas_tasks.specs.declared.slot.Out.{Out}
@@ -66,6 +74,7 @@ chunk_bytes chunk job = job.block_bytes * chunk_blocks chunk job
 -- bytes that move, to the host or from it; VERIFY without data and SYNCHRONIZE CACHE move none
 abbrev pub moved_way : JobKind → ℕ → Wants
 moved_way Reads bytes = Gives bytes
+moved_way ReadsBeforeBad bytes = Gives bytes
 moved_way (Writes through) bytes = Takes bytes
 moved_way Compares bytes = Takes bytes
 moved_way Verifies bytes = Waits
@@ -82,6 +91,7 @@ abbrev pub task_wants : ℕ → Bool → ℕ → Task → Wants
 task_wants chunk out given (Giving unit at) = Gives (given - at)
 task_wants chunk out given (Blocks unit job stage) = if out then Waits else stage_wants chunk job stage
 task_wants chunk out given (Ended unit answer) = Ends
+task_wants chunk out given (Failed unit failure) = Ends
 task_wants chunk out given (Held unit code) = Ends
 
 abbrev pub slot_wants : SlotState → Wants
@@ -91,6 +101,7 @@ slot_wants slot = option_map_or (task_wants slot.chunk (is_some slot.out) (lengt
 
 abbrev pub request_of : JobKind → ℕ → ℕ → Job → Request
 request_of Reads unit chunk job = Read unit (job.lba + job.done) (chunk_blocks chunk job)
+request_of ReadsBeforeBad unit chunk job = Read unit (job.lba + job.done) (chunk_blocks chunk job)
 request_of (Writes through) unit chunk job = Write unit (job.lba + job.done) (chunk_blocks chunk job) through
 request_of Compares unit chunk job = Compare unit (job.lba + job.done) (chunk_blocks chunk job)
 request_of Verifies unit chunk job = Verify unit job.lba job.count
@@ -102,6 +113,7 @@ request_of (WritesAndVerifies false true) unit chunk job = Verify unit (job.lba 
 -- how many bytes of the chunk buffer belong to it
 abbrev pub request_bytes : JobKind → ℕ → ℕ
 request_bytes Reads bytes = bytes
+request_bytes ReadsBeforeBad bytes = bytes
 request_bytes (Writes through) bytes = bytes
 request_bytes Compares bytes = bytes
 request_bytes Verifies bytes = 0
@@ -113,12 +125,14 @@ out_of chunk (Giving unit at) = None
 out_of chunk (Blocks unit job stage) =
     Some (record { request = request_of job.kind unit chunk job; len = request_bytes job.kind (chunk_bytes chunk job) })
 out_of chunk (Ended unit answer) = None
+out_of chunk (Failed unit failure) = None
 out_of chunk (Held unit code) = None
 
 abbrev pub waiting : Task → Task
 waiting (Giving unit at) = Giving unit at
 waiting (Blocks unit job stage) = Blocks unit job Waiting
 waiting (Ended unit answer) = Ended unit answer
+waiting (Failed unit failure) = Failed unit failure
 waiting (Held unit code) = Held unit code
 
 -- the request of the task is out, and it is one more of its tag
@@ -138,6 +152,10 @@ ended_good unit = Ended (Some unit) (Status Good)
 abbrev pub ended_check : ℕ → Sense → Task
 ended_check unit sense = Ended (Some unit) (Status (Check sense))
 
+-- it has failed at a block, or at a byte of its data
+abbrev pub failed_at : ℕ → Sense → ℕ → Task
+failed_at unit sense place = Failed unit (Sensed (record { sense = sense; detail = Information place }))
+
 -- LOGICAL UNIT NOT READY, CAUSE NOT REPORTABLE
 abbrev pub not_ready : Sense
 not_ready = record { key = 2; asc = 0x04; ascq = 0 }
@@ -146,9 +164,22 @@ not_ready = record { key = 2; asc = 0x04; ascq = 0 }
 abbrev pub miscompare : Sense
 miscompare = record { key = 0x0e; asc = 0x1d; ascq = 0 }
 
+-- SPACE ALLOCATION FAILED WRITE PROTECT
+abbrev pub no_space : Sense
+no_space = record { key = 7; asc = 0x27; ascq = 7 }
+
+-- WRITE PROTECTED
+abbrev pub write_protected : Sense
+write_protected = record { key = 7; asc = 0x27; ascq = 0 }
+
+-- LOGICAL UNIT COMMUNICATION FAILURE of ABORTED COMMAND
+abbrev pub aborted_command : Sense
+aborted_command = record { key = 0x0b; asc = 0x08; ascq = 0 }
+
 -- a medium error, of a command that reads blocks or writes them
 abbrev pub medium_error : JobKind → Sense
 medium_error Reads = unrecovered_read_error
+medium_error ReadsBeforeBad = unrecovered_read_error
 medium_error (Writes through) = write_error
 medium_error Compares = unrecovered_read_error
 medium_error Verifies = unrecovered_read_error
@@ -159,6 +190,7 @@ medium_error (WritesAndVerifies compares true) = unrecovered_read_error
 -- a command on blocks begins with a request, or with bytes from the host
 abbrev pub first_stage : JobKind → Stage
 first_stage Reads = Asking
+first_stage ReadsBeforeBad = Asking
 first_stage (Writes through) = Moving 0
 first_stage Compares = Moving 0
 first_stage Verifies = Asking
@@ -175,6 +207,7 @@ next_chunk chunk unit job =
 -- the others asked for all at once.
 abbrev pub done_by : JobKind → ℕ → ℕ → Job → Task
 done_by Reads chunk unit job = Blocks unit job (Moving 0)
+done_by ReadsBeforeBad chunk unit job = Blocks unit job (Moving 0)
 done_by (Writes through) chunk unit job = next_chunk chunk unit job
 done_by Compares chunk unit job = next_chunk chunk unit job
 done_by Verifies chunk unit job = ended_good unit
@@ -182,11 +215,36 @@ done_by Synchronizes chunk unit job = ended_good unit
 done_by (WritesAndVerifies compares false) chunk unit job = Blocks unit (record job { kind = WritesAndVerifies compares true }) Asking
 done_by (WritesAndVerifies compares true) chunk unit job = next_chunk chunk unit (record job { kind = WritesAndVerifies compares false })
 
+-- A block can't be read or written. The blocks of a READ before it that were brought are given first: they are the last of the job then.
+-- Worked: of a READ of blocks 8 to 23, of which 12 is bad, 8 to 11 are given, and it ends with 3/11/00 at block 12.
+abbrev pub is_reading : JobKind → Bool
+is_reading Reads = true
+is_reading ReadsBeforeBad = false
+is_reading (Writes through) = false
+is_reading Compares = false
+is_reading Verifies = false
+is_reading Synchronizes = false
+is_reading (WritesAndVerifies compares has_written) = false
+
+abbrev pub before_bad : ℕ → ℕ → Job → Task
+before_bad block unit job = Blocks unit (record job { kind = ReadsBeforeBad; count = block - job.lba }) (Moving 0)
+
+abbrev pub after_bad : ℕ → Bool → ℕ → Job → Task
+after_bad block brings unit job =
+    if brings && is_reading job.kind && nat_lt (job.lba + job.done) block && nat_le block (job.lba + job.count) then before_bad block unit job
+    else failed_at unit (medium_error job.kind) block
+
 abbrev pub after_outcome : Outcome → ℕ → ℕ → Job → Task
 after_outcome Done chunk unit job = done_by job.kind chunk unit job
 after_outcome Differs chunk unit job = ended_check unit miscompare
 after_outcome MediumError chunk unit job = ended_check unit (medium_error job.kind)
 after_outcome NotReady chunk unit job = ended_check unit not_ready
+after_outcome (DiffersAt byte) chunk unit job = failed_at unit miscompare (job.block_bytes * job.done + byte)
+after_outcome (MediumErrorAt block brings) chunk unit job = after_bad block brings unit job
+after_outcome NoSpace chunk unit job = ended_check unit no_space
+after_outcome WriteProtected chunk unit job = ended_check unit write_protected
+after_outcome Aborted chunk unit job = ended_check unit aborted_command
+after_outcome Busy chunk unit job = Failed unit AsBusy
 
 abbrev pub after_stage : Outcome → ℕ → ℕ → Job → Stage → Task
 after_stage outcome chunk unit job Asking = Blocks unit job Asking
@@ -198,6 +256,7 @@ abbrev pub after_answer : Outcome → ℕ → Task → Task
 after_answer outcome chunk (Giving unit at) = Giving unit at
 after_answer outcome chunk (Blocks unit job stage) = after_stage outcome chunk unit job stage
 after_answer outcome chunk (Ended unit answer) = Ended unit answer
+after_answer outcome chunk (Failed unit failure) = Failed unit failure
 after_answer outcome chunk (Held unit code) = Held unit code
 
 -- whether a task waits for an answer
@@ -210,9 +269,10 @@ abbrev pub task_waits : Task → Bool
 task_waits (Giving unit at) = false
 task_waits (Blocks unit job stage) = stage_waits stage
 task_waits (Ended unit answer) = false
+task_waits (Failed unit failure) = false
 task_waits (Held unit code) = false
 
--- whether an answer brings the bytes of blocks: a Read that is done
+-- whether an answer brings the bytes of blocks: a Read that is done, or whose blocks before a bad one were read
 abbrev pub is_read : Request → Bool
 is_read (Read unit block count) = true
 is_read (Write unit block count through) = false
@@ -220,14 +280,20 @@ is_read (Compare unit block count) = false
 is_read (Verify unit block count) = false
 is_read (Sync unit block count) = false
 
-abbrev pub is_done : Outcome → Bool
-is_done Done = true
-is_done Differs = false
-is_done MediumError = false
-is_done NotReady = false
+abbrev pub brings : Outcome → Bool
+brings Done = true
+brings Differs = false
+brings MediumError = false
+brings NotReady = false
+brings (DiffersAt byte) = false
+brings (MediumErrorAt block before) = before
+brings NoSpace = false
+brings WriteProtected = false
+brings Aborted = false
+brings Busy = false
 
 abbrev pub brings_bytes : SlotState → Out → Outcome → Bool
-brings_bytes slot out outcome = option_map_or task_waits slot.task false && is_read out.request && is_done outcome
+brings_bytes slot out outcome = option_map_or task_waits slot.task false && is_read out.request && brings outcome
 
 abbrev pub filled : SlotState → Out → Outcome → List ℕ → List ℕ
 filled slot out outcome new = if brings_bytes slot out outcome then with_bytes_at slot.bytes 0 new else slot.bytes
@@ -240,9 +306,98 @@ answered_slot slot out outcome new = record slot {
   bytes = filled slot out outcome new;
 }
 
+-- the first block of a request, and how many it has
+abbrev pub block_in : Request → ℕ
+block_in (Read unit block count) = block
+block_in (Write unit block count through) = block
+block_in (Compare unit block count) = block
+block_in (Verify unit block count) = block
+block_in (Sync unit block count) = block
+
+abbrev pub count_in : Request → ℕ
+count_in (Read unit block count) = count
+count_in (Write unit block count through) = count
+count_in (Compare unit block count) = count
+count_in (Verify unit block count) = count
+count_in (Sync unit block count) = count
+
+-- how many bytes an answer brings that brings some: those of all blocks, or of the blocks before a bad one
+abbrev pub brought : Out → Outcome → ℕ
+brought out Done = out.len
+brought out Differs = 0
+brought out MediumError = 0
+brought out NotReady = 0
+brought out (DiffersAt byte) = 0
+brought out (MediumErrorAt block before) = (block - block_in out.request) * (out.len / count_in out.request)
+brought out NoSpace = 0
+brought out WriteProtected = 0
+brought out Aborted = 0
+brought out Busy = 0
+
 -- the bytes that it brings are not those of its blocks
 abbrev pub is_wrong_length : SlotState → Out → Outcome → ℕ → Bool
-is_wrong_length slot out outcome size = brings_bytes slot out outcome && not (size == out.len)
+is_wrong_length slot out outcome size = brings_bytes slot out outcome && not (size == brought out outcome)
+
+-- WHICH ANSWERS A REQUEST CAN HAVE
+
+-- a place, want of room and what may be tried again are told in the disk set alone
+abbrev pub is_disk : CommandSet → Bool
+is_disk Profile = false
+is_disk (Host maximum) = false
+is_disk Disk = true
+
+abbrev pub is_known : CommandSet → Outcome → Bool
+is_known set Done = true
+is_known set Differs = true
+is_known set MediumError = true
+is_known set NotReady = true
+is_known set (DiffersAt byte) = is_disk set
+is_known set (MediumErrorAt block before) = is_disk set
+is_known set NoSpace = is_disk set
+is_known set WriteProtected = is_disk set
+is_known set Aborted = is_disk set
+is_known set Busy = is_disk set
+
+abbrev pub is_compare : Request → Bool
+is_compare (Read unit block count) = false
+is_compare (Write unit block count through) = false
+is_compare (Compare unit block count) = true
+is_compare (Verify unit block count) = false
+is_compare (Sync unit block count) = false
+
+-- room and leave to write are wanted by a Write, and by a Sync for what was written before
+abbrev pub is_writing : Request → Bool
+is_writing (Read unit block count) = false
+is_writing (Write unit block count through) = true
+is_writing (Compare unit block count) = false
+is_writing (Verify unit block count) = false
+is_writing (Sync unit block count) = true
+
+abbrev pub is_of : Request → Outcome → Bool
+is_of request Done = true
+is_of request Differs = true
+is_of request MediumError = true
+is_of request NotReady = true
+is_of request (DiffersAt byte) = is_compare request
+is_of request (MediumErrorAt block before) = true
+is_of request NoSpace = is_writing request
+is_of request WriteProtected = is_writing request
+is_of request Aborted = true
+is_of request Busy = true
+
+-- its place is in the request: the block one of its blocks, the byte one of theirs
+abbrev pub has_place : Out → Outcome → Bool
+has_place out Done = true
+has_place out Differs = true
+has_place out MediumError = true
+has_place out NotReady = true
+has_place out (DiffersAt byte) = nat_lt byte out.len
+has_place out (MediumErrorAt block before) =
+    nat_le (block_in out.request) block && nat_lt block (block_in out.request + count_in out.request)
+has_place out NoSpace = true
+has_place out WriteProtected = true
+has_place out Aborted = true
+has_place out Busy = true
 
 -- BYTES TO THE HOST
 
@@ -253,11 +408,22 @@ moved_on chunk moved unit job after Waiting = Blocks unit job Waiting
 moved_on chunk moved unit job after (Moving at) =
     if nat_lt (at + moved) (chunk_bytes chunk job) then Blocks unit job (Moving (at + moved)) else after
 
+-- its last byte moved: the next chunk, or the end; of the blocks before a bad one the end is that one's
+abbrev pub gave_chunk : JobKind → ℕ → ℕ → Job → Task
+gave_chunk Reads chunk unit job = next_chunk chunk unit job
+gave_chunk ReadsBeforeBad chunk unit job = failed_at unit unrecovered_read_error (job.lba + job.count)
+gave_chunk (Writes through) chunk unit job = next_chunk chunk unit job
+gave_chunk Compares chunk unit job = next_chunk chunk unit job
+gave_chunk Verifies chunk unit job = next_chunk chunk unit job
+gave_chunk Synchronizes chunk unit job = next_chunk chunk unit job
+gave_chunk (WritesAndVerifies compares has_written) chunk unit job = next_chunk chunk unit job
+
 abbrev pub gave_task : ℕ → ℕ → ℕ → Task → Task
 gave_task chunk given moved (Giving unit at) =
     if nat_lt (at + moved) given then Giving unit (at + moved) else Ended unit (Status Good)
-gave_task chunk given moved (Blocks unit job stage) = moved_on chunk moved unit job (next_chunk chunk unit job) stage
+gave_task chunk given moved (Blocks unit job stage) = moved_on chunk moved unit job (gave_chunk job.kind chunk unit job) stage
 gave_task chunk given moved (Ended unit answer) = Ended unit answer
+gave_task chunk given moved (Failed unit failure) = Failed unit failure
 gave_task chunk given moved (Held unit code) = Held unit code
 
 abbrev pub gave_slot : SlotState → ℕ → SlotState
@@ -273,6 +439,7 @@ abbrev pub task_bytes : List ℕ → List ℕ → Task → List ℕ
 task_bytes given bytes (Giving unit at) = drop at given
 task_bytes given bytes (Blocks unit job stage) = stage_bytes bytes stage
 task_bytes given bytes (Ended unit answer) = []
+task_bytes given bytes (Failed unit failure) = []
 task_bytes given bytes (Held unit code) = []
 
 abbrev pub next_bytes : SlotState → ℕ → List ℕ
@@ -298,6 +465,7 @@ abbrev pub took_task : ℕ → ℕ → Task → Task
 took_task chunk moved (Giving unit at) = Giving unit at
 took_task chunk moved (Blocks unit job stage) = moved_on chunk moved unit job (Blocks unit job Asking) stage
 took_task chunk moved (Ended unit answer) = Ended unit answer
+took_task chunk moved (Failed unit failure) = Failed unit failure
 took_task chunk moved (Held unit code) = Held unit code
 
 abbrev pub stage_taken : List ℕ → List ℕ → Stage → List ℕ
@@ -309,6 +477,7 @@ abbrev pub task_taken : List ℕ → List ℕ → Task → List ℕ
 task_taken bytes new (Giving unit at) = bytes
 task_taken bytes new (Blocks unit job stage) = stage_taken bytes new stage
 task_taken bytes new (Ended unit answer) = bytes
+task_taken bytes new (Failed unit failure) = bytes
 task_taken bytes new (Held unit code) = bytes
 
 abbrev pub took_slot : SlotState → List ℕ → SlotState
@@ -375,6 +544,7 @@ is_command_of number (Giving unit at) = is_at number unit
 is_command_of number (Blocks unit job stage) = unit == number
 is_command_of number (Ended unit (Status answer)) = is_at number unit
 is_command_of number (Ended unit (Response code)) = false
+is_command_of number (Failed unit failure) = unit == number
 is_command_of number (Held unit code) = false
 
 -- what a tag has once the commands to the logical unit of this number are gone; a request that is out stays out
@@ -390,8 +560,14 @@ spared_slot number slot = with_task slot (spared number slot.task)
 
 -- THE ANSWER
 
+-- CHECK CONDITION, 02h, with sense data that say where; or BUSY, 08h
+abbrev pub failure_unit : ℕ → Failure → Iu
+failure_unit tag (Sensed told) = SenseUnit tag 2 (record { items = sense_data_bytes told Fixed })
+failure_unit tag AsBusy = SenseUnit tag 8 (record { items = [] })
+
 abbrev pub task_answer : ℕ → Task → Option Iu
 task_answer tag (Giving unit at) = None
 task_answer tag (Blocks unit job stage) = None
 task_answer tag (Ended unit answer) = Some (answer_unit tag answer)
+task_answer tag (Failed unit failure) = Some (failure_unit tag failure)
 task_answer tag (Held unit code) = Some (answer_unit tag (Response code))

@@ -12,7 +12,7 @@ use Rattle.uas_tasks.specs.declared.LogicalUnit.{LogicalUnit}
 use Rattle.uas_tasks.specs.declared.Stage.{Stage}
 use Rattle.uas_tasks.specs.declared.Stage.TheVariants.{Asking, Waiting, Moving}
 use Rattle.uas_tasks.specs.declared.Task.{Task}
-use Rattle.uas_tasks.specs.declared.Task.TheVariants.{Giving, Blocks, Ended, Held}
+use Rattle.uas_tasks.specs.declared.Task.TheVariants.{Giving, Blocks, Ended, Failed, Held}
 use Rattle.uas_tasks.specs.declared.Wants.{Wants}
 use Rattle.uas_tasks.specs.declared.Wants.TheVariants.{Absent, Asks, Waits, Gives, Takes, Ends}
 use Rattle.uas_tasks.specs.Slots.{SlotState, chunk_bytes}
@@ -35,6 +35,7 @@ abbrev pub IsSoundTask : ℕ → ℕ → Task → Type 0
 IsSoundTask chunk given (Giving unit at) = at < given
 IsSoundTask chunk given (Blocks unit job stage) = IsSoundJob job × IsSoundStage chunk job stage
 IsSoundTask chunk given (Ended unit answer) = Unit {0}
+IsSoundTask chunk given (Failed unit failure) = Unit {0}
 IsSoundTask chunk given (Held unit code) = Unit {0}
 
 -- the same of a command on blocks alone
@@ -42,6 +43,7 @@ abbrev pub IsSoundWork : ℕ → Task → Type 0
 IsSoundWork chunk (Giving unit at) = Unit {0}
 IsSoundWork chunk (Blocks unit job stage) = IsSoundJob job × IsSoundStage chunk job stage
 IsSoundWork chunk (Ended unit answer) = Unit {0}
+IsSoundWork chunk (Failed unit failure) = Unit {0}
 IsSoundWork chunk (Held unit code) = Unit {0}
 
 -- a task that tells a response code
@@ -49,6 +51,7 @@ abbrev pub IsAnswer : Task → Type 0
 IsAnswer (Giving unit at) = ⊥
 IsAnswer (Blocks unit job stage) = ⊥
 IsAnswer (Ended unit answer) = Unit {0}
+IsAnswer (Failed unit failure) = ⊥
 IsAnswer (Held unit code) = Unit {0}
 
 -- a chunk of its blocks has room in the buffer
@@ -56,6 +59,7 @@ abbrev pub FitsRoom : ℕ → ℕ → Task → Type 0
 FitsRoom chunk room (Giving unit at) = Unit {0}
 FitsRoom chunk room (Blocks unit job stage) = chunk * job.block_bytes ≤ room
 FitsRoom chunk room (Ended unit answer) = Unit {0}
+FitsRoom chunk room (Failed unit failure) = Unit {0}
 FitsRoom chunk room (Held unit code) = Unit {0}
 
 -- a chunk has 1 to 128 blocks
@@ -111,6 +115,7 @@ abbrev pub IsTaskWithin : ℕ → Task → Type 0
 IsTaskWithin many (Giving unit at) = Unit {0}
 IsTaskWithin many (Blocks unit job stage) = unit < many
 IsTaskWithin many (Ended unit answer) = Unit {0}
+IsTaskWithin many (Failed unit failure) = Unit {0}
 IsTaskWithin many (Held unit code) = Unit {0}
 
 pub record IsWithin (many : ℕ) (slot : SlotState) : Type 0 where

@@ -7,7 +7,7 @@ use Rattle.uas_tasks.specs.declared.Request.TheVariants.{Read, Write, Compare, V
 use Rattle.uas_tasks.specs.declared.Stage.{Stage}
 use Rattle.uas_tasks.specs.declared.Stage.TheVariants.{Asking, Waiting, Moving}
 use Rattle.uas_tasks.specs.declared.Task.{Task}
-use Rattle.uas_tasks.specs.declared.Task.TheVariants.{Giving, Blocks, Ended, Held}
+use Rattle.uas_tasks.specs.declared.Task.TheVariants.{Giving, Blocks, Ended, Failed, Held}
 use Rattle.uas_tasks.specs.Slots.{SlotState, has_command, task_waits}
 
 -- the logical unit of a request
@@ -53,4 +53,5 @@ abbrev pub held_by : Task → Option ℕ
 held_by (Giving unit at) = None
 held_by (Blocks unit job stage) = stage_held unit stage
 held_by (Ended unit answer) = None
+held_by (Failed unit failure) = None
 held_by (Held unit code) = Some unit

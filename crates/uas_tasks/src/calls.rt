@@ -1,13 +1,14 @@
 //! The calls on a tag's task and on requests.
-ghost use Rattle.std.specs.Prelude.{◌≡◌, ◌*◌, ◌≤◌, IfOk, IsSome, MatchOption, Some, false, length, map, replicate};
+ghost use Rattle.std.specs.Prelude.{◌≡◌, ◌*◌, ◌≤◌, IfOk, IsSome, MatchOption, Some, false, length, map, replicate, true};
 ghost use Rattle.std.specs.List.{list_any};
 ghost use Rattle.std.specs.Option.{option_copied};
 ghost use Rattle.uas_profile.specs.declared.TheConstants.{GREATEST_TAG, MAX_UNITS};
 ghost use Rattle.uas_tasks.specs.Machine.{answered, attention_on, bytes_out, gave, given, greatest_block, is_long, next_asked, next_by, next_of, no_slot, opening};
 ghost use Rattle.uas_tasks.specs.Machine.{out_of_number, passed, passing, quiet, request_out, slot_of, slot_under, took, wanted, with_slot, without_task};
-ghost use Rattle.uas_tasks.specs.Slots.{answered_slot, fresh_slot, is_wrong_length, passed_out, passing_out};
+ghost use Rattle.uas_tasks.specs.Slots.{answered_slot, fresh_slot, has_place, is_wrong_length, passed_out, passing_out};
 ghost use Rattle.uas_tasks.specs.Soundness.{MayGive, MayTake};
 
+use crate::outcomes::{is_known, is_of};
 use crate::slot::{Out, Slot};
 use crate::stale::{count_down, number_of};
 use crate::{AnswerFault, LogicalUnit, Next, Outcome, Request, Tasks, Wants};
@@ -141,9 +142,11 @@ impl Tasks {
         Some(slot.bytes_out(&out))
     }
 
-    /// The request of a number is answered; `bytes` are those of its blocks where a Read is done, and nothing otherwise. What came of
-    /// one whose task is gone is dropped; after a stale one any tag of its logical unit that waited may go on. Refused, and nothing changes, with `NotOut` where no request of this number is
-    /// out, and with `WrongLength` where the bytes of a Read that is done are more or fewer than its blocks have.
+    /// The request of a number is answered; `bytes` are those of its blocks where a Read is done, those before a bad one where it brings them,
+    /// and nothing otherwise. What came of one whose task is gone is dropped; after a stale one any tag of its logical unit that waited may go on.
+    /// Refused, and nothing changes, with `NotOut` where no request of this number is out, with `NoSuchOutcome` where it can't have that
+    /// outcome, with `WrongPlace` where the block or the byte isn't one of its own, and with `WrongLength` where a Read brings more or fewer
+    /// bytes than these blocks have.
     pub fn answered(
         &mut self,
         number: u64,
@@ -155,6 +158,12 @@ impl Tasks {
         let Some(out) = self.out_of_number(number) else {
             return Err(AnswerFault::NotOut);
         };
+        if !is_known(self.set, outcome) || !is_of(&out.request, outcome) {
+            return Err(AnswerFault::NoSuchOutcome);
+        }
+        if !out.has_place(outcome) {
+            return Err(AnswerFault::WrongPlace);
+        }
         let tag = (number % TAG_PLACES) as u16;
         if self.is_wrong_length(tag, &out, outcome, bytes.len()) {
             return Err(AnswerFault::WrongLength);
@@ -191,6 +200,7 @@ impl Tasks {
     }
 
     fn is_wrong_length(&self, tag: u16, out: &Out, outcome: Outcome, size: usize) -> bool
+        requires { has_place out.now outcome ≡ true }
         ensures { result ≡ is_wrong_length (slot_under self.now.slots tag) out.now outcome size }
     {
         match self.slot(tag) {
@@ -201,6 +211,7 @@ impl Tasks {
 
     fn answer(&mut self, tag: u16, out: &Out, outcome: Outcome, bytes: &[u8])
         requires out { (slot_under self.old.slots tag).out ≡ Some out.now }
+        requires place { has_place out.now outcome ≡ true }
         requires len { is_wrong_length (slot_under self.old.slots tag) out.now outcome (length bytes.now) ≡ false }
         ensures { self.new ≡ with_slot self.old tag (answered_slot (slot_of self.old tag) out.now outcome bytes.now) }
     {

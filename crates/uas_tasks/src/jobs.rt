@@ -3,13 +3,16 @@ ghost use Rattle.std.specs.Prelude.{◌≡◌, ℕ, ◌+◌, ◌*◌, ◌^◌, �
 ghost use Rattle.std.specs.Option.{option_map_or};
 ghost use Rattle.host_commands.specs.Shapes.{block_bytes};
 ghost use Rattle.uas_tasks.specs.Slots.{after_answer, after_outcome, chunk_blocks, chunk_bytes, done_by, ended_check, ended_good, first_stage};
-ghost use Rattle.uas_tasks.specs.Slots.{is_done, is_read, job_task, medium_error, moved_way, next_chunk, out_of, request_bytes};
-ghost use Rattle.uas_tasks.specs.Slots.{request_of, stage_wants, task_waits, waiting};
+ghost use Rattle.uas_tasks.specs.Slots.{after_bad, failed_at, gave_chunk, is_read, is_reading, job_task, medium_error, moved_way, next_chunk};
+ghost use Rattle.uas_tasks.specs.Slots.{out_of, request_bytes, request_of, stage_wants, task_waits, waiting};
 ghost use Rattle.uas_tasks.specs.Soundness.{FitsRoom, IsSoundJob, IsSoundStage, IsSoundTask, IsSoundWork};
 ghost use Rattle.uas_tasks.specs.Stale.{unit_written};
 
 use crate::slot::Out;
-use crate::{Answer, DeviceAnswer, Job, JobKind, Outcome, Request, Stage, Task, Wants};
+use crate::{
+    Answer, Detail, DeviceAnswer, Failure, Job, JobKind, Outcome, Request, SenseData, Stage, Task,
+    Wants,
+};
 use host_commands::BlockLength;
 use scsi_cmd::Sense;
 
@@ -24,6 +27,27 @@ const NOT_READY: Sense = Sense {
 const MISCOMPARE: Sense = Sense {
     key: 0xe,
     asc: 0x1d,
+    ascq: 0x00,
+};
+
+/// SPACE ALLOCATION FAILED WRITE PROTECT (SBC).
+const NO_SPACE: Sense = Sense {
+    key: 0x7,
+    asc: 0x27,
+    ascq: 0x07,
+};
+
+/// WRITE PROTECTED (SPC).
+const WRITE_PROTECTED: Sense = Sense {
+    key: 0x7,
+    asc: 0x27,
+    ascq: 0x00,
+};
+
+/// LOGICAL UNIT COMMUNICATION FAILURE (SPC), with ABORTED COMMAND.
+const ABORTED_COMMAND: Sense = Sense {
+    key: 0xb,
+    asc: 0x08,
     ascq: 0x00,
 };
 
@@ -44,6 +68,19 @@ pub(crate) fn ended_check(unit: usize, sense: Sense) -> Task
     Task::Ended {
         unit: Some(unit),
         answer: DeviceAnswer::Status(Answer::Check(sense)),
+    }
+}
+
+/// A command that has failed at a block, or at a byte of its data.
+fn failed_at(unit: usize, sense: Sense, place: u64) -> Task
+    ensures { result ≡ failed_at unit sense place }
+{
+    Task::Failed {
+        unit,
+        failure: Failure::Sensed(SenseData {
+            sense,
+            detail: Detail::Information(place),
+        }),
     }
 }
 
@@ -81,7 +118,8 @@ fn first_stage(kind: JobKind) -> Stage
     ensures { result ≡ first_stage kind }
 {
     match kind {
-        JobKind::Reads | JobKind::Verifies | JobKind::Synchronizes => Stage::Asking,
+        JobKind::Reads | JobKind::ReadsBeforeBad | JobKind::Verifies | JobKind::Synchronizes =>
+            Stage::Asking,
         JobKind::Writes { .. } | JobKind::Compares | JobKind::WritesAndVerifies { .. } => {
             Stage::Moving { at: 0 }
         }
@@ -123,7 +161,7 @@ fn moved_way(kind: JobKind, bytes: usize) -> Wants
     ensures { result ≡ moved_way kind bytes }
 {
     match kind {
-        JobKind::Reads => Wants::Gives(bytes),
+        JobKind::Reads | JobKind::ReadsBeforeBad => Wants::Gives(bytes),
         JobKind::Writes { .. } | JobKind::Compares | JobKind::WritesAndVerifies { .. } => {
             Wants::Takes(bytes)
         }
@@ -141,7 +179,8 @@ pub(crate) fn out_of(task: Option<Task>, chunk: u16) -> Option<Out>
             request: request_of(unit, &job, chunk),
             len: request_bytes(job.kind, chunk_bytes(&job, chunk)),
         }),
-        Some(Task::Giving { .. } | Task::Ended { .. } | Task::Held { .. }) | None => None,
+        Some(Task::Giving { .. } | Task::Ended { .. } | Task::Failed { .. } | Task::Held { .. })
+        | None => None,
     }
 }
 
@@ -152,7 +191,7 @@ fn request_of(unit: usize, job: &Job, chunk: u16) -> Request
     let block = job.lba + job.done;
     let count = chunk_blocks(job, chunk);
     match job.kind {
-        JobKind::Reads => Request::Read { unit, block, count },
+        JobKind::Reads | JobKind::ReadsBeforeBad => Request::Read { unit, block, count },
         JobKind::Writes { through } => Request::Write {
             unit,
             block,
@@ -194,7 +233,8 @@ fn request_bytes(kind: JobKind, bytes: usize) -> usize
     ensures { result ≡ request_bytes kind bytes }
 {
     match kind {
-        JobKind::Reads | JobKind::Writes { .. } | JobKind::Compares => bytes,
+        JobKind::Reads | JobKind::ReadsBeforeBad | JobKind::Writes { .. } | JobKind::Compares =>
+            bytes,
         JobKind::WritesAndVerifies {
             compares,
             has_written,
@@ -234,6 +274,26 @@ pub(crate) fn next_chunk(chunk: u16, unit: usize, job: Job) -> Task
     }
 }
 
+/// The last byte of a chunk to the host moved: the next chunk, or the end.
+pub(crate) fn gave_chunk(chunk: u16, unit: usize, job: Job) -> Task
+    requires { IsSoundJob job }
+    ensures { result ≡ gave_chunk job.kind chunk unit job }
+{
+    match job.kind {
+        JobKind::ReadsBeforeBad => failed_at(
+            unit,
+            Sense::UNRECOVERED_READ_ERROR,
+            job.lba + job.count,
+        ),
+        JobKind::Reads
+        | JobKind::Writes { .. }
+        | JobKind::Compares
+        | JobKind::Verifies
+        | JobKind::Synchronizes
+        | JobKind::WritesAndVerifies { .. } => next_chunk(chunk, unit, job),
+    }
+}
+
 /// A task whose request was answered; another one goes on as it was.
 pub(crate) fn after_answer(outcome: Outcome, chunk: u16, task: Option<Task>) -> Option<Task>
     requires { IfSome task (IsSoundWork chunk) }
@@ -260,7 +320,47 @@ fn after_outcome(outcome: Outcome, chunk: u16, unit: usize, job: Job) -> Task
         Outcome::Differs => ended_check(unit, MISCOMPARE),
         Outcome::MediumError => ended_check(unit, medium_error(job.kind)),
         Outcome::NotReady => ended_check(unit, NOT_READY),
+        Outcome::DiffersAt { byte } => failed_at(
+            unit,
+            MISCOMPARE,
+            u64::from(job.block_bytes) * job.done + u64::from(byte),
+        ),
+        Outcome::MediumErrorAt { block, brings } => after_bad(block, brings, unit, job),
+        Outcome::NoSpace => ended_check(unit, NO_SPACE),
+        Outcome::WriteProtected => ended_check(unit, WRITE_PROTECTED),
+        Outcome::Aborted => ended_check(unit, ABORTED_COMMAND),
+        Outcome::Busy => Task::Failed {
+            unit,
+            failure: Failure::Busy,
+        },
     }
+}
+
+/// A block can't be read or written: the blocks of a READ before it are given first, where the answer brings them.
+fn after_bad(block: u64, brings: bool, unit: usize, job: Job) -> Task
+    requires { IsSoundJob job }
+    ensures { result ≡ after_bad block brings unit job }
+{
+    let has_some = job.lba + job.done < block && block <= job.lba + job.count;
+    if brings && is_reading(job.kind) && has_some {
+        Task::Blocks {
+            unit,
+            job: Job {
+                kind: JobKind::ReadsBeforeBad,
+                count: block - job.lba,
+                ..job
+            },
+            stage: Stage::Moving { at: 0 },
+        }
+    } else {
+        failed_at(unit, medium_error(job.kind), block)
+    }
+}
+
+fn is_reading(kind: JobKind) -> bool
+    ensures { result ≡ is_reading kind }
+{
+    matches!(kind, JobKind::Reads)
 }
 
 fn done_by(chunk: u16, unit: usize, job: Job) -> Task
@@ -268,7 +368,7 @@ fn done_by(chunk: u16, unit: usize, job: Job) -> Task
     ensures { result ≡ done_by job.kind chunk unit job }
 {
     match job.kind {
-        JobKind::Reads => Task::Blocks {
+        JobKind::Reads | JobKind::ReadsBeforeBad => Task::Blocks {
             unit,
             job,
             stage: Stage::Moving { at: 0 },
@@ -303,7 +403,9 @@ fn medium_error(kind: JobKind) -> Sense
     ensures { result ≡ medium_error kind }
 {
     match kind {
-        JobKind::Reads | JobKind::Compares | JobKind::Verifies => Sense::UNRECOVERED_READ_ERROR,
+        JobKind::Reads | JobKind::ReadsBeforeBad | JobKind::Compares | JobKind::Verifies => {
+            Sense::UNRECOVERED_READ_ERROR
+        }
         JobKind::WritesAndVerifies {
             has_written: true,
             ..
@@ -345,10 +447,4 @@ pub(crate) fn unit_written(request: &Request) -> Option<usize>
         Request::Write { unit, .. } => Some(*unit),
         _ => None,
     }
-}
-
-pub(crate) fn is_done(outcome: Outcome) -> bool
-    ensures { result ≡ is_done outcome }
-{
-    matches!(outcome, Outcome::Done)
 }

@@ -20,6 +20,12 @@
 //! | medium error | UNRECOVERED READ ERROR | WRITE ERROR |
 //! | not ready | LOGICAL UNIT NOT READY | the same |
 //! | differs | MISCOMPARE DURING VERIFY OPERATION | the same |
+//! | no space, write protected | | SPACE ALLOCATION FAILED WRITE PROTECT, WRITE PROTECTED |
+//! | aborted | LOGICAL UNIT COMMUNICATION FAILURE | the same |
+//! | busy | the status BUSY | the same |
+//!
+//! In the disk set sense data tell the first bad block, or the first byte that differs, where the outcome has it; and a READ gives the blocks
+//! before the bad one first, where the outcome brings them.
 //!
 //! Each tag has one chunk buffer, and at most one request out. A task that is aborted or reset while its request is out is gone
 //! at once, and its tag may have another task; that one waits where it needs the buffer, until the request is answered, whose
@@ -47,6 +53,7 @@ mod jobs;
 mod laws;
 mod management;
 mod moves;
+mod outcomes;
 mod receiver;
 mod slot;
 mod stale;
@@ -54,6 +61,7 @@ mod starts;
 
 pub use device_server::Answer;
 use host_commands::{CommandSet, LogicalUnitShape, UnitAttention};
+pub use host_sense::{Detail, SenseData};
 pub use laws::{last_answer_frees, nothing_stale_passes};
 use slot::Slot;
 use std::marker::Model;
@@ -103,7 +111,7 @@ pub enum Request {
     },
 }
 
-/// What came of a request.
+/// What came of a request; from `DiffersAt` on in the disk set alone.
 #[derive(Clone, Copy, Debug, PartialEq, Eq)]
 pub enum Outcome {
     /// It is done.
@@ -114,6 +122,18 @@ pub enum Outcome {
     MediumError,
     /// Nothing can be read or written now.
     NotReady,
+    /// Of a Compare: the blocks are other ones, from this byte of theirs on.
+    DiffersAt { byte: u32 },
+    /// This block is the first that can't be read or written; of a Read, whether the blocks before it come with the answer.
+    MediumErrorAt { block: u64, brings: bool },
+    /// Of a Write or a Sync: there is no room for them.
+    NoSpace,
+    /// Of a Write or a Sync: nothing can be written.
+    WriteProtected,
+    /// It was given up; a host may try it again.
+    Aborted,
+    /// It can't be done now; a host tries it again.
+    Busy,
 }
 
 /// Why an answer to a request is refused: the first of these that holds.
@@ -121,6 +141,10 @@ pub enum Outcome {
 pub enum AnswerFault {
     #[error("no request of this number is out")]
     NotOut,
+    #[error("a request of this kind, or of this command set, has no such outcome")]
+    NoSuchOutcome,
+    #[error("the block, or the byte, isn't one of the request's")]
+    WrongPlace,
     #[error("other bytes than the blocks that were asked for have")]
     WrongLength,
 }
@@ -129,6 +153,8 @@ pub enum AnswerFault {
 #[derive(Clone, Copy, Debug, PartialEq, Eq)]
 pub enum JobKind {
     Reads,
+    /// The last blocks of a READ: the one behind them can't be read.
+    ReadsBeforeBad,
     Writes { through: bool },
     Compares,
     Verifies,
@@ -145,6 +171,15 @@ pub struct Job {
     pub lba: u64,
     pub count: u64,
     pub done: u64,
+}
+
+/// How a command on blocks failed.
+#[derive(Clone, Copy, Debug, PartialEq, Eq)]
+pub enum Failure {
+    /// With CHECK CONDITION and these sense data.
+    Sensed(SenseData),
+    /// With BUSY.
+    Busy,
 }
 
 /// Where a command on blocks is with its chunk.
@@ -177,6 +212,11 @@ pub enum Task {
     Ended {
         unit: Option<usize>,
         answer: DeviceAnswer,
+    },
+    /// Its answer waits to be sent: it failed, and more is told than a sense key and codes.
+    Failed {
+        unit: usize,
+        failure: Failure,
     },
     /// Its Response waits for the stale requests of a logical unit, a command of which it ended.
     Held {

@@ -233,6 +233,7 @@ fn is_command_of(number: usize, task: &Task) -> bool
             DeviceAnswer::Status(_) => is_at(number, *unit),
             DeviceAnswer::Response(_) => false,
         },
+        Task::Failed { unit, .. } => *unit == number,
         Task::Held { .. } => false,
     }
 }

@@ -3,7 +3,7 @@ ghost use Rattle.std.specs.Prelude.{◌≡◌, IfSome, option_map};
 ghost use Rattle.uas_tasks.specs.Slots.{gave_task, moved_on, took_task};
 ghost use Rattle.uas_tasks.specs.Soundness.{IsSoundJob, IsSoundStage, IsSoundTask, IsSoundWork};
 
-use crate::jobs::{chunk_bytes, next_chunk};
+use crate::jobs::{chunk_bytes, gave_chunk};
 use crate::{Answer, DeviceAnswer, Job, Stage, Task};
 
 /// A task that gave so many bytes, of data of the device of `given` bytes or of its chunk.
@@ -24,7 +24,7 @@ pub(crate) fn gave_task(chunk: u16, given: usize, moved: usize, task: Option<Tas
             }
         }),
         Some(Task::Blocks { unit, job, stage }) => {
-            let after = next_chunk(chunk, unit, job);
+            let after = gave_chunk(chunk, unit, job);
             Some(moved_on(chunk, moved, unit, job, after, stage))
         }
         other => other,

@@ -3,17 +3,16 @@ ghost use Rattle.std.specs.Prelude.{◌≡◌, ◌≤◌, if◌then◌else◌, I
 ghost use Rattle.scsi_cmd.specs.declared.Sense.{Sense};
 ghost use Rattle.scsi_cmd.specs.Buffers.{with_bytes_at};
 ghost use Rattle.host_commands.specs.Data.{IsOfDevice, given_bytes};
-ghost use Rattle.uas_tasks.specs.Slots.{SlotState, answered_slot, asked_slot, brings_bytes, filled, fresh_slot, gave_slot, giving_slot};
+ghost use Rattle.uas_tasks.specs.Slots.{SlotState, answered_slot, asked_slot, brings_bytes, filled, fresh_slot, gave_slot, giving_slot, has_place};
 ghost use Rattle.uas_tasks.specs.Slots.{is_wrong_length, next_bytes, passed_out, passing_out, slot_wants, took_slot, with_task};
 ghost use Rattle.uas_tasks.specs.Soundness.{FitsRoom, IsSoundTask, MayGive, MayTake};
 ghost use Rattle.uas_tasks.specs.Stale.{held_by, stale_unit, stale_without, writes_out};
 ghost use Rattle.uas_tasks.specs.declared.Wants.{Wants};
 ghost use Rattle.uas_tasks.specs.declared.slot.Out.{Out};
 
-use crate::jobs::{
-    after_answer, is_done, is_read, is_waiting, out_of, stage_wants, unit_written, waiting,
-};
+use crate::jobs::{after_answer, is_read, is_waiting, out_of, stage_wants, unit_written, waiting};
 use crate::moves::{gave_task, took_task};
+use crate::outcomes::brings;
 use crate::{Answer, DeviceAnswer, Outcome, Request, Stage, Task, Wants};
 use arrayvec::ArrayVec;
 use host_commands::{Data, MOST_DATA_BYTES, write_data};
@@ -115,7 +114,7 @@ impl Slot {
                     stage_wants(job, self.chunk, *stage)
                 }
             }
-            Some(Task::Ended { .. } | Task::Held { .. }) => Wants::Ends,
+            Some(Task::Ended { .. } | Task::Failed { .. } | Task::Held { .. }) => Wants::Ends,
         }
     }
 
@@ -230,19 +229,21 @@ impl Slot {
     fn brings_bytes(&self, out: &Out, outcome: Outcome) -> bool
         ensures { result ≡ brings_bytes self.now out.now outcome }
     {
-        is_waiting(&self.task) && is_read(&out.request) && is_done(outcome)
+        is_waiting(&self.task) && is_read(&out.request) && brings(outcome)
     }
 
     /// Whether an answer brings other bytes than those of its blocks.
     pub(crate) fn is_wrong_length(&self, out: &Out, outcome: Outcome, size: usize) -> bool
+        requires { has_place out.now outcome ≡ true }
         ensures { result ≡ is_wrong_length self.now out.now outcome size }
     {
-        self.brings_bytes(out, outcome) && size != out.len
+        self.brings_bytes(out, outcome) && size != out.brought(outcome)
     }
 
     /// Its request is answered.
     pub(crate) fn answer(&mut self, out: &Out, outcome: Outcome, bytes: &[u8])
         requires out { self.old.out ≡ Some out.now }
+        requires place { has_place out.now outcome ≡ true }
         requires len { is_wrong_length self.old out.now outcome (length bytes.now) ≡ false }
         ensures slot { self.new ≡ answered_slot self.old out.now outcome bytes.now }
         ensures len { length self.new.bytes ≡ length self.old.bytes }

@@ -1,0 +1,134 @@
+//! Which answers a request can have, and what they bring.
+ghost use Rattle.std.specs.Prelude.{◌≡◌, ◌≤◌, true};
+ghost use Rattle.uas_tasks.specs.Slots.{block_in, brings, brought, count_in, has_place, is_known, is_of};
+
+use crate::slot::Out;
+use crate::{Outcome, Request};
+use host_commands::CommandSet;
+
+/// Whether an outcome is one of a command set.
+pub(crate) fn is_known(set: CommandSet, outcome: Outcome) -> bool
+    ensures { result ≡ is_known set outcome }
+{
+    match outcome {
+        Outcome::Done | Outcome::Differs | Outcome::MediumError | Outcome::NotReady => true,
+        Outcome::DiffersAt { .. }
+        | Outcome::MediumErrorAt { .. }
+        | Outcome::NoSpace
+        | Outcome::WriteProtected
+        | Outcome::Aborted
+        | Outcome::Busy => matches!(set, CommandSet::Disk),
+    }
+}
+
+/// Whether a request can have it.
+pub(crate) fn is_of(request: &Request, outcome: Outcome) -> bool
+    ensures { result ≡ is_of request.now outcome }
+{
+    match outcome {
+        Outcome::DiffersAt { .. } => matches!(request, Request::Compare { .. }),
+        Outcome::NoSpace | Outcome::WriteProtected => {
+            matches!(request, Request::Write { .. } | Request::Sync { .. })
+        }
+        Outcome::Done
+        | Outcome::Differs
+        | Outcome::MediumError
+        | Outcome::NotReady
+        | Outcome::MediumErrorAt { .. }
+        | Outcome::Aborted
+        | Outcome::Busy => true,
+    }
+}
+
+/// Whether an answer with it brings bytes, where a Read is answered.
+pub(crate) fn brings(outcome: Outcome) -> bool
+    ensures { result ≡ brings outcome }
+{
+    match outcome {
+        Outcome::Done => true,
+        Outcome::MediumErrorAt { brings, .. } => brings,
+        Outcome::Differs
+        | Outcome::MediumError
+        | Outcome::NotReady
+        | Outcome::DiffersAt { .. }
+        | Outcome::NoSpace
+        | Outcome::WriteProtected
+        | Outcome::Aborted
+        | Outcome::Busy => false,
+    }
+}
+
+impl Request {
+    /// Its first block.
+    fn block(&self) -> u64
+        ensures { result ≡ block_in self.now }
+    {
+        match self {
+            Request::Read { block, .. }
+            | Request::Write { block, .. }
+            | Request::Compare { block, .. }
+            | Request::Verify { block, .. }
+            | Request::Sync { block, .. } => *block,
+        }
+    }
+
+    /// How many blocks it has.
+    fn count(&self) -> u64
+        ensures { result ≡ count_in self.now }
+    {
+        match self {
+            Request::Read { count, .. }
+            | Request::Write { count, .. }
+            | Request::Compare { count, .. }
+            | Request::Verify { count, .. }
+            | Request::Sync { count, .. } => *count,
+        }
+    }
+}
+
+impl Out {
+    /// Whether the place that an outcome tells is one of the request's.
+    pub(crate) fn has_place(&self, outcome: Outcome) -> bool
+        ensures { result ≡ has_place self.now outcome }
+    {
+        match outcome {
+            Outcome::DiffersAt { byte } => (byte as usize) < self.len,
+            Outcome::MediumErrorAt { block, .. } => {
+                let first = self.request.block();
+                first <= block && block - first < self.request.count()
+            }
+            Outcome::Done
+            | Outcome::Differs
+            | Outcome::MediumError
+            | Outcome::NotReady
+            | Outcome::NoSpace
+            | Outcome::WriteProtected
+            | Outcome::Aborted
+            | Outcome::Busy => true,
+        }
+    }
+
+    /// How many bytes an answer with it brings, where it brings some: those of all blocks, or of the blocks before a bad one.
+    #[tactic(auto, using(crate::proofs::Sound::brought_most))]
+    pub(crate) fn brought(&self, outcome: Outcome) -> usize
+        requires { has_place self.now outcome ≡ true }
+        ensures brought { result ≡ brought self.now outcome }
+        ensures most { result ≤ self.now.len }
+    {
+        match outcome {
+            Outcome::Done => self.len,
+            Outcome::MediumErrorAt { block, .. } => {
+                let before = (block - self.request.block()) as usize;
+                before * (self.len / self.request.count() as usize)
+            }
+            Outcome::Differs
+            | Outcome::MediumError
+            | Outcome::NotReady
+            | Outcome::DiffersAt { .. }
+            | Outcome::NoSpace
+            | Outcome::WriteProtected
+            | Outcome::Aborted
+            | Outcome::Busy => 0,
+        }
+    }
+}

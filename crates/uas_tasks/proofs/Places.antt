@@ -71,7 +71,7 @@ HasRoom-kept : (lengths : List BlockLength) (before after : SlotState) → after
     HasRoom lengths before → HasRoom lengths after
 HasRoom-kept lengths before after chunk len room = rw (chunk, len) room
 
-room_at : (units : List LogicalUnit) (stale : List ℕ) (slots : List SlotState) (place : ℕ) (read : SlotState) → IsSoundMachine units stale slots →
+pub room_at : (units : List LogicalUnit) (stale : List ℕ) (slots : List SlotState) (place : ℕ) (read : SlotState) → IsSoundMachine units stale slots →
     place < length slots → read ≡ slice_index_or slots place read → HasRoom (lengths_of units) read
 room_at units stale slots place read sound within is =
     subst (HasRoom (lengths_of units)) (sym is) (All-get_or (HasRoom (lengths_of units)) slots place read within sound.rooms)

@@ -190,7 +190,7 @@ fn request_of(unit: usize, job: &Job, chunk: u16) -> Request
     }
 }
 
-fn request_bytes(kind: JobKind, bytes: usize) -> usize
+pub(crate) fn request_bytes(kind: JobKind, bytes: usize) -> usize
     ensures { result ≡ request_bytes kind bytes }
 {
     match kind {

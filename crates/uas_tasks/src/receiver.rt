@@ -14,7 +14,7 @@ use uas_profile::GREATEST_TAG;
 use uas_target::unit_number;
 
 /// Whether a task may have this tag.
-fn is_tag(tag: u16) -> bool
+pub(crate) fn is_tag(tag: u16) -> bool
     ensures { result ≡ is_tag tag }
 {
     tag != 0 && tag <= GREATEST_TAG

@@ -20,7 +20,7 @@ use Rattle.uas_tasks.specs.declared.saved.TagState.{TagState}
 use Rattle.uas_tasks.specs.declared.saved.Unsound.{Unsound}
 use Rattle.uas_tasks.specs.Machine.{Machine, slot_of, with_attention, with_slot}
 use Rattle.uas_tasks.specs.Soundness.{IsSoundJob, IsSoundStage}
-use Rattle.uas_tasks.specs.Slots.{SlotState, chunk_bytes, is_tag, request_bytes, task_waits}
+use Rattle.uas_tasks.specs.Slots.{SlotState, chunk_bytes, is_moved, is_tag, request_bytes, task_waits}
 
 -- WHETHER A REQUEST IS OUT
 
@@ -91,15 +91,6 @@ is_job_on job shape = job.block_bytes == block_bytes shape.block_length && nat_l
 
 abbrev pub is_job_of : List LogicalUnit → ℕ → Job → Bool
 is_job_of units number job = option_map_or (λ unit. is_job_on job unit.shape) (slice_get units number) false
-
--- bytes move of these, and before a WRITE AND VERIFY's chunk is written
-abbrev pub is_moved : JobKind → Bool
-is_moved Reads = true
-is_moved (Writes through) = true
-is_moved Compares = true
-is_moved Verifies = false
-is_moved Synchronizes = false
-is_moved (WritesAndVerifies compares has_written) = not has_written
 
 -- no request is out, and of a chunk that moves bytes are left
 abbrev pub is_stage : ℕ → Job → Stage → Bool

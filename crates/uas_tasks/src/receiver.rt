@@ -159,7 +159,7 @@ impl Tasks {
     fn respond(&mut self, tag: u16, answer: Task)
         requires tag { is_tag tag ≡ true }
         requires free { has_task self.old tag ≡ false }
-        requires answer { IsAnswer answer }
+        requires answer { IsAnswer (length self.old.units) answer }
         ensures { self.new ≡ with_task_on self.old tag answer }
     {
         self.slots[usize::from(tag) - 1].set(Some(answer));

@@ -2,9 +2,9 @@
 ghost use Rattle.std.specs.Prelude.{◌≡◌, ◌+◌, ◌≤◌, ◌++◌, IfSome, [], length, replicate, true};
 ghost use Rattle.host_commands.specs.declared.TheConstants.{MOST_DATA_BYTES};
 ghost use Rattle.uas_tasks.specs.Machine.{slot_of};
-ghost use Rattle.uas_tasks.specs.Saved.{IsRestorable, asking_span, has_request_out, is_free, is_job_of, is_job_on, is_moved, is_pending, is_stage, is_tag_state, is_task, is_unit, kept_bytes, may_restore, moving_span, no_span};
+ghost use Rattle.uas_tasks.specs.Saved.{IsRestorable, asking_span, has_request_out, is_free, is_job_of, is_job_on, is_pending, is_stage, is_tag_state, is_task, is_unit, kept_bytes, may_restore, moving_span, no_span};
 ghost use Rattle.uas_tasks.specs.Saved.{restored_attention, restored_slot, restored_tag, stage_span, tag_state, unit_attention};
-ghost use Rattle.uas_tasks.specs.Slots.{chunk_bytes};
+ghost use Rattle.uas_tasks.specs.Slots.{chunk_bytes, is_moved};
 ghost use Rattle.uas_tasks.specs.Soundness.{IsSoundJob, IsSoundStage};
 
 use crate::jobs::{chunk_bytes, is_waiting, request_bytes};

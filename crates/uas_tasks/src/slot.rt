@@ -3,7 +3,7 @@ ghost use Rattle.std.specs.Prelude.{◌≡◌, ◌≤◌, if◌then◌else◌, I
 ghost use Rattle.scsi_cmd.specs.declared.Sense.{Sense};
 ghost use Rattle.scsi_cmd.specs.Buffers.{with_bytes_at};
 ghost use Rattle.host_commands.specs.Data.{IsOfDevice, given_bytes};
-ghost use Rattle.uas_tasks.specs.Slots.{SlotState, answered_slot, asked_slot, brings_bytes, filled, fresh_slot, gave_slot, giving_slot};
+ghost use Rattle.uas_tasks.specs.Slots.{SlotState, answered_slot, asked_slot, brings_bytes, filled, fresh_slot, gave_slot, giving_slot, giving_task};
 ghost use Rattle.uas_tasks.specs.Slots.{is_wrong_length, next_bytes, passed_out, passing_out, slot_wants, took_slot, with_task};
 ghost use Rattle.uas_tasks.specs.Soundness.{FitsRoom, IsSoundTask, MayGive, MayTake};
 ghost use Rattle.uas_tasks.specs.Saved.{IsRestorable, kept_bytes, restored_slot};
@@ -137,14 +137,7 @@ impl Slot {
     {
         self.given.clear();
         write_data(given, allocation, &mut self.given);
-        self.task = Some(if self.given.is_empty() {
-            Task::Ended {
-                unit,
-                answer: DeviceAnswer::Status(Answer::Good),
-            }
-        } else {
-            Task::Giving { unit, at: 0 }
-        });
+        self.task = Some(giving_task(unit, self.given.len()));
     }
 
     /// Its request is out now.
@@ -370,6 +363,20 @@ impl Slot {
         self.task = state.task;
         self.turn = state.turn;
         self.out = None;
+    }
+}
+
+/// A task that gives so many bytes of data of the device, or has ended where there are none.
+fn giving_task(unit: Option<usize>, many: usize) -> Task
+    ensures { result ≡ giving_task unit many }
+{
+    if many == 0 {
+        Task::Ended {
+            unit,
+            answer: DeviceAnswer::Status(Answer::Good),
+        }
+    } else {
+        Task::Giving { unit, at: 0 }
     }
 }
 

@@ -2,6 +2,7 @@ use Rattle.std.proofs.Common.{◌≡◌, Bool, true, false, ◌-◌, length, ref
 use Rattle.uas_tasks.specs.Machine.{Machine}
 use Rattle.uas_tasks.specs.Saved.{is_free, is_tag_state}
 use Rattle.uas_tasks.specs.Slots.{SlotState}
+use Rattle.uas_tasks.specs.Soundness.{shapes_of}
 use Rattle.uas_tasks.proofs.Counts.{Keeps}
 use Rattle.uas_tasks.proofs.Machines.{tag_sound, tag_there}
 use Rattle.uas_tasks.proofs.Places.{room_at, slot_read}
@@ -33,7 +34,7 @@ invariant_of-self c =
     let is = slot_read slots c.args.tag c.from.result read c.from.ensures here c.index_mut.ensures.value in
     tag_sound units c.self.inside.stale.items slots c.args.tag c.from.result read c.restore.new.self c.self.invariant
     parts.0 c.from.ensures c.index_mut.ensures.value (ap (λ (s : SlotState). s.chunk) c.restore.ensures.slot) c.restore.ensures.len
-    (subst (Keeps (length units) read) (sym c.restore.ensures.slot)
+    (subst (Keeps (shapes_of units) read) (sym c.restore.ensures.slot)
     (restored-keeps units read c.args.state c.args.bytes.now
     (subst (λ (s : SlotState). is_free s ≡ true) is parts.1)
     (subst (λ (s : SlotState). is_tag_state units s.chunk c.args.state (length c.args.bytes.now) ≡ true) is parts.2)))

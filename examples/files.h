@@ -113,19 +113,54 @@ static inline bool sync_image(struct image *image)
     return good;
 }
 
+/* What came of a request, without a place or at one. */
+static inline struct uas_outcome told(uint8_t what)
+{
+    return (struct uas_outcome){ .size = sizeof(struct uas_outcome), .what = what };
+}
+
+static inline struct uas_outcome told_at(uint8_t what, uint64_t at)
+{
+    return (struct uas_outcome){ .size = sizeof(struct uas_outcome), .what = what, .flags = UAS_OUTCOME_AT, .at = at };
+}
+
+/* Reads blocks; the block for tests can't be. */
+static inline bool read_blocks(struct image *image, uint8_t *bytes, uint64_t block, uint64_t count)
+{
+    return image->bad - block >= count && move_bytes(image->file, bytes, (size_t)count * UAS_BLOCK_BYTES, block * UAS_BLOCK_BYTES, false);
+}
+
+/* How many blocks can be read before the first that can't: all of them, or these are found by halves. */
+static inline uint64_t read_before_bad(struct image *image, uint8_t *bytes, uint64_t block, uint64_t count)
+{
+    uint64_t good = 0, tried = count;
+    while (!read_blocks(image, bytes + good * UAS_BLOCK_BYTES, block + good, tried)) {
+        if (tried == 1)
+            return good;
+        uint64_t half = tried / 2;
+        if (read_blocks(image, bytes + good * UAS_BLOCK_BYTES, block + good, half))
+            good += half, tried -= half;
+        else
+            tried = half;
+    }
+    return count;
+}
+
 /* What comes of reading a request's blocks, against its bytes where it compares. */
-static inline uint8_t look_through(struct image *image, const struct uas_request *request, const uint8_t *bytes)
+static inline struct uas_outcome look_through(struct image *image, const struct uas_request *request, const uint8_t *bytes)
 {
     uint8_t part[16 * UAS_BLOCK_BYTES];
-    uint64_t at = request->block * UAS_BLOCK_BYTES, length = request->count * UAS_BLOCK_BYTES;
-    for (uint64_t done = 0; done < length; done += sizeof part) {
-        size_t size = length - done < sizeof part ? (size_t)(length - done) : sizeof part;
-        if (!move_bytes(image->file, part, size, at + done, false))
-            return UAS_MEDIUM_ERROR;
-        if (request->kind == UAS_REQUEST_COMPARE && memcmp(part, bytes + done, size) != 0)
-            return UAS_DIFFERS;
+    for (uint64_t done = 0; done < request->count; done += 16) {
+        uint64_t count = request->count - done < 16 ? request->count - done : 16;
+        uint64_t good = read_before_bad(image, part, request->block + done, count);
+        const uint8_t *against = bytes + done * UAS_BLOCK_BYTES;
+        for (size_t k = 0; request->kind == UAS_REQUEST_COMPARE && k < good * UAS_BLOCK_BYTES; k++)
+            if (part[k] != against[k])
+                return told_at(UAS_DIFFERS, done * UAS_BLOCK_BYTES + k);
+        if (good < count)
+            return told_at(UAS_MEDIUM_ERROR, request->block + done + good);
     }
-    return UAS_DONE;
+    return told(UAS_DONE);
 }
 
 /* What is looked through at once of a VERIFY of which so many blocks are done: its caller can leave the others. */
@@ -137,23 +172,47 @@ static inline struct uas_request next_look(const struct uas_request *request, ui
     return next;
 }
 
-/* Does a request of a disk, whose bytes are these, and returns what came of it. */
+/* What a write or a sync failed of. */
+static inline struct uas_outcome told_of(int why)
+{
+    return told(why == ENOSPC || why == EDQUOT ? UAS_NO_SPACE : why == EROFS || why == EPERM ? UAS_WRITE_PROTECTED : UAS_MEDIUM_ERROR);
+}
+
+static inline struct uas_outcome write_blocks(struct image *image, const struct uas_request *request, uint8_t *bytes)
+{
+    if (image->bad - request->block < request->count)
+        return told_at(UAS_MEDIUM_ERROR, image->bad);
+    if (!move_bytes(image->file, bytes, (size_t)request->count * UAS_BLOCK_BYTES, request->block * UAS_BLOCK_BYTES, true))
+        return told_of(errno);
+    return !request->through || sync_image(image) ? told(UAS_DONE) : told(UAS_MEDIUM_ERROR);
+}
+
+/* Does a request of a disk, whose bytes are these, and returns what came of it. Of a read with a bad block those before it are read. */
+static inline struct uas_outcome try_request(struct image *image, const struct uas_request *request, uint8_t *bytes)
+{
+    if (request->kind == UAS_REQUEST_SYNC)
+        return sync_image(image) ? told(UAS_DONE) : told(UAS_MEDIUM_ERROR);
+    if (request->kind == UAS_REQUEST_WRITE)
+        return write_blocks(image, request, bytes);
+    if (request->kind != UAS_REQUEST_READ)
+        return look_through(image, request, bytes);
+    uint64_t good = read_before_bad(image, bytes, request->block, request->count);
+    return good == request->count ? told(UAS_DONE) : told_at(UAS_MEDIUM_ERROR, request->block + good);
+}
+
+/* How many bytes come with that. */
+static inline size_t bytes_of(const struct uas_request *request, const struct uas_outcome *outcome)
+{
+    if (request->kind != UAS_REQUEST_READ || outcome->what > UAS_MEDIUM_ERROR || outcome->what == UAS_DIFFERS)
+        return 0;
+    return (size_t)(outcome->what == UAS_DONE ? request->count : outcome->at - request->block) * UAS_BLOCK_BYTES;
+}
+
+/* The same for a disk that isn't told where. */
 static inline uint8_t do_request(struct image *image, const struct uas_request *request, uint8_t *bytes)
 {
-    uint64_t at = request->block * UAS_BLOCK_BYTES;
-    size_t length = (size_t)request->count * UAS_BLOCK_BYTES;
-    bool good = false;
-    if (request->kind == UAS_REQUEST_SYNC)
-        return sync_image(image) ? UAS_DONE : UAS_MEDIUM_ERROR;
-    if (image->bad - request->block < request->count)
-        return UAS_MEDIUM_ERROR;
-    if (request->kind == UAS_REQUEST_VERIFY || request->kind == UAS_REQUEST_COMPARE)
-        return look_through(image, request, bytes);
-    if (request->kind == UAS_REQUEST_READ)
-        good = move_bytes(image->file, bytes, length, at, false);
-    if (request->kind == UAS_REQUEST_WRITE)
-        good = move_bytes(image->file, bytes, length, at, true) && (!request->through || sync_image(image));
-    return good ? UAS_DONE : UAS_MEDIUM_ERROR;
+    uint8_t what = try_request(image, request, bytes).what;
+    return what <= UAS_NOT_READY ? what : UAS_MEDIUM_ERROR;
 }
 
 #endif

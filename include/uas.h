@@ -156,6 +156,7 @@ enum uas_fault {
     UAS_TASKS_CHUNK = 152,       /* a chunk of no blocks, or of more than 128 */
     UAS_TASKS_SIZE = 153,        /* a struct uas_disk of fewer than 16 bytes, or with unknown ones that aren't 0 */
     UAS_TASKS_DISK = 154,        /* another field of one that can't be told, or isn't served */
+    UAS_TASKS_PLACE = 155,       /* a block or a byte that isn't one of the request's */
     /* the controller over a caller's memory (uas_xhci.h) */
     UAS_XHCI_MANY = 160,    /* more regions than a call takes */
     UAS_XHCI_WRAPS = 161,   /* a region that goes past the last address */

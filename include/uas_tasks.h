@@ -105,8 +105,18 @@ enum { UAS_ASKS = 4, UAS_WAITS = 5 };
 /* What a request asks for. */
 enum { UAS_REQUEST_READ = 1, UAS_REQUEST_WRITE = 2, UAS_REQUEST_COMPARE = 3, UAS_REQUEST_VERIFY = 4, UAS_REQUEST_SYNC = 5 };
 
-/* What came of a request. */
-enum { UAS_DONE = 0, UAS_DIFFERS = 1, UAS_MEDIUM_ERROR = 2, UAS_NOT_READY = 3 };
+/* What came of a request; from UAS_NO_SPACE on of logical units of uas_tasks_new_disks alone, the first two of those that write or sync. A host
+ * tries again what is UAS_ABORTED or UAS_BUSY. */
+enum {
+    UAS_DONE = 0,
+    UAS_DIFFERS = 1,
+    UAS_MEDIUM_ERROR = 2,
+    UAS_NOT_READY = 3,
+    UAS_NO_SPACE = 4,
+    UAS_WRITE_PROTECTED = 5,
+    UAS_ABORTED = 6,
+    UAS_BUSY = 7
+};
 
 /* Which call. */
 enum {
@@ -126,7 +136,7 @@ enum {
 struct uas_tasks_door {
     uint8_t call;    /* in: UAS_TASKS_CALL_... */
     uint8_t phase;   /* out of NEXT */
-    uint8_t good;    /* out of RECEIVE: 1 where a task began */
+    uint8_t good;    /* out of RECEIVE: 1 where a task began; in of ANSWERED: 1 where `block` is a place */
     uint8_t kind;    /* out of a NEXT that asks: UAS_REQUEST_... */
     uint8_t through; /* out of a NEXT that asks: 1 where a write is to be on the medium when it is done */
     uint8_t outcome; /* in of ANSWERED: UAS_DONE and its like */
@@ -134,7 +144,7 @@ struct uas_tasks_door {
     uint64_t unit;   /* out of a NEXT that asks: the number of the logical unit */
     uint64_t length; /* out of NEXT: bytes that it gives or takes at most; of STATUS: bytes of the information unit */
     uint64_t number; /* out of a NEXT that asks; in of DATA, ANSWERED; in and out of STALE */
-    uint64_t block;  /* out of a NEXT that asks: the first block */
+    uint64_t block;  /* out of a NEXT that asks: the first block; in of ANSWERED: the place */
     uint64_t count;  /* out of a NEXT that asks: blocks, 1 or more */
 };
 UAS_TASKS_ASSERT(sizeof(struct uas_tasks_door) == 48 && offsetof(struct uas_tasks_door, unit) == 8);
@@ -173,6 +183,26 @@ uint8_t uas_tasks_data(uas_tasks *tasks, uint64_t number, uint8_t *bytes, size_t
  * that is gone is dropped.
  * Faults: UAS_TASKS_CALL (no such outcome), UAS_TASKS_NOT_OUT, UAS_TASKS_LENGTH. */
 uint8_t uas_tasks_answered(uas_tasks *tasks, uint64_t number, uint8_t outcome, const uint8_t *bytes, size_t length);
+
+/* The same of logical units of uas_tasks_new_disks, with the place where it is known: what a host is told then is the first bad block, or the
+ * first byte of its data that differs. */
+enum { UAS_OUTCOME_AT = 1 };
+
+struct uas_outcome {
+    uint32_t size;    /* sizeof(struct uas_outcome) */
+    uint8_t what;     /* UAS_DONE and its like */
+    uint8_t flags;    /* UAS_OUTCOME_AT: `at` is told, with UAS_DIFFERS and UAS_MEDIUM_ERROR */
+    uint16_t zero;    /* 0 */
+    uint64_t at;      /* the byte of the request's data, or the block */
+    uint64_t count;   /* 0 */
+};
+UAS_TASKS_ASSERT(sizeof(struct uas_outcome) == 24 && offsetof(struct uas_outcome, at) == 8);
+
+/* `bytes` are those of the blocks of a read that is done; of one with a bad block those of the blocks before it, or none, and the host is given
+ * them first.
+ * Faults: UAS_TASKS_SIZE (not such a record), UAS_TASKS_CALL (a request of this kind, or of these logical units, has no such outcome),
+ * UAS_TASKS_NOT_OUT, UAS_TASKS_PLACE, UAS_TASKS_LENGTH. */
+uint8_t uas_tasks_tell(uas_tasks *tasks, uint64_t number, const struct uas_outcome *outcome, const uint8_t *bytes, size_t length);
 
 /* The next stale request: *number is 0 to begin, else the last one that was told; it becomes the number of the next, by rising tag, or 0. Its
  * outcome doesn't matter to the device, so a caller may cancel it, but tells by uas_tasks_answered when it changes no block any more. No fault. */

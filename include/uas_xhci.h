@@ -209,6 +209,9 @@ uint8_t uas_xhci_data(uas_xhci *xhci, uint64_t number, uint8_t *bytes, size_t le
  * Faults: UAS_TASKS_CALL (no such outcome), UAS_TASKS_NOT_OUT, UAS_TASKS_LENGTH. */
 uint8_t uas_xhci_answered(uas_xhci *xhci, uint64_t number, uint8_t outcome, const uint8_t *bytes, size_t length);
 
+/* The same with its place, of the logical units of uas_xhci_new_disks; faults as uas_tasks_tell's. */
+uint8_t uas_xhci_tell(uas_xhci *xhci, uint64_t number, const struct uas_outcome *outcome, const uint8_t *bytes, size_t length);
+
 /* The next write that is out while its task is gone, as uas_tasks_stale tells it. */
 uint8_t uas_xhci_stale(const uas_xhci *xhci, uint64_t *number);
 

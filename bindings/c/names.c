@@ -84,6 +84,7 @@ static const struct {
     TOLD(UAS_TASKS_CHUNK, "A chunk is of no blocks, or of more than 128."),
     TOLD(UAS_TASKS_SIZE, "A disk has fewer than 16 bytes, or unknown ones that aren't 0."),
     TOLD(UAS_TASKS_DISK, "A field of a disk cannot be told, or is not served."),
+    TOLD(UAS_TASKS_PLACE, "A block or a byte is not one of the request's."),
     TOLD(UAS_XHCI_MANY, "There are more regions than a call takes."),
     TOLD(UAS_XHCI_WRAPS, "A region goes past the last address."),
     TOLD(UAS_XHCI_OVERLAP, "An address, or a byte of the caller's memory, is in two regions."),

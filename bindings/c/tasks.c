@@ -62,6 +62,16 @@ uint8_t uas_tasks_answered(uas_tasks *tasks, uint64_t number, uint8_t outcome, c
     return call(tasks, &door, bytes, length);
 }
 
+uint8_t uas_tasks_tell(uas_tasks *tasks, uint64_t number, const struct uas_outcome *outcome, const uint8_t *bytes, size_t length)
+{
+    if (outcome->size != sizeof *outcome || outcome->flags > UAS_OUTCOME_AT || outcome->zero != 0 || outcome->count != 0)
+        return UAS_TASKS_SIZE;
+    struct uas_tasks_door door = {
+        .call = UAS_TASKS_CALL_ANSWERED, .number = number, .outcome = outcome->what, .good = outcome->flags, .block = outcome->at
+    };
+    return call(tasks, &door, bytes, length);
+}
+
 uint8_t uas_tasks_stale(const uas_tasks *tasks, uint64_t *number)
 {
     struct uas_tasks_door door = { .call = UAS_TASKS_CALL_STALE, .number = *number };

@@ -172,6 +172,16 @@ uint8_t uas_xhci_answered(uas_xhci *xhci, uint64_t number, uint8_t outcome, cons
     return call(xhci, &door, bytes, length);
 }
 
+uint8_t uas_xhci_tell(uas_xhci *xhci, uint64_t number, const struct uas_outcome *outcome, const uint8_t *bytes, size_t length)
+{
+    if (outcome->size != sizeof *outcome || outcome->flags > UAS_OUTCOME_AT || outcome->zero != 0 || outcome->count != 0)
+        return UAS_TASKS_SIZE;
+    struct uas_xhci_door door = {
+        .call = UAS_XHCI_CALL_ANSWERED, .number = number, .outcome = outcome->what, .good = outcome->flags, .block = outcome->at
+    };
+    return call(xhci, &door, bytes, length);
+}
+
 uint8_t uas_xhci_stale(const uas_xhci *xhci, uint64_t *number)
 {
     struct uas_xhci_door door = { .call = UAS_XHCI_CALL_STALE, .number = *number };

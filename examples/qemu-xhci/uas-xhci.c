@@ -62,34 +62,35 @@ struct job {
     UasXhci *device;
     struct uas_request request;
     uint64_t looked; /* blocks of a VERIFY that are looked through */
+    struct uas_outcome outcome;
     uint8_t bytes[CHUNK_BYTES];
 };
 
-/* Does a request, or the next part of a VERIFY, in a thread of the pool, and returns what came of it. */
+/* Does a request, or the next part of a VERIFY, in a thread of the pool. */
 static int do_job(void *opaque)
 {
     struct job *job = opaque;
     struct uas_request next = job->request.kind == UAS_REQUEST_VERIFY ? next_look(&job->request, job->looked) : job->request;
-    return do_request(&job->device->units[next.unit].image, &next, job->bytes);
+    job->outcome = try_request(&job->device->units[next.unit].image, &next, job->bytes);
+    return 0;
 }
 
 static void submit(struct job *job);
 
 /* In QEMU's main loop again. A VERIFY goes on, unless the device is going. The controller drops the answer itself where the task is gone. */
-static void job_done(void *opaque, int outcome)
+static void job_done(void *opaque, int ran)
 {
     struct job *job = opaque;
     UasXhci *device = job->device;
-    bool has_bytes = job->request.kind == UAS_REQUEST_READ && outcome == UAS_DONE;
-    if (job->request.kind == UAS_REQUEST_VERIFY && outcome == UAS_DONE) {
+    if (job->request.kind == UAS_REQUEST_VERIFY && job->outcome.what == UAS_DONE) {
         job->looked += LOOK_BLOCKS;
         if (job->looked < job->request.count && !device->drains) {
             submit(job);
             return;
         }
-        outcome = job->looked < job->request.count ? UAS_NOT_READY : UAS_DONE;
+        job->outcome = told(job->looked < job->request.count ? UAS_ABORTED : UAS_DONE);
     }
-    uas_xhci_answered(device->xhci, job->request.number, (uint8_t)outcome, job->bytes, has_bytes ? job->request.count * UAS_BLOCK_BYTES : 0);
+    uas_xhci_tell(device->xhci, job->request.number, &job->outcome, job->bytes, bytes_of(&job->request, &job->outcome));
     device->jobs--;
     qemu_bh_schedule(device->turn);
     g_free(job);

@@ -22,6 +22,7 @@ static void null_units(void) { uas_tasks_new(NULL, 1, UAS_SET_HOST, 64, 8, &task
 static void null_disks(void) { uas_tasks_new_disks(NULL, 152, UAS_SET_DISK, 0, 8, &tasks); }
 static void null_made(void) { uas_xhci_new(&unit, 1, UAS_SET_HOST, 64, 8, NULL); }
 static void null_data(void) { uas_xhci_data(xhci, 1, NULL, sizeof bytes); }
+static void null_outcome(void) { uas_tasks_tell(tasks, 1, NULL, bytes, sizeof bytes); }
 static void null_answer(void) { uas_tasks_answered(tasks, 1, UAS_DONE, NULL, sizeof bytes); }
 static void null_cdb(void)
 {
@@ -132,6 +133,7 @@ static const struct mistake mistakes[] = {
     { "uas_xhci_new: xhci is a null pointer\n", null_made },
     { "uas_xhci_data: bytes is a null pointer\n", null_data },
     { "uas_tasks_answered: bytes is a null pointer\n", null_answer },
+    { "uas_tasks_tell: outcome is a null pointer\n", null_outcome },
     { "uas_tasks_cdb_parse: cdb is a null pointer\n", null_cdb },
     { "uas_tasks_receive: tag is a null pointer\n", null_tag },
     { "uas_xhci_work: more is a null pointer\n", null_more },

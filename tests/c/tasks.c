@@ -289,6 +289,8 @@ static void stale_writes(void)
 
 #include "virtual_disks.h"
 
+#include "told_outcomes.h"
+
 static void making(void)
 {
     struct uas_tasks_unit good = { 1, 0, 512 }, unit = good;
@@ -322,6 +324,7 @@ int main(void)
     making();
     making_disks();
     virtual_disks();
+    told_outcomes();
     host_commands();
     blocks();
     requests();

@@ -234,13 +234,16 @@ pub const TASKS_SIZE: u8 = 153;
 /// A field of such a record that can't be told of a logical unit, or isn't served.
 pub const TASKS_DISK: u8 = 154;
 
+/// A block or a byte that isn't one of the request's.
+pub const TASKS_PLACE: u8 = 155;
+
 /// Law: each fault has its number, no two have the same one, and none has 0, which is no fault's.
 pub fn numbers_are_different()
     ensures pinned { all_faults ≡
         1 ∷ 16 ∷ 17 ∷ 18 ∷ 19 ∷ 32 ∷ 33 ∷ 34 ∷ 35 ∷ 36 ∷ 37 ∷ 38 ∷ 48 ∷ 49 ∷ 50 ∷ 51 ∷ 56 ∷ 57 ∷ 58 ∷ 59 ∷ 60 ∷ 64 ∷ 65 ∷ 66 ∷ 67 ∷
         68 ∷ 69 ∷ 80 ∷ 81 ∷ 82 ∷ 83 ∷ 84 ∷ 85 ∷ 86 ∷ 87 ∷ 88 ∷ 89 ∷ 90 ∷ 91 ∷ 96 ∷ 97 ∷ 98 ∷ 99 ∷ 100 ∷ 101 ∷ 102 ∷ 103 ∷ 104 ∷
         105 ∷ 106 ∷ 112 ∷ 113 ∷ 114 ∷ 115 ∷ 116 ∷ 117 ∷ 128 ∷ 129 ∷ 130 ∷ 144 ∷ 145 ∷ 146 ∷ 147 ∷ 148 ∷
-        149 ∷ 150 ∷ 151 ∷ 152 ∷ 153 ∷ 154 ∷ [] }
+        149 ∷ 150 ∷ 151 ∷ 152 ∷ 153 ∷ 154 ∷ 155 ∷ [] }
     ensures different { are_different all_faults ≡ true }
     ensures none_is_no_fault { is_among 0 all_faults ≡ false }
 {}

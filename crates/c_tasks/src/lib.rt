@@ -9,10 +9,13 @@
 //! Logical units of which C says what there is to tell ([`disks_fault`], [`make_of_disks`], specs/Disks.antt) are c_disks' records, one behind
 //! another.
 //!
+//! What came of a request is told by a number, with a place where there is one ([`outcome_told`], specs/Outcomes.antt).
+//!
 //! It stands on `host_commands`, `c_disks` and `uas_tasks`, and for that proof on `c_common`.
 #![tactic(auto)]
 
 mod making;
+mod outcomes;
 
 ghost use Rattle.std.specs.Prelude.{◌≡◌, ◌<◌, ◌≤◌, IfOk, IfSome, None, length, map, true};
 ghost use Rattle.std.specs.List.{list_all};
@@ -25,6 +28,7 @@ use host_commands::{
     BlockLength, CommandSet, LogicalUnitShape, MOST_BLOCKS, SERIAL_NUMBERS, SerialNumber,
 };
 pub use making::{disks_fault, make_of_disks};
+pub use outcomes::outcome_told;
 use std::alloc::{AllocError, Global};
 use uas_profile::MAX_UNITS;
 use uas_tasks::{MOST_CHUNK_BLOCKS, Tasks};

@@ -11,7 +11,6 @@ use Rattle.uas_target.specs.declared.Took.{Took}
 use Rattle.uas_target.specs.declared.Took.TheVariants.{Began}
 use Rattle.uas_target.specs.Fields.{addressed, cdb_in, function_in, lun_in, tag_in, task_tag_in}
 use Rattle.uas_tasks.specs.declared.AnswerFault.{AnswerFault}
-use Rattle.uas_tasks.specs.declared.AnswerFault.TheVariants.{WrongLength}
 use Rattle.uas_tasks.specs.declared.LogicalUnit.{LogicalUnit}
 use Rattle.uas_tasks.specs.declared.Outcome.{Outcome}
 use Rattle.uas_tasks.specs.declared.Task.{Task}
@@ -86,14 +85,16 @@ rested_keeps device tag active = rested_by device tag (nat_lt tag 256 && is_abse
 pub answered_keeps : (device : GuestTasks) (tag : ℕ) (outcome : Outcome) (new : List ℕ) (out : Option Out) → TasksAreActive device
     → TasksAreActive (record device { tasks = (answered_out device.tasks tag outcome new out).0 })
 answered_keeps device tag outcome new None active = active
-answered_keeps device tag outcome new (Some out) active = by_length (is_wrong_length (slot_of device.tasks tag) out outcome (length new))
+answered_keeps device tag outcome new (Some out) active =
+    by_fault (answer_fault device.tasks.set (slot_of device.tasks tag) out outcome (length new))
   where
     after : Machine
     after = with_slot device.tasks tag (answered_slot (slot_of device.tasks tag) out outcome new)
 
-    by_length : (wrong : Bool) → TasksAreActive (record device { tasks = (cond {A = Machine × Result (Unit {0}) AnswerFault} wrong (device.tasks, Err WrongLength) (after, Ok tt)).0 })
-    by_length true = active
-    by_length false = fewer device after active
+    by_fault : (fault : Option AnswerFault)
+        → TasksAreActive (record device { tasks = (answered_unless device.tasks (slot_of device.tasks tag) tag outcome new out fault).0 })
+    by_fault (Some fault) = active
+    by_fault None = fewer device after active
         (fewer_at device.tasks.slots tag (answered_slot (slot_of device.tasks tag) out outcome new) (λ has. mapped _ (slot_of device.tasks tag).task has))
 
 -- AN INFORMATION UNIT

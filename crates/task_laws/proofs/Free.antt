@@ -12,7 +12,7 @@ use Rattle.uas_tasks.specs.declared.Job.{Job}
 use Rattle.uas_tasks.specs.declared.Stage.{Stage}
 use Rattle.uas_tasks.specs.declared.Stage.TheVariants.{Asking, Waiting, Moving}
 use Rattle.uas_tasks.specs.declared.Task.{Task}
-use Rattle.uas_tasks.specs.declared.Task.TheVariants.{Giving, Blocks, Ended, Held}
+use Rattle.uas_tasks.specs.declared.Task.TheVariants.{Giving, Blocks, Ended, Failed, Held}
 use Rattle.uas_tasks.specs.declared.Wants.TheVariants.{Absent, Asks, Waits, Gives}
 use Rattle.uas_tasks.specs.Machine.{Machine, answer_on, completed, has_stale, is_held, responded, slot_of, wanted, with_slot}
 use Rattle.uas_tasks.specs.Slots.{SlotState, slot_wants, task_answer, task_waits, task_wants}
@@ -102,6 +102,7 @@ gives_rest slot bytes wants = by_task slot.chunk (length slot.given) (is_some sl
     by_task chunk given out (Some (Giving unit at)) wants = refl
     by_task chunk given out (Some (Blocks unit job stage)) wants = by_stage unit chunk given job out stage wants
     by_task chunk given out (Some (Ended unit answer)) wants = refl
+    by_task chunk given out (Some (Failed unit failure)) wants = refl
     by_task chunk given out (Some (Held unit code)) wants = let it : ⊥ = cc in absurd it
 
 pub wanted_gives : (machine : Machine) (tag bytes : ℕ) → slot_wants (slot_of machine tag) ≡ Gives bytes → wanted machine tag ≡ Gives bytes

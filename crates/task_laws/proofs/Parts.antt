@@ -20,16 +20,16 @@ use Rattle.uas_target.specs.Soundness.{counts_of}
 use Rattle.uas_target.specs.Tasks.{task_wants as target_wants}
 use Rattle.uas_tasks.specs.declared.Job.{Job}
 use Rattle.uas_tasks.specs.declared.JobKind.{JobKind}
-use Rattle.uas_tasks.specs.declared.JobKind.TheVariants.{Reads, Writes, Compares, Verifies, Synchronizes, WritesAndVerifies}
+use Rattle.uas_tasks.specs.declared.JobKind.TheVariants.{Reads, ReadsBeforeBad, Writes, Compares, Verifies, Synchronizes, WritesAndVerifies}
 use Rattle.uas_tasks.specs.declared.Stage.TheVariants.{Asking, Waiting, Moving}
 use Rattle.uas_tasks.specs.declared.Task.{Task}
-use Rattle.uas_tasks.specs.declared.Task.TheVariants.{Giving, Blocks, Ended, Held}
+use Rattle.uas_tasks.specs.declared.Task.TheVariants.{Giving, Blocks, Ended, Failed, Held}
 use Rattle.uas_tasks.specs.declared.Wants.{Wants}
 use Rattle.uas_tasks.specs.declared.Wants.TheVariants.{Absent, Asks, Waits, Gives, Takes, Ends}
 use Rattle.uas_tasks.specs.declared.slot.Out.{Out}
 use Rattle.uas_tasks.specs.Machine.{Machine, no_slot, slot_of}
 use Rattle.uas_tasks.specs.Machine as tasks
-use Rattle.uas_tasks.specs.Slots.{SlotState, chunk_bytes, gave_slot, moved_way, next_bytes, next_chunk, slot_wants, took_slot}
+use Rattle.uas_tasks.specs.Slots.{SlotState, chunk_bytes, gave_chunk, gave_slot, moved_way, next_bytes, next_chunk, slot_wants, took_slot}
 use Rattle.uas_tasks.proofs.Places.{there}
 use Rattle.device_server.specs.declared.Answer.TheVariants.{Good}
 use Rattle.uas_tasks.proofs.Keeping.{wanted-free}
@@ -94,19 +94,19 @@ data_on slot out unit at few rest some size =
       given = ap (λ s. take few (drop at slot.given) ++ next_bytes s rest) is ∙ parts_read slot.given at few rest;
     }
 
-blocks_on : (slot : SlotState) (unit : ℕ) (job : Job) (at few rest : ℕ) → job.kind ≡ Reads → 0 < rest → chunk_bytes slot.chunk job - at ≡ few + rest →
+blocks_on : (slot : SlotState) (unit : ℕ) (job : Job) (at few rest : ℕ) → ((n : ℕ) → moved_way job.kind n ≡ Gives n) → 0 < rest → chunk_bytes slot.chunk job - at ≡ few + rest →
     GivesOn (slot_at_task slot None (Blocks unit job (Moving at))) few rest
-blocks_on slot unit job at few rest kind some size =
+blocks_on slot unit job at few rest way some size =
     let shown : SlotState = slot_at_task slot None (Blocks unit job (Moving at)) in
     let all : ℕ = chunk_bytes slot.chunk job in
-    let next : Task = next_chunk slot.chunk unit job in
+    let next : Task = gave_chunk job.kind slot.chunk unit job in
     let after : ℕ → SlotState = λ moved. slot_at_task slot None (cond (nat_lt moved all) (Blocks unit job (Moving moved)) next) in
     let is : gave_slot shown few ≡ slot_at_task slot None (Blocks unit job (Moving (at + few))) =
     ap (λ b. slot_at_task slot None (cond b (Blocks unit job (Moving (at + few))) next)) (lt-ltb (at + few) all (omega (arith, size))) in
     let left : all - (at + few) ≡ rest = omega (arith, size) in
     let both : at + few + rest ≡ at + (few + rest) = omega arith in
     record {
-      wants = ap slot_wants is ∙ ap (λ k. moved_way k (all - (at + few))) kind ∙ ap (λ n. Gives n) left;
+      wants = ap slot_wants is ∙ way (all - (at + few)) ∙ ap (λ n. Gives n) left;
       gave = ap (λ s. gave_slot s rest) is ∙ ap after both;
       given = ap (λ s. take few (drop at slot.bytes) ++ next_bytes s rest) is ∙ parts_read slot.bytes at few rest;
     }
@@ -115,7 +115,9 @@ blocks_on slot unit job at few rest kind some size =
 reading_on : (slot : SlotState) (unit : ℕ) (job : Job) (at few rest : ℕ) (kind : JobKind) → job.kind ≡ kind → 0 < rest →
     moved_way kind (chunk_bytes slot.chunk job - at) ≡ Gives (few + rest) → GivesOn (slot_at_task slot None (Blocks unit job (Moving at))) few rest
 reading_on slot unit job at few rest Reads is some wants =
-    blocks_on slot unit job at few rest is some (same_gives (chunk_bytes slot.chunk job - at) (few + rest) wants)
+    blocks_on slot unit job at few rest (λ n. ap (λ k. moved_way k n) is) some (same_gives (chunk_bytes slot.chunk job - at) (few + rest) wants)
+reading_on slot unit job at few rest ReadsBeforeBad is some wants =
+    blocks_on slot unit job at few rest (λ n. ap (λ k. moved_way k n) is) some (same_gives (chunk_bytes slot.chunk job - at) (few + rest) wants)
 reading_on slot unit job at few rest (Writes through) is some wants = gives_apart _ (Takes (chunk_bytes slot.chunk job - at)) (few + rest) tt wants
 reading_on slot unit job at few rest Compares is some wants = gives_apart _ (Takes (chunk_bytes slot.chunk job - at)) (few + rest) tt wants
 reading_on slot unit job at few rest Verifies is some wants = gives_apart _ Waits (few + rest) tt wants
@@ -127,6 +129,7 @@ task_on : (slot : SlotState) (out : Option Out) (task : Task) (few rest : ℕ) �
     GivesOn (slot_at_task slot out task) few rest
 task_on slot out (Giving unit at) few rest some wants = data_on slot out unit at few rest some (same_gives (length slot.given - at) (few + rest) wants)
 task_on slot out (Ended unit answer) few rest some wants = gives_apart _ Ends (few + rest) tt wants
+task_on slot out (Failed unit failure) few rest some wants = gives_apart _ Ends (few + rest) tt wants
 task_on slot out (Held unit code) few rest some wants = gives_apart _ Ends (few + rest) tt wants
 task_on slot (Some out) (Blocks unit job stage) few rest some wants = gives_apart _ Waits (few + rest) tt wants
 task_on slot None (Blocks unit job Asking) few rest some wants = gives_apart _ Asks (few + rest) tt wants

@@ -27,6 +27,8 @@ use Rattle.uas_target.specs.Soundness.{IsSoundTask, counts_of}
 use Rattle.uas_target.specs.Tasks.{op_given, progress_left, task_given, task_in, task_left, task_wants as target_wants}
 use Rattle.uas_tasks.specs.declared.Job.{Job}
 use Rattle.uas_tasks.specs.declared.JobKind.TheVariants.{Reads}
+use Rattle.uas_tasks.specs.declared.AnswerFault.{AnswerFault}
+use Rattle.uas_tasks.specs.declared.AnswerFault.TheVariants.{WrongLength}
 use Rattle.uas_tasks.specs.declared.Outcome.{Outcome}
 use Rattle.uas_tasks.specs.declared.Outcome.TheVariants.{Done, MediumError}
 use Rattle.uas_tasks.specs.declared.Request.TheVariants.{Read}
@@ -107,7 +109,7 @@ read_settled device backed tag slot number op chunk lba count same here found wo
           ∙ ap (at_slot backed tag (read_ended slot number)) kept;
       good = λ is.
           settled_there backed tag shown out maps (maps, Done, new) (same_free device backed same) here small slot_is refl refl found.maps_at (ap done_by is)
-          (ap (λ b. not b) (eq-eqb (length new) (BLOCK_BYTES * many) size))
+          (ap (λ b. cond {A = Option AnswerFault} (not b) (Some WrongLength) None) (eq-eqb (length new) (BLOCK_BYTES * many) size))
           ∙ ap (at_slot backed tag (read_moving slot number job new)) kept;
       size = size;
     }

@@ -5,15 +5,14 @@ use Rattle.std.specs.Option.{option_map_or}
 use Rattle.std.proofs.lemmas.Bool.{eq-eqb}
 use Rattle.block_unit.specs.BlockMaps.{BlockMaps}
 use Rattle.uas_tasks.specs.declared.AnswerFault.{AnswerFault}
-use Rattle.uas_tasks.specs.declared.AnswerFault.TheVariants.{WrongLength}
 use Rattle.uas_tasks.specs.declared.Next.{Next}
 use Rattle.uas_tasks.specs.declared.Next.TheVariants.{Asks as NextAsks, Waits as NextWaits}
 use Rattle.uas_tasks.specs.declared.Outcome.{Outcome}
 use Rattle.uas_tasks.specs.declared.Wants.{Wants}
 use Rattle.uas_tasks.specs.declared.Wants.TheVariants.{Absent, Asks, Waits, Gives, Takes, Ends}
 use Rattle.uas_tasks.specs.declared.slot.Out.{Out}
-use Rattle.uas_tasks.specs.Machine.{Machine, answered, answered_out, next_asked, next_by, next_of, number_of, out_of_number, out_on, slot_of, wanted, with_slot, bytes_out}
-use Rattle.uas_tasks.specs.Slots.{SlotState, answered_slot, asked_slot, is_wrong_length, slot_wants}
+use Rattle.uas_tasks.specs.Machine.{Machine, answer_fault, answered, answered_out, answered_unless, next_asked, next_by, next_of, number_of, out_of_number, out_on, slot_of, wanted, with_slot, bytes_out}
+use Rattle.uas_tasks.specs.Slots.{SlotState, answered_slot, asked_slot, slot_wants}
 use Rattle.uas_tasks.specs.Stale.{unit_in}
 use Rattle.uas_tasks.proofs.Keeping.{wanted-free}
 use Rattle.task_laws.specs.Backed.{Backed, answered_with, done_at_once, done_on, done_soon, is_reading, settled, settled_by, with_machine}
@@ -61,22 +60,20 @@ bytes_there machine tag slot out is small asks =
     ∙ ap (λ (s : SlotState). Some (take out.len s.bytes)) is
 
 answered_there : (machine : Machine) (tag : ℕ) (slot : SlotState) (out : Out) (outcome : Outcome) (new : List ℕ) → slot_of machine tag ≡ slot → tag < 256 →
-    slot.out ≡ Some out → is_wrong_length slot out outcome (length new) ≡ false →
+    slot.out ≡ Some out → answer_fault machine.set slot out outcome (length new) ≡ None →
     (answered machine (number_of tag slot) outcome new).0 ≡ with_slot machine tag (answered_slot slot out outcome new)
 answered_there machine tag slot out outcome new is small asks right =
     let number : ℕ = number_of tag slot in
-    let told : Bool → SlotState → Machine × Result (Unit {0}) AnswerFault =
-    λ wrong s. cond wrong (machine, Err WrongLength) (with_slot machine tag (answered_slot s out outcome new), Ok tt) in
     ap (λ found. (answered_out machine (number % 256) outcome new found).0) (out_there machine tag slot out is small asks)
     ∙ ap (λ t. (answered_out machine t outcome new (Some out)).0) (tag_of_number slot.turn tag small)
-    ∙ ap (λ s. (told (is_wrong_length s out outcome (length new)) s).0) is
-    ∙ ap (λ wrong. (told wrong slot).0) right
+    ∙ ap (λ s. (answered_unless machine s tag outcome new out (answer_fault machine.set s out outcome (length new))).0) is
+    ∙ ap (λ fault. (answered_unless machine slot tag outcome new out fault).0) right
 
 -- The request of a tag is done on the blocks of its logical unit: this comes of it.
 pub settled_there : (backed : Backed) (tag : ℕ) (slot : SlotState) (out : Out) (maps : BlockMaps) (after : BlockMaps × Outcome × List ℕ) →
     IsFree backed.machine → IsThere tag backed.machine.slots → tag < 256 → slot_of backed.machine tag ≡ slot → slot_wants slot ≡ Asks →
     (asked_slot slot).out ≡ Some out → slice_get backed.maps (unit_in out.request) ≡ Some maps → done_at_once maps out.request (take out.len slot.bytes) ≡ after →
-    is_wrong_length (asked_slot slot) out after.1 (length after.2) ≡ false →
+    answer_fault backed.machine.set (asked_slot slot) out after.1 (length after.2) ≡ None →
     ◌≡◌ {A = Backed} (settled backed tag) (record {
       machine = with_slot backed.machine tag (answered_slot (asked_slot slot) out after.1 after.2);
       maps = slice_set backed.maps (unit_in out.request) after.0;

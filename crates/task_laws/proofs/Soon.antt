@@ -10,8 +10,8 @@ use Rattle.uas_tasks.specs.declared.Outcome.{Outcome}
 use Rattle.uas_tasks.specs.declared.Wants.TheVariants.{Asks}
 use Rattle.uas_tasks.specs.declared.Next.TheVariants.{Asks as NextAsks}
 use Rattle.uas_tasks.specs.declared.slot.Out.{Out}
-use Rattle.uas_tasks.specs.Machine.{no_slot, slot_of, with_slot_under}
-use Rattle.uas_tasks.specs.Slots.{SlotState, answered_slot, asked_slot, is_wrong_length, slot_wants}
+use Rattle.uas_tasks.specs.Machine.{answer_fault, no_slot, slot_of, with_slot_under}
+use Rattle.uas_tasks.specs.Slots.{SlotState, answered_slot, asked_slot, slot_wants}
 use Rattle.uas_tasks.specs.Stale.{unit_in}
 use Rattle.task_laws.specs.Backed.{Backed, done_at_once, done_soon, is_reading}
 use Rattle.task_laws.specs.Same.{Same}
@@ -62,7 +62,7 @@ pub soon_done : (backed : Backed) (number : ℕ) (unit : LogicalUnit) (tag : ℕ
     (after : BlockMaps × Outcome × List ℕ) → IsFree backed.machine → IsThere tag backed.machine.slots → tag < 256 → slot_wants slot ≡ Asks →
     (asked_slot slot).out ≡ Some out →
     is_reading (NextAsks 0 out.request) ≡ false → unit_in out.request ≡ number → slice_get backed.maps number ≡ Some maps →
-    done_at_once maps out.request (take out.len slot.bytes) ≡ after → is_wrong_length (asked_slot slot) out after.1 (length after.2) ≡ false →
+    done_at_once maps out.request (take out.len slot.bytes) ≡ after → answer_fault backed.machine.set (asked_slot slot) out after.1 (length after.2) ≡ None →
     done_soon (backed_at backed number unit tag slot) tag ≡ backed_with backed number unit after.0 tag (answered_slot (asked_slot slot) out after.1 after.2)
 soon_done backed number unit tag slot out maps after free here small wants asks other on at done right =
     let first : Backed = backed_at backed number unit tag slot in

@@ -21,7 +21,7 @@ use Rattle.uas_tasks.specs.declared.Outcome.TheVariants.{Done, Differs, MediumEr
 use Rattle.uas_tasks.specs.declared.Request.{Request}
 use Rattle.uas_tasks.specs.declared.Request.TheVariants.{Read, Write, Compare, Verify, Sync}
 use Rattle.uas_tasks.specs.declared.Task.{Task}
-use Rattle.uas_tasks.specs.declared.Task.TheVariants.{Blocks, Ended, Giving, Held}
+use Rattle.uas_tasks.specs.declared.Task.TheVariants.{Blocks, Ended, Failed, Giving, Held}
 use Rattle.uas_tasks.specs.declared.Wants.{Wants}
 use Rattle.uas_tasks.specs.declared.Wants.TheVariants.{Absent, Asks, Waits, Gives, Takes, Ends}
 use Rattle.uas_tasks.specs.declared.slot.Out.{Out}
@@ -152,6 +152,7 @@ has_failed None = false
 has_failed (Some (Giving unit at)) = false
 has_failed (Some (Blocks unit job stage)) = false
 has_failed (Some (Ended unit answer)) = is_check answer
+has_failed (Some (Failed unit failure)) = true
 has_failed (Some (Held unit code)) = false
 
 -- whether it is: a bad block ends the command

@@ -6,3 +6,4 @@ pub mod Places
 pub mod Machines
 pub mod Received
 pub mod Passing
+pub mod Restoring

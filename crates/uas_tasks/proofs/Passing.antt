@@ -1,7 +1,7 @@
 -- Why nothing passes a stale request. Cited by the laws.
 use Rattle.std.proofs.Common.{◌≡◌, ℕ, zero, suc, ◌%◌, ◌<◌, Bool, true, false, ◌||◌, cond, List, [], ◌∷◌, length, Option, Some, None, Result, Ok, Err}
 use Rattle.std.proofs.Common.{refl, arith, ap, sym, ◌∙◌, subst}
-use Rattle.std.specs.Prelude.{◌&&◌, not, count_by, is_some, nat_lt, option_and_then, option_map, slice_index_or, slice_set}
+use Rattle.std.specs.Prelude.{count_by, is_some, nat_lt, option_and_then, option_map, slice_index_or, slice_set}
 use Rattle.std.specs.List.{list_any}
 use Rattle.std.specs.Option.{option_map_or}
 use Rattle.std.proofs.lemmas.Bool.{or_parts}
@@ -9,7 +9,7 @@ use Rattle.std.proofs.lemmas.List.Sums.{sum_by-set}
 use Rattle.uas_target.specs.declared.DeviceAnswer.TheVariants.{Response}
 use Rattle.uas_target.specs.Tasks.{answer_unit, is_at}
 use Rattle.uas_tasks.specs.declared.AnswerFault.{AnswerFault}
-use Rattle.uas_tasks.specs.declared.AnswerFault.TheVariants.{NotOut, NoSuchOutcome, WrongPlace, WrongLength}
+use Rattle.uas_tasks.specs.declared.AnswerFault.TheVariants.{NotOut}
 use Rattle.uas_tasks.specs.declared.Job.{Job}
 use Rattle.uas_tasks.specs.declared.JobKind.{JobKind}
 use Rattle.uas_tasks.specs.declared.JobKind.TheVariants.{Reads, ReadsBeforeBad, Writes, Compares, Verifies, Synchronizes, WritesAndVerifies}
@@ -25,8 +25,8 @@ use Rattle.uas_tasks.specs.declared.Wants.{Wants}
 use Rattle.uas_tasks.specs.declared.Wants.TheVariants.{Absent, Asks, Waits, Gives, Takes, Ends}
 use Rattle.uas_tasks.specs.declared.slot.Out.{Out}
 use Rattle.uas_tasks.specs.Laws.{AsksNotOf, LastAnswerFrees, NothingStalePasses, WhatIsAskedLaterLandsLater}
-use Rattle.uas_tasks.specs.Machine.{Machine, answer_on, answered_out, has_stale, is_held, next_by, no_slot, number_of, out_of_number, slot_of, slot_under, wanted, with_slot, with_slot_under}
-use Rattle.uas_tasks.specs.Slots.{SlotState, after_answer, answered_slot, asked_slot, has_place, is_known, is_of, is_wrong_length, moved_way, out_of, request_of, slot_wants, stage_wants, task_wants}
+use Rattle.uas_tasks.specs.Machine.{Machine, answer_fault, answer_on, answered_out, answered_unless, has_stale, is_held, next_by, no_slot, number_of, out_of_number, slot_of, slot_under, wanted, with_slot, with_slot_under}
+use Rattle.uas_tasks.specs.Slots.{SlotState, after_answer, answered_slot, asked_slot, moved_way, out_of, request_of, slot_wants, stage_wants, task_wants}
 use Rattle.uas_tasks.specs.Stale.{held_by, is_stale, unit_in}
 use Rattle.uas_tasks.proofs.Counts.{any_counted, one}
 use Rattle.uas_tasks.proofs.Keeping.{answered-stale, asked-stale}
@@ -176,23 +176,14 @@ last_gone number slots (suc place) now count is fails =
     let none : count_by (is_stale number) (slice_set slots place now) ≡ 0 = omega (arith, all, before, after, count) in
     any_counted (is_stale number) (slice_set slots place now) ∙ ap (nat_lt 0) none
 
-abbrev answered_if : Bool → Bool → Bool → Machine → Machine → Machine × Result (Unit {0}) AnswerFault
-answered_if other beside wrong machine after =
-    cond other (machine, Err NoSuchOutcome) (cond beside (machine, Err WrongPlace) (cond wrong (machine, Err WrongLength) (after, Ok tt)))
-
-by_length : (machine : Machine) (number tag : ℕ) (outcome : Outcome) (bytes : List ℕ) (held code : ℕ) → count_by (is_stale number) machine.slots ≡ 1 →
-    is_stale number (slot_of machine tag) ≡ true → (slot_of machine held).task ≡ Some (Held number code) → (out : Out) (other beside wrong : Bool) →
-    (answered_if other beside wrong machine (with_slot machine tag (answered_slot (slot_of machine tag) out outcome bytes))).1 ≡ Ok tt →
-    (wanted (answered_if other beside wrong machine (with_slot machine tag (answered_slot (slot_of machine tag) out outcome bytes))).0 held ≡ Ends)
-    × (answer_on (answered_if other beside wrong machine (with_slot machine tag (answered_slot (slot_of machine tag) out outcome bytes))).0 held
-    ≡ Some (answer_unit held (Response code)))
-by_length machine number tag outcome bytes held code count is task out true beside wrong fails =
-    let no : ◌≡◌ {A = Result (Unit {0}) AnswerFault} (Err NoSuchOutcome) (Ok tt) = fails in let it : ⊥ = cc in absurd it
-by_length machine number tag outcome bytes held code count is task out false true wrong fails =
-    let no : ◌≡◌ {A = Result (Unit {0}) AnswerFault} (Err WrongPlace) (Ok tt) = fails in let it : ⊥ = cc in absurd it
-by_length machine number tag outcome bytes held code count is task out false false true fails =
-    let no : ◌≡◌ {A = Result (Unit {0}) AnswerFault} (Err WrongLength) (Ok tt) = fails in let it : ⊥ = cc in absurd it
-by_length machine number tag outcome bytes held code count is task out false false false done =
+by_fault : (machine : Machine) (number tag : ℕ) (outcome : Outcome) (bytes : List ℕ) (held code : ℕ) → count_by (is_stale number) machine.slots ≡ 1 →
+    is_stale number (slot_of machine tag) ≡ true → (slot_of machine held).task ≡ Some (Held number code) → (out : Out) (fault : Option AnswerFault) →
+    (answered_unless machine (slot_of machine tag) tag outcome bytes out fault).1 ≡ Ok tt →
+    (wanted (answered_unless machine (slot_of machine tag) tag outcome bytes out fault).0 held ≡ Ends)
+    × (answer_on (answered_unless machine (slot_of machine tag) tag outcome bytes out fault).0 held ≡ Some (answer_unit held (Response code)))
+by_fault machine number tag outcome bytes held code count is task out (Some fault) fails =
+    let no : ◌≡◌ {A = Result (Unit {0}) AnswerFault} (Err fault) (Ok tt) = fails in let it : ⊥ = cc in absurd it
+by_fault machine number tag outcome bytes held code count is task out None done =
     ready (with_slot machine tag (answered_slot (slot_of machine tag) out outcome bytes)) number held code
     (last_gone number machine.slots tag (answered_slot (slot_of machine tag) out outcome bytes) count is
     (ap (is_at number) (answered-stale (slot_of machine tag) out outcome bytes)))
@@ -207,8 +198,8 @@ freed : (machine : Machine) (number tag : ℕ) (outcome : Outcome) (bytes : List
 freed machine number tag outcome bytes held code count is task None ok =
     let no : ◌≡◌ {A = Result (Unit {0}) AnswerFault} (Err NotOut) (Ok tt) = ok in let it : ⊥ = cc in absurd it
 freed machine number tag outcome bytes held code count is task (Some out) ok =
-    by_length machine number tag outcome bytes held code count is task out (not (is_known machine.set outcome && is_of out.request outcome))
-    (not (has_place out outcome)) (is_wrong_length (slot_of machine tag) out outcome (length bytes)) ok
+    by_fault machine number tag outcome bytes held code count is task out
+    (answer_fault machine.set (slot_of machine tag) out outcome (length bytes)) ok
 
 pub last_frees : LastAnswerFrees
 last_frees machine number told outcome bytes tag code count is ok task =

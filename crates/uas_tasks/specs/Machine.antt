@@ -305,13 +305,22 @@ request_out machine number = option_map (λ out. out.request) (out_of_number mac
 abbrev pub bytes_out : Machine → ℕ → Option (List ℕ)
 bytes_out machine number = option_map (λ out. take out.len (slot_of machine (number % 256)).bytes) (out_of_number machine number)
 
+-- why an answer is refused: the first of these that holds
+abbrev pub answer_fault : CommandSet → SlotState → Out → Outcome → ℕ → Option AnswerFault
+answer_fault set slot out outcome size =
+    if not (is_known set outcome && is_of out.request outcome) then Some NoSuchOutcome
+    else (if not (has_place out outcome) then Some WrongPlace
+    else (if is_wrong_length slot out outcome size then Some WrongLength else None))
+
+abbrev pub answered_unless : Machine → SlotState → ℕ → Outcome → List ℕ → Out → Option AnswerFault → Machine × Result (Unit {0}) AnswerFault
+answered_unless machine slot tag outcome new out (Some fault) = (machine, Err fault)
+answered_unless machine slot tag outcome new out None = (with_slot machine tag (answered_slot slot out outcome new), Ok tt)
+
 abbrev pub answered_out : Machine → ℕ → Outcome → List ℕ → Option Out → Machine × Result (Unit {0}) AnswerFault
 answered_out machine tag outcome new None = (machine, Err NotOut)
 answered_out machine tag outcome new (Some out) =
-    if not (is_known machine.set outcome && is_of out.request outcome) then (machine, Err NoSuchOutcome)
-    else (if not (has_place out outcome) then (machine, Err WrongPlace)
-    else (if is_wrong_length (slot_of machine tag) out outcome (length new) then (machine, Err WrongLength)
-    else (with_slot machine tag (answered_slot (slot_of machine tag) out outcome new), Ok tt)))
+    let slot = slot_of machine tag in
+    answered_unless machine slot tag outcome new out (answer_fault machine.set slot out outcome (length new))
 
 abbrev pub answered : Machine → ℕ → Outcome → List ℕ → Machine × Result (Unit {0}) AnswerFault
 answered machine number outcome new = answered_out machine (number % 256) outcome new (out_of_number machine number)

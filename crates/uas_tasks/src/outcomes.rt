@@ -115,11 +115,12 @@ impl Out {
         ensures brought { result ≡ brought self.now outcome }
         ensures most { result ≤ self.now.len }
     {
+        let (len, count) = (self.len, self.request.count() as usize);
         match outcome {
-            Outcome::Done => self.len,
+            Outcome::Done => len,
             Outcome::MediumErrorAt { block, .. } => {
                 let before = (block - self.request.block()) as usize;
-                before * (self.len / self.request.count() as usize)
+                before * (len / count)
             }
             Outcome::Differs
             | Outcome::MediumError

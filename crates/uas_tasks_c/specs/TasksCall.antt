@@ -2,18 +2,18 @@
 use Rattle.std.specs.Prelude.{ℕ, ◌==◌, nat_lt, if◌then◌else◌, List, [], ◌∷◌, ◌++◌, length, drop, Option, None, Some, unwrap_or, Result, Ok, Err}
 use Rattle.c_common.specs.Bytes.{yes}
 use Rattle.c_common.specs.Door.{After, DoorAfter, numbered, refused, with_bytes}
-use Rattle.c_common.specs.declared.faults.TheConstants.{TASKS_CALL, TASKS_LENGTH, TASKS_NOT_OUT, TASKS_OVERLAP, TASKS_PHASE}
+use Rattle.c_common.specs.declared.faults.TheConstants.{TASKS_CALL, TASKS_LENGTH, TASKS_NOT_OUT, TASKS_OVERLAP, TASKS_PHASE, TASKS_PLACE}
 use Rattle.uas_iu.specs.declared.Iu.{Iu}
 use Rattle.uas_iu.specs.Units.{unit_size, unit_text}
 use Rattle.uas_target.specs.declared.Overlap.{Overlap}
 use Rattle.uas_target.specs.declared.Took.{Took}
 use Rattle.uas_target.specs.declared.Took.TheVariants.{Began, Dropped}
 use Rattle.uas_tasks.specs.declared.AnswerFault.{AnswerFault}
-use Rattle.uas_tasks.specs.declared.AnswerFault.TheVariants.{NotOut, WrongLength}
+use Rattle.uas_tasks.specs.declared.AnswerFault.TheVariants.{NotOut, NoSuchOutcome, WrongPlace, WrongLength}
 use Rattle.uas_tasks.specs.declared.Next.{Next}
 use Rattle.uas_tasks.specs.declared.Next.TheVariants as nexts
 use Rattle.uas_tasks.specs.declared.Outcome.{Outcome}
-use Rattle.uas_tasks.specs.declared.Outcome.TheVariants as outcomes
+use Rattle.c_tasks.specs.Outcomes.{outcome_told}
 use Rattle.uas_tasks.specs.declared.Request.{Request}
 use Rattle.uas_tasks.specs.declared.Request.TheVariants as requests
 use Rattle.uas_tasks.specs.declared.Wants.{Wants}
@@ -83,17 +83,16 @@ after_data machine door bytes = by (bytes_out machine door.number)
     by (Some out) =
         if length out == length bytes then (0, (machine, (door, out))) else with_bytes bytes (refused TASKS_LENGTH machine door)
 
--- ANSWERED (6): the request is done (0), its blocks differ (1), are bad (2), or aren't to be had now (3)
-abbrev pub outcome_numbered : ℕ → Option Outcome
-outcome_numbered = numbered ((0, outcomes.Done) ∷ (1, outcomes.Differs) ∷ (2, outcomes.MediumError) ∷ (3, outcomes.NotReady) ∷ [])
-
+-- ANSWERED (6): what came of a request, at a block or a byte where `good` is 1
 abbrev pub answer_told : UasTasksDoor → Machine × Result Unit AnswerFault → DoorAfter Machine UasTasksDoor
 answer_told door (after, Ok done) = (0, (after, door))
 answer_told door (after, Err NotOut) = refused TASKS_NOT_OUT after door
+answer_told door (after, Err NoSuchOutcome) = refused TASKS_CALL after door
+answer_told door (after, Err WrongPlace) = refused TASKS_PLACE after door
 answer_told door (after, Err WrongLength) = refused TASKS_LENGTH after door
 
 abbrev pub after_answer : Machine → UasTasksDoor → List ℕ → DoorAfter Machine UasTasksDoor
-after_answer machine door bytes = by (outcome_numbered door.outcome)
+after_answer machine door bytes = by (outcome_told door.outcome (door.good == 1) door.block (length bytes))
   where
     by : Option Outcome → DoorAfter Machine UasTasksDoor
     by None = refused TASKS_CALL machine door

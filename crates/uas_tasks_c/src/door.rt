@@ -1,12 +1,15 @@
 //! A device without blocks for C: information units in, requests, data and information units out, over one call with a door.
 ghost use Rattle.std.specs.Prelude.{◌≡◌};
 ghost use Rattle.uas_tasks_c.specs.TasksCall.{after_answer, after_call, after_data, after_give, after_next, after_receive, after_sent, after_stale, after_status};
-ghost use Rattle.uas_tasks_c.specs.TasksCall.{after_take, answer_told, call_numbered, outcome_numbered, with_next, with_request, with_took};
+ghost use Rattle.uas_tasks_c.specs.TasksCall.{after_take, answer_told, call_numbered, with_next, with_request, with_took};
 
-use c_common::faults::{TASKS_CALL, TASKS_LENGTH, TASKS_NOT_OUT, TASKS_OVERLAP, TASKS_PHASE};
+use c_common::faults::{
+    TASKS_CALL, TASKS_LENGTH, TASKS_NOT_OUT, TASKS_OVERLAP, TASKS_PHASE, TASKS_PLACE,
+};
 use c_common::put_unit;
+use c_tasks::outcome_told;
 use std::marker::Model;
-use uas_tasks::{AnswerFault, Next, Outcome, Request, Tasks, Took, Wants};
+use uas_tasks::{AnswerFault, Next, Request, Tasks, Took, Wants};
 
 /// What a call of the device asks and answers. C writes `call` and what that call reads; the call writes what it answers.
 #[repr(C)]
@@ -16,13 +19,13 @@ pub struct UasTasksDoor {
     pub call: u8,
     /// Out of NEXT: 0 absent, 1 gives, 2 takes, 3 ends, 4 asks, 5 waits.
     pub phase: u8,
-    /// Out of RECEIVE: 1 where a task began, else 0.
+    /// Out of RECEIVE: 1 where a task began, else 0. Of ANSWERED: 1 where `block` is a place.
     pub good: u8,
     /// Out of a NEXT that asks: 1 reads, 2 writes, 3 compares, 4 verifies, 5 brings to the medium.
     pub kind: u8,
     /// Out of a NEXT that asks: 1 where a write goes through to the medium, else 0.
     pub through: u8,
-    /// Of ANSWERED: 0 done, 1 differs, 2 medium error, 3 not ready.
+    /// Of ANSWERED: 0 done, 1 differs, 2 medium error, 3 not ready, 4 no space, 5 write protected, 6 aborted, 7 busy.
     pub outcome: u8,
     /// Of NEXT to TAKE, STATUS and SENT. Out of RECEIVE: the tag on which a task began.
     pub tag: u16,
@@ -32,7 +35,7 @@ pub struct UasTasksDoor {
     pub length: u64,
     /// Out of a NEXT that asks, and of DATA and ANSWERED: the request's number. Of STALE: the last one told, or 0; out: the next, or 0.
     pub number: u64,
-    /// Out of a NEXT that asks: the first block.
+    /// Out of a NEXT that asks: the first block. Of ANSWERED: the first bad block, or the first byte that differs.
     pub block: u64,
     /// Out of a NEXT that asks: how many blocks.
     pub count: u64,
@@ -81,18 +84,6 @@ fn call_numbered(number: u8) -> Option<Call>
         8 => Some(Call::Sent),
         9 => Some(Call::Reset),
         10 => Some(Call::Stale),
-        _ => None,
-    }
-}
-
-fn outcome_numbered(number: u8) -> Option<Outcome>
-    ensures { result ≡ outcome_numbered number }
-{
-    match number {
-        0 => Some(Outcome::Done),
-        1 => Some(Outcome::Differs),
-        2 => Some(Outcome::MediumError),
-        3 => Some(Outcome::NotReady),
         _ => None,
     }
 }
@@ -237,12 +228,15 @@ fn show_data(tasks: &Tasks, door: &UasTasksDoor, bytes: &mut [u8]) -> u8
 fn answer(tasks: &mut Tasks, door: &UasTasksDoor, bytes: &[u8]) -> u8
     ensures { (result, (tasks.new, door.now)) ≡ after_answer tasks.old door.now bytes.now }
 {
-    let Some(outcome) = outcome_numbered(door.outcome) else {
+    let told = outcome_told(door.outcome, door.good == 1, door.block, bytes.len());
+    let Some(outcome) = told else {
         return TASKS_CALL;
     };
     match tasks.answered(door.number, outcome, bytes) {
         Ok(()) => 0,
         Err(AnswerFault::NotOut) => TASKS_NOT_OUT,
+        Err(AnswerFault::NoSuchOutcome) => TASKS_CALL,
+        Err(AnswerFault::WrongPlace) => TASKS_PLACE,
         Err(AnswerFault::WrongLength) => TASKS_LENGTH,
     }
 }

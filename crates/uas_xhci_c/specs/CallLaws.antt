@@ -11,7 +11,7 @@ use Rattle.c_common.specs.declared.faults.TheConstants.{TASKS_CALL, TASKS_LENGTH
 use Rattle.uas_profile.specs.declared.TheConstants.{MAX_UNITS}
 use Rattle.guest_tasks.specs.Active.{asks_on, is_asking}
 use Rattle.uas_tasks.specs.declared.AnswerFault.{AnswerFault}
-use Rattle.uas_tasks.specs.declared.AnswerFault.TheVariants.{NotOut, WrongLength}
+use Rattle.uas_tasks.specs.declared.AnswerFault.TheVariants.{NotOut, NoSuchOutcome, WrongPlace, WrongLength}
 use Rattle.uas_tasks.specs.declared.Next.{Next}
 use Rattle.uas_tasks.specs.declared.Next.TheVariants.{Absent, Asks, Waits, Gives, Takes, Ends}
 use Rattle.uas_tasks.specs.declared.Request.{Request}
@@ -27,11 +27,12 @@ use Rattle.uas_tasks.proofs.Keeping.{wanted-free}
 use Rattle.xhci_machine.specs.declared.Machine.{Machine}
 use Rattle.xhci_machine.specs.Bulk.{asked_in}
 use Rattle.xhci_machine.specs.Bus.{is_bulk}
+use Rattle.c_tasks.specs.Outcomes.{outcome_told}
 use Rattle.uas_xhci_c.specs.declared.door.Call.{Call}
 use Rattle.uas_xhci_c.specs.declared.door.Call.TheVariants as calls
 use Rattle.uas_xhci_c.specs.declared.door.UasXhciDoor.{UasXhciDoor}
 use Rattle.uas_xhci_c.specs.XhciCall.{after_call, after_named, after_request, answer_told, answered_with, asked_on, call_numbered, first_asking}
-use Rattle.uas_xhci_c.specs.XhciCall.{given_out, outcome_numbered, read_at, width_of, with_next, written_at}
+use Rattle.uas_xhci_c.specs.XhciCall.{given_out, read_at, width_of, with_next, written_at}
 
 -- nothing, no such call, bytes that are more or fewer than a request's, no such request, or no such logical unit or serial number
 abbrev pub is_answer : ℕ → Bool
@@ -62,6 +63,8 @@ module _ (machine : Machine) (door : UasXhciDoor) (bytes : List ℕ) where
   told : (after : Tasks × Result (Unit {0}) AnswerFault) → Whole (with_bytes bytes (answer_told machine door after))
   told (after, Ok ended) = done _ door bytes
   told (after, Err NotOut) = (refl, λ some. refl)
+  told (after, Err NoSuchOutcome) = (refl, λ some. refl)
+  told (after, Err WrongPlace) = (refl, λ some. refl)
   told (after, Err WrongLength) = (refl, λ some. refl)
 
   named : (call : Call) → Whole (after_named machine door bytes call)
@@ -77,7 +80,7 @@ module _ (machine : Machine) (door : UasXhciDoor) (bytes : List ℕ) where
   named calls.Request = done _ _ bytes
   named calls.Data = either Whole (given_out machine door bytes) _ _ (refl, λ some. refl) given
   named calls.Answered =
-      either (λ after. Whole (with_bytes bytes after)) (answered_with machine door bytes) (outcome_numbered door.outcome) _ (refl, λ some. refl)
+      either (λ after. Whole (with_bytes bytes after)) (answered_with machine door bytes) (outcome_told door.outcome (door.good == 1) door.block (length bytes)) _ (refl, λ some. refl)
       (λ outcome. told _)
   named calls.Stale = done _ _ bytes
   named calls.HostError = done _ _ bytes

@@ -4,16 +4,16 @@ use Rattle.std.specs.List.{find, range_with_len}
 use Rattle.std.specs.Option.{option_map_or}
 use Rattle.c_common.specs.Bytes.{yes}
 use Rattle.c_common.specs.Door.{After, DoorAfter, numbered, refused, with_bytes}
-use Rattle.c_common.specs.declared.faults.TheConstants.{TASKS_CALL, TASKS_LENGTH, TASKS_NOT_OUT, TASKS_SERIAL, UNITS}
+use Rattle.c_common.specs.declared.faults.TheConstants.{TASKS_CALL, TASKS_LENGTH, TASKS_NOT_OUT, TASKS_PLACE, TASKS_SERIAL, UNITS}
 use Rattle.uas_profile.specs.declared.TheConstants.{MAX_UNITS}
 use Rattle.guest_tasks.specs.Active.{asks_on}
 use Rattle.guest_tasks.specs.declared.GuestTasks.{GuestTasks}
 use Rattle.uas_tasks.specs.declared.AnswerFault.{AnswerFault}
-use Rattle.uas_tasks.specs.declared.AnswerFault.TheVariants.{NotOut, WrongLength}
+use Rattle.uas_tasks.specs.declared.AnswerFault.TheVariants.{NotOut, NoSuchOutcome, WrongPlace, WrongLength}
 use Rattle.uas_tasks.specs.declared.Next.{Next}
 use Rattle.uas_tasks.specs.declared.Next.TheVariants as nexts
 use Rattle.uas_tasks.specs.declared.Outcome.{Outcome}
-use Rattle.uas_tasks.specs.declared.Outcome.TheVariants as outcomes
+use Rattle.c_tasks.specs.Outcomes.{outcome_told}
 use Rattle.uas_tasks.specs.declared.Request.{Request}
 use Rattle.uas_tasks.specs.declared.Request.TheVariants as requests
 use Rattle.uas_tasks.specs.Machine.{Machine as Tasks, answered, bytes_out, next_of, stale_after}
@@ -117,13 +117,12 @@ after_data machine door bytes =
     option_map_or (given_out machine door bytes) (bytes_out machine.device.tasks door.number)
     (with_bytes bytes (refused TASKS_NOT_OUT machine door))
 
--- ANSWERED (10): the request is done (0), its blocks differ (1), are bad (2), or aren't to be had now (3)
-abbrev pub outcome_numbered : ℕ → Option Outcome
-outcome_numbered = numbered ((0, outcomes.Done) ∷ (1, outcomes.Differs) ∷ (2, outcomes.MediumError) ∷ (3, outcomes.NotReady) ∷ [])
-
+-- ANSWERED (10): what came of a request, at a block or a byte where `good` is 1
 abbrev pub answer_told : Machine → UasXhciDoor → Tasks × Result (Unit {0}) AnswerFault → DoorAfter Machine UasXhciDoor
 answer_told machine door (tasks, Ok done) = (0, (with_tasks machine tasks, door))
 answer_told machine door (tasks, Err NotOut) = refused TASKS_NOT_OUT machine door
+answer_told machine door (tasks, Err NoSuchOutcome) = refused TASKS_CALL machine door
+answer_told machine door (tasks, Err WrongPlace) = refused TASKS_PLACE machine door
 answer_told machine door (tasks, Err WrongLength) = refused TASKS_LENGTH machine door
 
 abbrev pub answered_with : Machine → UasXhciDoor → List ℕ → Outcome → DoorAfter Machine UasXhciDoor
@@ -131,7 +130,7 @@ answered_with machine door bytes outcome = answer_told machine door (answered ma
 
 abbrev pub after_answer : Machine → UasXhciDoor → List ℕ → DoorAfter Machine UasXhciDoor
 after_answer machine door bytes =
-    option_map_or (answered_with machine door bytes) (outcome_numbered door.outcome) (refused TASKS_CALL machine door)
+    option_map_or (answered_with machine door bytes) (outcome_told door.outcome (door.good == 1) door.block (length bytes)) (refused TASKS_CALL machine door)
 
 -- STALE (11): the number of the next stale request, or 0
 abbrev pub after_stale : Machine → UasXhciDoor → DoorAfter Machine UasXhciDoor

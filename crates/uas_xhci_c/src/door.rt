@@ -2,13 +2,16 @@
 ghost use Rattle.std.specs.Prelude.{◌≡◌};
 ghost use Rattle.uas_xhci_c.specs.CallLaws.{IsTold, IsWhole};
 ghost use Rattle.uas_xhci_c.specs.XhciCall.{after_answer, after_call, after_data, after_offer, after_read, after_request, after_stale, after_write, call_numbered};
-ghost use Rattle.uas_xhci_c.specs.XhciCall.{outcome_numbered, width_of, with_next, with_request};
+ghost use Rattle.uas_xhci_c.specs.XhciCall.{width_of, with_next, with_request};
 
-use c_common::faults::{TASKS_CALL, TASKS_LENGTH, TASKS_NOT_OUT, TASKS_SERIAL, UNITS};
+use c_common::faults::{
+    TASKS_CALL, TASKS_LENGTH, TASKS_NOT_OUT, TASKS_PLACE, TASKS_SERIAL, UNITS,
+};
+use c_tasks::outcome_told;
 use host_commands::SerialNumber;
 use std::marker::Model;
 use uas_profile::MAX_UNITS;
-use uas_tasks::{AnswerFault, Next, Outcome, Request};
+use uas_tasks::{AnswerFault, Next, Request};
 use xhci_machine::{Machine, Width};
 
 /// What a call of the controller asks and answers. C writes `call` and what that call reads; the call writes what it answers.
@@ -19,13 +22,14 @@ pub struct UasXhciDoor {
     pub call: u8,
     /// Of READ and WRITE: 1, 2, 4 or 8 bytes.
     pub width: u8,
-    /// Out of INTERRUPT, MESSAGE and HOST_ERROR: 1 where there is one; of REQUEST: 1 where one is out newly.
+    /// Out of INTERRUPT, MESSAGE and HOST_ERROR: 1 where there is one; of REQUEST: 1 where one is out newly. Of ANSWERED: 1 where `block` is a
+    /// place.
     pub good: u8,
     /// Out of REQUEST: 1 reads, 2 writes, 3 compares, 4 verifies, 5 brings to the medium.
     pub kind: u8,
     /// Out of REQUEST: 1 where a write goes through to the medium, else 0.
     pub through: u8,
-    /// Of ANSWERED: 0 done, 1 differs, 2 medium error, 3 not ready.
+    /// Of ANSWERED: 0 done, 1 differs, 2 medium error, 3 not ready, 4 no space, 5 write protected, 6 aborted, 7 busy.
     pub outcome: u8,
     pub reserved: u16,
     /// Of READ and WRITE: where in the register page.
@@ -37,7 +41,7 @@ pub struct UasXhciDoor {
     pub number: u64,
     /// Out of REQUEST: the logical unit's number.
     pub unit: u64,
-    /// Out of REQUEST: the first block.
+    /// Out of REQUEST: the first block. Of ANSWERED: the first bad block, or the first byte that differs.
     pub block: u64,
     /// Out of REQUEST: how many blocks.
     pub count: u64,
@@ -104,18 +108,6 @@ fn width_of(bytes: u8) -> Option<Width>
         2 => Some(Width::Two),
         4 => Some(Width::Four),
         8 => Some(Width::Eight),
-        _ => None,
-    }
-}
-
-fn outcome_numbered(number: u8) -> Option<Outcome>
-    ensures { result ≡ outcome_numbered number }
-{
-    match number {
-        0 => Some(Outcome::Done),
-        1 => Some(Outcome::Differs),
-        2 => Some(Outcome::MediumError),
-        3 => Some(Outcome::NotReady),
         _ => None,
     }
 }
@@ -259,12 +251,15 @@ fn show_data(machine: &Machine, door: &UasXhciDoor, bytes: &mut [u8]) -> u8
 fn answer(machine: &mut Machine, door: &UasXhciDoor, bytes: &[u8]) -> u8
     ensures { (result, (machine.new, door.now)) ≡ after_answer machine.old door.now bytes.now }
 {
-    let Some(outcome) = outcome_numbered(door.outcome) else {
+    let told = outcome_told(door.outcome, door.good == 1, door.block, bytes.len());
+    let Some(outcome) = told else {
         return TASKS_CALL;
     };
     match machine.answered(door.number, outcome, bytes) {
         Ok(()) => 0,
         Err(AnswerFault::NotOut) => TASKS_NOT_OUT,
+        Err(AnswerFault::NoSuchOutcome) => TASKS_CALL,
+        Err(AnswerFault::WrongPlace) => TASKS_PLACE,
         Err(AnswerFault::WrongLength) => TASKS_LENGTH,
     }
 }

@@ -1,12 +1,12 @@
 -- What each call makes of the disk: a packet that comes, and what is done next for it.
-use Rattle.std.specs.Prelude.{ℕ, ◌*◌, ◌%◌, ◌==◌, nat_le, Bool, false, ◌&&◌, if◌then◌else◌, List, length, map, Option, None, Some, Result, Ok}
+use Rattle.std.specs.Prelude.{ℕ, ◌*◌, ◌%◌, ◌==◌, nat_le, Bool, true, false, ◌&&◌, if◌then◌else◌, List, length, map, Option, None, Some, Result, Ok}
 use Rattle.host_commands.specs.declared.CommandSet.{CommandSet}
 use Rattle.host_commands.specs.Shapes.{Shape}
 use Rattle.uas_profile.specs.declared.Pipe.{Pipe}
 use Rattle.uas_tasks.specs.declared.AnswerFault.{AnswerFault}
 use Rattle.uas_tasks.specs.declared.Outcome.{Outcome}
+use Rattle.uas_tasks.specs.declared.Outcome.TheVariants.{Done, Differs, MediumError, NotReady, DiffersAt, MediumErrorAt, NoSpace, WriteProtected, Aborted, Busy}
 use Rattle.uas_tasks.specs.Machine.{answered as answered_tasks, greatest_block, opening as opening_tasks, passed, passing, powered_machine, quiet}
-use Rattle.uas_tasks.specs.Slots.{is_done}
 use Rattle.usb_disk.specs.declared.UsbStrings.{UsbStrings}
 use Rattle.usb_disk.specs.Answers.{reset_with}
 use Rattle.usb_disk.specs.Descriptors.{address_of}
@@ -104,6 +104,18 @@ unfoldable pub next_of : UsbTags → UsbTags × Next
 next_of device = next_by device device.sending
 
 -- REQUESTS
+
+abbrev pub is_done : Outcome → Bool
+is_done Done = true
+is_done Differs = false
+is_done MediumError = false
+is_done NotReady = false
+is_done (DiffersAt byte) = false
+is_done (MediumErrorAt block brings) = false
+is_done NoSpace = false
+is_done WriteProtected = false
+is_done Aborted = false
+is_done Busy = false
 
 -- Whether the bytes of a request go straight into the held data-in of its tag: it is a Read that is done, its task waits for them, and there
 -- is room for all of them.

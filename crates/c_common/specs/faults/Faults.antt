@@ -9,7 +9,7 @@ use Rattle.c_common.specs.declared.faults.TheConstants.{CONTROLLER_UNIT, CONTROL
 use Rattle.c_common.specs.declared.faults.TheConstants.{CLIENT_OUT_OF_TURN, CLIENT_NO_SUCH_TASK, CLIENT_CALL, CLIENT_OPERATION, CLIENT_TICKET, CLIENT_LENGTH}
 use Rattle.c_common.specs.declared.faults.TheConstants.{CLIENT_FUNCTION, DRIVER_CLIENTS, DRIVER_ROOM, DRIVER_ADDRESS, DRIVER_RING, DRIVER_EVENT, DRIVER_STATE, BUS_STEP}
 use Rattle.c_common.specs.declared.faults.TheConstants.{BUS_CLIENT, BUS_RANGE, TASKS_CALL, TASKS_OVERLAP, TASKS_PHASE, TASKS_LENGTH, TASKS_NOT_OUT, TASKS_BLOCK_BYTES}
-use Rattle.c_common.specs.declared.faults.TheConstants.{TAGS, TASKS_SERIAL, TASKS_SET, TASKS_CHUNK, TASKS_SIZE, TASKS_DISK}
+use Rattle.c_common.specs.declared.faults.TheConstants.{TAGS, TASKS_SERIAL, TASKS_SET, TASKS_CHUNK, TASKS_SIZE, TASKS_DISK, TASKS_PLACE}
 
 -- every fault, in the order of its number
 abbrev pub all_faults : List ℕ
@@ -23,7 +23,7 @@ all_faults =
     CLIENT_NO_SUCH_TASK ∷ CLIENT_CALL ∷ CLIENT_OPERATION ∷ CLIENT_TICKET ∷ CLIENT_LENGTH ∷ CLIENT_FUNCTION ∷ DRIVER_CLIENTS ∷
     DRIVER_ROOM ∷ DRIVER_ADDRESS ∷ DRIVER_RING ∷ DRIVER_EVENT ∷ DRIVER_STATE ∷ BUS_STEP ∷ BUS_CLIENT ∷ BUS_RANGE ∷
     TASKS_CALL ∷ TASKS_OVERLAP ∷ TASKS_PHASE ∷ TASKS_LENGTH ∷ TASKS_NOT_OUT ∷ TASKS_BLOCK_BYTES ∷ TASKS_SERIAL ∷ TASKS_SET ∷
-    TASKS_CHUNK ∷ TASKS_SIZE ∷ TASKS_DISK ∷ []
+    TASKS_CHUNK ∷ TASKS_SIZE ∷ TASKS_DISK ∷ TASKS_PLACE ∷ []
 
 -- a number is in a list
 abbrev pub is_among : ℕ → List ℕ → Bool

@@ -197,11 +197,14 @@ none_pending (slot ∷ slots) still =
 
 pub all_savable : (units : List LogicalUnit) (set : CommandSet) (stale : List ℕ) (slots : List SlotState) → IsSoundMachine units stale slots →
     AreStill (length slots) slots → AreSavable (record { units = units; set = set; slots = slots })
-all_savable units set stale slots sound still zero = refl
-all_savable units set stale slots sound still (suc place) =
-    elim (cases_lt place (length slots)) [
-      | inl within ↦
-          let here = still place within in
-          slot-savable units (slice_index_or slots place no_slot) here.sound (All-get_or (IsWithin (shapes_of units)) slots place no_slot within sound.within) here.rests
-      | inr past ↦ subst (IsSavable units) (sym (get_or_past slots place no_slot past)) refl
-    ]
+all_savable units set stale slots sound still = record { units = sound.most_units; slots = sound.places; tags = by_tag }
+  where
+    by_tag : (tag : ℕ) → IsSavable units (slot_under slots tag)
+    by_tag zero = refl
+    by_tag (suc place) =
+        elim (cases_lt place (length slots)) [
+          | inl within ↦
+              let here = still place within in
+              slot-savable units (slice_index_or slots place no_slot) here.sound (All-get_or (IsWithin (shapes_of units)) slots place no_slot within sound.within) here.rests
+          | inr past ↦ subst (IsSavable units) (sym (get_or_past slots place no_slot past)) refl
+        ]

@@ -7,6 +7,7 @@ use Rattle.scsi_cmd.specs.Buffers.{with_bytes_at}
 use Rattle.host_commands.specs.declared.TheConstants.{MOST_DATA_BYTES}
 use Rattle.host_commands.specs.declared.UnitAttention.{UnitAttention}
 use Rattle.host_commands.specs.Shapes.{Shape, block_bytes}
+use Rattle.uas_profile.specs.declared.TheConstants.{GREATEST_TAG, MAX_UNITS}
 use Rattle.uas_tasks.specs.declared.Job.{Job}
 use Rattle.uas_tasks.specs.declared.JobKind.{JobKind}
 use Rattle.uas_tasks.specs.declared.JobKind.TheVariants.{Reads, Writes, Compares, Verifies, Synchronizes, WritesAndVerifies}
@@ -163,12 +164,14 @@ settled_slot slot = restored_slot slot (tag_state slot) (kept_bytes slot)
 
 -- THE LAWS
 
--- the state of each tag is one that a tag can have
+-- the state of each tag is one that a tag can have, of at most MAX_UNITS logical units
 abbrev pub IsSavable : List LogicalUnit → SlotState → Type 0
 IsSavable units slot = is_tag_state units slot.chunk (tag_state slot) (length (kept_bytes slot)) ≡ true
 
-abbrev pub AreSavable : Machine → Type 0
-AreSavable machine = (tag : ℕ) → IsSavable machine.units (slot_of machine tag)
+pub record AreSavable (machine : Machine) : Type 0 where
+  pub units : length machine.units ≤ MAX_UNITS
+  pub slots : length machine.slots ≡ GREATEST_TAG
+  pub tags : (tag : ℕ) → IsSavable machine.units (slot_of machine tag)
 
 -- What was kept of a tag is put on a fresh one: it is the tag again, with the bytes 0 that don't matter.
 abbrev pub TagsAreRestored : Type 0

@@ -9,7 +9,8 @@
 #include "qapi/error.h"
 #include "files.h"
 
-enum { MOST_UNITS = 15, MOST_SERIAL = 99999999 };
+/* A READ or WRITE moves at most 1 MiB, which page B0h tells. */
+enum { MOST_UNITS = 15, MOST_SERIAL = 99999999, MOST_BLOCKS = 2048 };
 #define SERIAL_FOLLOWS UINT32_MAX
 
 struct unit {
@@ -72,8 +73,18 @@ static inline void close_units(struct unit *units)
         close_image(&units[n].image);
 }
 
-/* Opens the files of all logical units, and tells how many there are and their shapes: 0 where one is wrong. Close them in either case. */
-static inline unsigned open_units(struct unit *units, struct uas_tasks_unit *shapes, Error **errp)
+/* A logical unit of an image, whose serial number a host is told in eight digits and in its NAA name. */
+static inline struct uas_disk disk_of(const struct unit *unit)
+{
+    struct uas_disk disk = { .size = sizeof disk, .blocks = unit->image.bytes / UAS_BLOCK_BYTES, .most = MOST_BLOCKS, .naa = { 0x30 } };
+    snprintf(disk.serial, sizeof disk.serial, "%08u", unit->serial);
+    for (unsigned k = 0; k < 4; k++)
+        disk.naa[7 - k] = (uint8_t)(unit->serial >> (8 * k));
+    return disk;
+}
+
+/* Opens the files of all logical units, and tells how many there are and what they are: 0 where one is wrong. Close them in either case. */
+static inline unsigned open_units(struct unit *units, struct uas_disk *disks, Error **errp)
 {
     for (unsigned n = 0; n < MOST_UNITS; n++)
         units[n].image.file = units[n].image.syncing = -1;
@@ -87,7 +98,7 @@ static inline unsigned open_units(struct unit *units, struct uas_tasks_unit *sha
             error_setg(errp, "uas-xhci: %s: %s", unit->path, wrong != IMAGE_GOOD ? image_fault_name(wrong) : uas_fault_name(UAS_BLOCKS));
             return 0;
         }
-        shapes[n] = (struct uas_tasks_unit){ unit->image.bytes / UAS_BLOCK_BYTES, unit->serial, UAS_BLOCK_BYTES };
+        disks[n] = disk_of(unit);
     }
     return count;
 }

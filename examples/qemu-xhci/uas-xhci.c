@@ -26,8 +26,8 @@
 #include "uas-units.h"
 #include "uas_xhci.h"
 
-/* A READ or WRITE moves at most 1 MiB, which page B0h tells; a request to the file is of at most 64 KiB. */
-enum { MOST_BLOCKS = 2048, CHUNK_BLOCKS = 128, CHUNK_BYTES = CHUNK_BLOCKS * UAS_BLOCK_BYTES };
+/* A request to a file is of at most 64 KiB. */
+enum { CHUNK_BLOCKS = 128, CHUNK_BYTES = CHUNK_BLOCKS * UAS_BLOCK_BYTES };
 
 /* Most steps write two or three ranges. */
 enum { STEPS_A_TURN = 256, RANGES = 4 * STEPS_A_TURN, MICROFRAME_NS = 125000 };
@@ -236,12 +236,12 @@ static void reset(DeviceState *state)
 /* Opens the files and makes a controller with a disk of as many logical units. */
 static bool open_disk(UasXhci *device, Error **errp)
 {
-    struct uas_tasks_unit shapes[MOST_UNITS];
-    unsigned count = open_units(device->units, shapes, errp);
+    struct uas_disk disks[MOST_UNITS];
+    unsigned count = open_units(device->units, disks, errp);
     if (count == 0)
         return false;
     device->units[0].image.bad = device->bad;
-    uint8_t fault = uas_xhci_new(shapes, count, UAS_SET_HOST, MOST_BLOCKS, CHUNK_BLOCKS, &device->xhci);
+    uint8_t fault = uas_xhci_new_disks(disks, count * sizeof disks[0], UAS_SET_DISK, 0, CHUNK_BLOCKS, &device->xhci);
     if (fault == UAS_OK && device->bulk_only)
         fault = uas_xhci_offer_bulk_only(device->xhci, (uint8_t)(count - 1), device->units[0].serial);
     if (fault != UAS_OK)

@@ -10,7 +10,7 @@ static int begun, answered, resets, plugs;
 static uint8_t outcome;
 static atomic_int writing; /* writes that are on their way into the file */
 static int writing_at_reset = -1;
-static struct uas_tasks_unit shapes[MOST_UNITS];
+static struct uas_disk disks[MOST_UNITS];
 static size_t units;
 static int most_lun = -1; /* what Bulk-Only Transport tells */
 static int failed;
@@ -28,11 +28,11 @@ ssize_t __wrap_pwrite(int file, const void *bytes, size_t length, off_t at)
     return done;
 }
 
-uint8_t uas_xhci_new(const struct uas_tasks_unit *given, size_t count, uint8_t set, uint16_t most, uint16_t chunk, uas_xhci **xhci)
+uint8_t uas_xhci_new_disks(const struct uas_disk *given, size_t bytes, uint8_t set, uint16_t most, uint16_t chunk, uas_xhci **xhci)
 {
     (void)set, (void)most, (void)chunk;
-    memcpy(shapes, given, count * sizeof *given);
-    units = count;
+    memcpy(disks, given, bytes);
+    units = bytes / sizeof *given;
     *xhci = (uas_xhci *)&asked;
     return UAS_OK;
 }
@@ -40,7 +40,7 @@ uint8_t uas_xhci_new(const struct uas_tasks_unit *given, size_t count, uint8_t s
 uint8_t uas_xhci_offer_bulk_only(uas_xhci *xhci, uint8_t last, uint32_t serial)
 {
     (void)xhci;
-    most_lun = serial == shapes[0].serial ? last : -1;
+    most_lun = serial == (uint32_t)atoi(disks[0].serial) ? last : -1;
     return UAS_OK;
 }
 
@@ -52,10 +52,10 @@ bool uas_xhci_next_request(uas_xhci *xhci, struct uas_request *request)
     return request->kind != 0 && begun++ % 2 == 0; /* one each time */
 }
 
-uint8_t uas_xhci_answered(uas_xhci *xhci, uint64_t number, uint8_t came, const uint8_t *bytes, size_t length)
+uint8_t uas_xhci_tell(uas_xhci *xhci, uint64_t number, const struct uas_outcome *came, const uint8_t *bytes, size_t length)
 {
     (void)xhci, (void)number, (void)bytes, (void)length;
-    outcome = came;
+    outcome = came->what;
     answered++;
     return UAS_OK;
 }
@@ -161,7 +161,7 @@ static void leaves_a_verify(const char *path)
     alarm(20);
     UasXhci *device = working(path, verify);
     unrealize(&device->parent);
-    tell("a VERIFY is left in its midst", answered == 1 && outcome == UAS_NOT_READY && device->jobs == 0);
+    tell("a VERIFY is left in its midst", answered == 1 && outcome == UAS_ABORTED && device->jobs == 0);
     free(device);
     device = working(path, (struct uas_request){ .count = 3 * LOOK_BLOCKS + 5, .kind = UAS_REQUEST_VERIFY });
     asked.kind = 0;
@@ -178,7 +178,7 @@ static void opens_files(const char *path)
     Error *error = NULL;
     asked.kind = 0;
     UasXhci *first = made(path, &error);
-    tell("a file and its serial number", error == NULL && units == 1 && shapes[0].serial == 7 && most_lun == 0);
+    tell("a file and its serial number", error == NULL && units == 1 && strcmp(disks[0].serial, "00000007") == 0 && disks[0].naa[7] == 7 && most_lun == 0);
     UasXhci *second = made(path, &error);
     tell("a file that is served is locked", error != NULL && strstr(error->line, ": locked") != NULL);
     error_free(error);
@@ -242,7 +242,7 @@ static void has_units(const char *path, const char *other)
     device->units[1].path = (char *)other;
     device->bad = 8;
     realize(&device->parent, &error);
-    tell("two units", error == NULL && units == 2 && most_lun == 1 && shapes[1].serial == 8 && shapes[1].blocks == 100);
+    tell("two units", error == NULL && units == 2 && most_lun == 1 && strcmp(disks[1].serial, "00000008") == 0 && disks[1].blocks == 100);
     begun = answered = 0;
     asked = (struct uas_request){ .unit = 1, .block = 8, .count = 8, .kind = UAS_REQUEST_WRITE };
     write_register(device, 0, 0, 4);

@@ -9,7 +9,6 @@ use Rattle.std.specs.Option.{option_map_or}
 use Rattle.scsi_cmd.specs.declared.Sense.{Sense}
 use Rattle.host_commands.specs.declared.Attention.{Attention}
 use Rattle.host_commands.specs.declared.Attention.TheVariants.{Ignored, Given, Reported}
-use Rattle.host_commands.specs.declared.BlockLength.{BlockLength}
 use Rattle.host_commands.specs.declared.CommandSet.{CommandSet}
 use Rattle.host_commands.specs.declared.UnitAttention.{UnitAttention}
 use Rattle.host_commands.specs.declared.Work.{Work}

@@ -7,3 +7,4 @@ pub mod Machines
 pub mod Received
 pub mod Passing
 pub mod Restoring
+pub mod Kept

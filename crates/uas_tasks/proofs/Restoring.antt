@@ -1,25 +1,23 @@
 -- A tag that is restored, and the zeros around what matters. Cited by the answers of the calls that restore.
-use Rattle.std.proofs.Common.{◌≡◌, ℕ, zero, suc, ◌+◌, ◌*◌, ◌<◌, ◌≤◌, Bool, true, false, ◌&&◌, List, [], ◌∷◌, length, replicate, Option, Some, None, IfSome}
-use Rattle.std.proofs.Common.{refl, arith, ap, sym, ◌∙◌, subst}
-use Rattle.std.specs.Prelude.{◌==◌, is_some, nat_le, nat_lt, not, slice_get, slice_index_or}
+use Rattle.std.proofs.Common.{◌≡◌, ℕ, zero, suc, ◌+◌, ◌*◌, ◌<◌, ◌≤◌, Bool, true, false, List, [], ◌∷◌, length, replicate, Option, Some, None, IfSome}
+use Rattle.std.proofs.Common.{refl, arith, ap, sym, ◌∙◌}
+use Rattle.std.specs.Prelude.{◌==◌, is_some, not, slice_index_or}
 use Rattle.std.specs.Option.{option_map_or}
 use Rattle.std.proofs.lemmas.Bool.{and_parts, eqb-true, leb-true, ltb-true}
 use Rattle.scsi_cmd.specs.Buffers.{written_at}
 use Rattle.scsi_cmd.specs.Laws.{written_at-fits}
 use Rattle.scsi_cmd.proofs.Buffers.{with_bytes_at-whole}
-use Rattle.host_commands.specs.declared.BlockLength.{BlockLength}
 use Rattle.host_commands.specs.Shapes.{Shape, block_bytes}
 use Rattle.uas_tasks.specs.declared.Job.{Job}
 use Rattle.uas_tasks.specs.declared.LogicalUnit.{LogicalUnit}
 use Rattle.uas_tasks.specs.declared.saved.TagState.{TagState}
-use Rattle.uas_tasks.specs.declared.slot.Out.{Out}
 use Rattle.uas_tasks.specs.declared.Stage.{Stage}
 use Rattle.uas_tasks.specs.declared.Stage.TheVariants.{Asking, Waiting, Moving}
 use Rattle.uas_tasks.specs.declared.Task.{Task}
 use Rattle.uas_tasks.specs.declared.Task.TheVariants.{Giving, Blocks, Ended, Failed, Held}
 use Rattle.uas_tasks.specs.Machine.{Machine, slot_of}
-use Rattle.uas_tasks.specs.Saved.{is_free, is_job_of, is_job_on, is_stage, is_tag_state, is_task, is_unit, may_restore, restored_slot, stage_span}
-use Rattle.uas_tasks.specs.Slots.{SlotState, chunk_bytes, is_tag}
+use Rattle.uas_tasks.specs.Saved.{is_free, is_job_of, is_job_on, is_stage, is_tag_state, is_task, is_unit, may_restore, restored_slot}
+use Rattle.uas_tasks.specs.Slots.{SlotState, is_tag}
 use Rattle.uas_tasks.specs.Soundness.{EachFits, FitsRoom, IsJobOf, IsJobOn, IsUnit, lengths_of, shapes_of}
 use Rattle.uas_tasks.proofs.Counts.{Keeps}
 use Rattle.uas_tasks.proofs.Keeping.{Rests, rests-keeps, waits}
@@ -38,7 +36,7 @@ written_whole list bytes long = written_at-fits list 0 bytes (omega arith) ∙ w
 
 -- A STATE THAT A TAG CAN HAVE
 
-apart : {P : Type 0} → ◌≡◌ {A = Bool} false true → P
+pub apart : {P : Type 0} → ◌≡◌ {A = Bool} false true → P
 apart is = let it : ⊥ = cc in absurd it
 
 job_on : (job : Job) (shape : Shape) → is_job_on job shape ≡ true → IsJobOn job shape
@@ -62,7 +60,7 @@ job_fits chunk room (unit ∷ units) zero job fits is =
     rw (job_on job unit.shape is).0 fits.0
 job_fits chunk room (unit ∷ units) (suc number) job fits is = job_fits chunk room units number job fits.1 is
 
-task_fits : (units : List LogicalUnit) (chunk room many : ℕ) (task : Task) → EachFits chunk room (lengths_of units) → is_task units chunk many task ≡ true →
+pub task_fits : (units : List LogicalUnit) (chunk room many : ℕ) (task : Task) → EachFits chunk room (lengths_of units) → is_task units chunk many task ≡ true →
     FitsRoom chunk room task
 task_fits units chunk room many (Giving unit at) fits is = tt
 task_fits units chunk room many (Blocks unit job stage) fits is = job_fits chunk room units unit job fits (and_parts _ _ (and_parts _ _ is).0).0

@@ -1,12 +1,13 @@
 -- What matters of a device at a moment when no request is out, and the device that has it again: bytes that don't matter are 0 there.
-use Rattle.std.specs.Prelude.{◌≡◌, ℕ, zero, ◌+◌, ◌-◌, ◌<◌, ◌≤◌, ◌==◌, nat_lt, nat_le, Bool, true, false, not, ◌&&◌, ◌||◌, if◌then◌else◌, List, [], ◌++◌, length, take, drop, replicate, slice_get}
-use Rattle.std.specs.Prelude.{Option, None, Some, is_some, option_and_then, Result, Ok, Err}
+use Rattle.std.specs.Prelude.{◌≡◌, ℕ, ◌+◌, ◌-◌, ◌<◌, ◌≤◌, ◌==◌, nat_lt, nat_le, Bool, true, false, not, ◌&&◌, ◌||◌, if◌then◌else◌, List, [], ◌++◌, length, take, drop, replicate, slice_get}
+use Rattle.std.specs.Prelude.{Option, None, is_some, option_and_then, Result, Ok, Err}
 use Rattle.std.specs.List.{list_any}
 use Rattle.std.specs.Option.{option_map_or}
 use Rattle.scsi_cmd.specs.Buffers.{with_bytes_at}
 use Rattle.host_commands.specs.declared.TheConstants.{MOST_DATA_BYTES}
 use Rattle.host_commands.specs.declared.UnitAttention.{UnitAttention}
 use Rattle.host_commands.specs.Shapes.{Shape, block_bytes}
+use Rattle.uas_profile.specs.declared.TheConstants.{GREATEST_TAG, MAX_UNITS}
 use Rattle.uas_tasks.specs.declared.Job.{Job}
 use Rattle.uas_tasks.specs.declared.JobKind.{JobKind}
 use Rattle.uas_tasks.specs.declared.JobKind.TheVariants.{Reads, ReadsBeforeBad, Writes, Compares, Verifies, Synchronizes, WritesAndVerifies}
@@ -19,8 +20,8 @@ use Rattle.uas_tasks.specs.declared.saved.Span.{Span}
 use Rattle.uas_tasks.specs.declared.saved.TagState.{TagState}
 use Rattle.uas_tasks.specs.declared.saved.Unsound.{Unsound}
 use Rattle.uas_tasks.specs.Machine.{Machine, slot_of, with_attention, with_slot}
-use Rattle.uas_tasks.specs.Soundness.{IsSoundJob, IsSoundStage}
-use Rattle.uas_tasks.specs.Slots.{SlotState, chunk_bytes, is_moved, is_tag, request_bytes, task_waits}
+use Rattle.uas_tasks.specs.Soundness.{EachFits, IsSoundJob, IsSoundStage, lengths_of}
+use Rattle.uas_tasks.specs.Slots.{SlotState, chunk_bytes, fresh_slot, is_moved, is_tag, request_bytes, task_waits}
 
 -- WHETHER A REQUEST IS OUT
 
@@ -167,6 +168,30 @@ restored_tag machine tag state bytes =
 -- a tag with the bytes 0 that don't matter
 abbrev pub settled_slot : SlotState → SlotState
 settled_slot slot = restored_slot slot (tag_state slot) (kept_bytes slot)
+
+-- THE LAWS
+
+-- the state of each tag is one that a tag can have, of at most MAX_UNITS logical units
+abbrev pub IsSavable : List LogicalUnit → SlotState → Type 0
+IsSavable units slot = is_tag_state units slot.chunk (tag_state slot) (length (kept_bytes slot)) ≡ true
+
+pub record AreSavable (machine : Machine) : Type 0 where
+  pub units : length machine.units ≤ MAX_UNITS
+  pub slots : length machine.slots ≡ GREATEST_TAG
+  pub tags : (tag : ℕ) → IsSavable machine.units (slot_of machine tag)
+
+-- What was kept of a tag is put on a fresh one: it is the tag again, with the bytes 0 that don't matter.
+abbrev pub TagsAreRestored : Type 0
+TagsAreRestored =
+    (machine : Machine) (tag : ℕ) (slot : SlotState) → is_tag tag ≡ true → slot_of machine tag ≡ fresh_slot slot.chunk (length slot.bytes)
+    → IsSavable machine.units slot → restored_tag machine tag (tag_state slot) (kept_bytes slot) ≡ (with_slot machine tag (settled_slot slot), Ok tt)
+
+-- What is put on a tag is what is kept of it.
+abbrev pub RestoredAreKept : Type 0
+RestoredAreKept =
+    (units : List LogicalUnit) (slot : SlotState) (state : TagState) (bytes : List ℕ) → EachFits slot.chunk (length slot.bytes) (lengths_of units)
+    → is_tag_state units slot.chunk state (length bytes) ≡ true
+    → (tag_state (restored_slot slot state bytes) ≡ state) × (kept_bytes (restored_slot slot state bytes) ≡ bytes)
 
 -- ATTENTIONS: each logical unit has either, or none
 

@@ -1,13 +1,13 @@
 //! What matters of a device at a moment when no request is out, as plain values, and the device that has it again.
-ghost use Rattle.std.specs.Prelude.{◌≡◌, ◌+◌, ◌≤◌, ◌++◌, IfSome, [], length, replicate, true};
+ghost use Rattle.std.specs.Prelude.{◌≡◌, ◌+◌, ◌≤◌, ◌++◌, IfSome, [], false, length, replicate, true};
 ghost use Rattle.host_commands.specs.declared.TheConstants.{MOST_DATA_BYTES};
 ghost use Rattle.uas_tasks.specs.Machine.{slot_of};
-ghost use Rattle.uas_tasks.specs.Saved.{IsRestorable, asking_span, has_request_out, is_free, is_job_of, is_job_on, is_pending, is_stage, is_tag_state, is_task, is_unit, kept_bytes, may_restore, moving_span, no_span};
+ghost use Rattle.uas_tasks.specs.Saved.{AreSavable, IsRestorable, asking_span, has_request_out, is_free, is_job_of, is_job_on, is_stage, is_tag_state, is_task, is_unit, kept_bytes, may_restore, moving_span, no_span};
 ghost use Rattle.uas_tasks.specs.Saved.{restored_attention, restored_slot, restored_tag, stage_span, tag_state, unit_attention};
 ghost use Rattle.uas_tasks.specs.Slots.{chunk_bytes, is_moved};
 ghost use Rattle.uas_tasks.specs.Soundness.{IsSoundJob, IsSoundStage};
 
-use crate::jobs::{chunk_bytes, is_waiting, request_bytes};
+use crate::jobs::{chunk_bytes, request_bytes};
 use crate::receiver::is_tag;
 use crate::slot::Slot;
 use crate::{Job, JobKind, LogicalUnit, Stage, Task, Tasks};
@@ -38,9 +38,15 @@ pub(crate) struct Span {
 impl Tasks {
     /// Whether a tag has a request out, or a task that waits for one.
     pub fn has_request_out(&self) -> bool
-        ensures { result ≡ has_request_out self.now }
+        ensures out { result ≡ has_request_out self.now }
+        ensures savable { result ≡ false → AreSavable self.now }
     {
-        self.slots.iter().any(|slot| is_pending(slot))
+        for slot in &self.slots {
+            if slot.is_pending() {
+                return true;
+            }
+        }
+        false
     }
 
     /// What matters of a tag, but for its bytes; of a tag that no task may have it is that of a fresh one.
@@ -112,12 +118,6 @@ impl Tasks {
             self.units[number] = LogicalUnit { attention, ..unit };
         }
     }
-}
-
-fn is_pending(slot: &Slot) -> bool
-    ensures { result ≡ is_pending slot.now }
-{
-    slot.out().is_some() || is_waiting(slot.task())
 }
 
 fn is_free(slot: &Slot) -> bool

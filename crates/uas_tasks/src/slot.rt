@@ -3,16 +3,16 @@ ghost use Rattle.std.specs.Prelude.{◌≡◌, ◌≤◌, if◌then◌else◌, I
 ghost use Rattle.scsi_cmd.specs.declared.Sense.{Sense};
 ghost use Rattle.scsi_cmd.specs.Buffers.{with_bytes_at};
 ghost use Rattle.host_commands.specs.Data.{IsOfDevice, given_bytes};
-ghost use Rattle.uas_tasks.specs.Slots.{SlotState, answered_slot, asked_slot, brings_bytes, filled, fresh_slot, gave_slot, giving_slot, giving_task, has_place};
+ghost use Rattle.uas_tasks.specs.Slots.{SlotState, answered_slot, asked_slot, brings_bytes, filled, fresh_slot, gave_slot, giving_slot, has_place};
 ghost use Rattle.uas_tasks.specs.Slots.{is_wrong_length, next_bytes, passed_out, passing_out, slot_wants, took_slot, with_task};
-ghost use Rattle.uas_tasks.specs.Soundness.{FitsRoom, IsSoundTask, MayGive, MayTake};
-ghost use Rattle.uas_tasks.specs.Saved.{IsRestorable, kept_bytes, restored_slot};
+ghost use Rattle.uas_tasks.specs.Soundness.{FitsRoom, IsSoundSlot, IsSoundTask, MayGive, MayTake};
+ghost use Rattle.uas_tasks.specs.Saved.{IsRestorable, is_pending, kept_bytes, restored_slot};
 ghost use Rattle.uas_tasks.specs.Stale.{held_by, stale_unit, stale_without, writes_out};
 ghost use Rattle.uas_tasks.specs.declared.Wants.{Wants};
 ghost use Rattle.uas_tasks.specs.declared.slot.Out.{Out};
 
 use crate::jobs::{after_answer, is_read, is_waiting, out_of, stage_wants, unit_written, waiting};
-use crate::moves::{gave_task, took_task};
+use crate::moves::{gave_task, giving_task, took_task};
 use crate::outcomes::brings;
 use crate::saved::{TagState, clear, give_again, stage_span};
 use crate::{Answer, DeviceAnswer, Outcome, Request, Stage, Task, Wants};
@@ -330,6 +330,14 @@ impl Slot {
 }
 
 impl Slot {
+    /// Whether it has a request out, or a task that waits for one.
+    pub(crate) fn is_pending(&self) -> bool
+        ensures pending { result ≡ is_pending self.now }
+        ensures sound { IsSoundSlot self.now }
+    {
+        self.out.is_some() || is_waiting(&self.task)
+    }
+
     /// The bytes that matter while no request is out.
     pub(crate) fn kept_bytes(&self) -> &[u8]
         ensures { result.now ≡ kept_bytes self.now }
@@ -364,20 +372,6 @@ impl Slot {
         self.task = state.task;
         self.turn = state.turn;
         self.out = None;
-    }
-}
-
-/// A task that gives so many bytes of data of the device, or has ended where there are none.
-fn giving_task(unit: Option<usize>, many: usize) -> Task
-    ensures { result ≡ giving_task unit many }
-{
-    if many == 0 {
-        Task::Ended {
-            unit,
-            answer: DeviceAnswer::Status(Answer::Good),
-        }
-    } else {
-        Task::Giving { unit, at: 0 }
     }
 }
 

@@ -1,4 +1,4 @@
-use Rattle.std.proofs.Common.{length, sym, subst}
+use Rattle.std.proofs.Common.{sym, subst}
 use Rattle.uas_tasks.specs.Soundness.{shapes_of}
 use Rattle.uas_tasks.proofs.Counts.{Keeps}
 use Rattle.uas_tasks.proofs.Keeping.{started_none-keeps}

@@ -1,4 +1,4 @@
-use Rattle.std.proofs.Common.{◌-◌, Option, length, refl, ap, sym, subst, ◌∙◌}
+use Rattle.std.proofs.Common.{◌-◌, Option, refl, ap, sym, subst, ◌∙◌}
 use Rattle.host_commands.specs.declared.UnitAttention.{UnitAttention}
 use Rattle.uas_tasks.specs.Machine.{begun}
 use Rattle.uas_tasks.specs.Slots.{SlotState}

@@ -1,5 +1,4 @@
-use Rattle.std.proofs.Common.{◌≡◌, Bool, true, false, ◌-◌, length, refl, ap, sym, subst, ◌∙◌}
-use Rattle.uas_tasks.specs.Machine.{Machine}
+use Rattle.std.proofs.Common.{◌≡◌, true, ◌-◌, length, ap, sym, subst, ◌∙◌}
 use Rattle.uas_tasks.specs.Saved.{is_free, is_tag_state}
 use Rattle.uas_tasks.specs.Slots.{SlotState}
 use Rattle.uas_tasks.specs.Soundness.{shapes_of}

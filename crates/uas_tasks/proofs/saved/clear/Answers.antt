@@ -1,4 +1,4 @@
-use Rattle.std.proofs.Common.{ap, length, refl, replicate, ◌∙◌}
+use Rattle.std.proofs.Common.{ap, refl, replicate, ◌∙◌}
 use Rattle.uas_tasks.proofs.Restoring.{written_whole, zeros-all}
 use Rattle.uas_tasks.proofs.saved.clear.Goals as goal
 

@@ -4,9 +4,7 @@ ghost use Rattle.uas_xhci_c.specs.CallLaws.{IsTold, IsWhole};
 ghost use Rattle.uas_xhci_c.specs.XhciCall.{after_answer, after_call, after_data, after_offer, after_read, after_request, after_stale, after_write, call_numbered};
 ghost use Rattle.uas_xhci_c.specs.XhciCall.{width_of, with_next, with_request};
 
-use c_common::faults::{
-    TASKS_CALL, TASKS_LENGTH, TASKS_NOT_OUT, TASKS_PLACE, TASKS_SERIAL, UNITS,
-};
+use c_common::faults::{TASKS_CALL, TASKS_LENGTH, TASKS_NOT_OUT, TASKS_PLACE, TASKS_SERIAL, UNITS};
 use c_tasks::outcome_told;
 use host_commands::SerialNumber;
 use std::marker::Model;

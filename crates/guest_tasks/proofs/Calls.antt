@@ -19,11 +19,11 @@ use Rattle.uas_tasks.specs.declared.Wants.TheVariants.{Absent, Waits}
 use Rattle.uas_tasks.specs.declared.slot.Out.{Out}
 use Rattle.uas_tasks.specs.declared.Job.{Job}
 use Rattle.uas_tasks.specs.declared.JobKind.{JobKind}
-use Rattle.uas_tasks.specs.declared.JobKind.TheVariants.{Reads, Writes, Compares, Verifies, Synchronizes, WritesAndVerifies}
+use Rattle.uas_tasks.specs.declared.JobKind.TheVariants.{Reads, ReadsBeforeBad, Writes, Compares, Verifies, Synchronizes, WritesAndVerifies}
 use Rattle.uas_tasks.specs.declared.Stage.{Stage}
 use Rattle.uas_tasks.specs.declared.Stage.TheVariants.{Asking, Waiting, Moving}
 use Rattle.uas_tasks.specs.Slots.{SlotState, answered_slot, is_wrong_length, moved_way, slot_wants, spared_slot, stage_wants, task_wants, is_tag}
-use Rattle.uas_tasks.specs.Machine.{Machine, aborted_on, answered_out, dropped, executed, executed_on, has_task, managed, on_its_tag, queried_on, received, reset_on, slot_of, wanted, responded, with_answer, with_slot, with_task_on}
+use Rattle.uas_tasks.specs.Machine.{Machine, aborted_on, answer_fault, answered_out, answered_unless, dropped, executed, executed_on, has_task, managed, on_its_tag, queried_on, received, reset_on, slot_of, wanted, responded, with_answer, with_slot, with_task_on}
 use Rattle.uas_tasks.proofs.Keeping.{wanted-free}
 use Rattle.guest_tasks.specs.declared.GuestTasks.{GuestTasks}
 use Rattle.guest_tasks.specs.Active.{TasksAreActive, is_absent, rested}
@@ -39,6 +39,7 @@ both false y is = absurd (false≢true is)
 
 way_wants : (kind : JobKind) (bytes : ℕ) → is_absent (moved_way kind bytes) ≡ true → ⊥
 way_wants Reads bytes absent = false≢true absent
+way_wants ReadsBeforeBad bytes absent = false≢true absent
 way_wants (Writes through) bytes absent = false≢true absent
 way_wants Compares bytes absent = false≢true absent
 way_wants Verifies bytes absent = false≢true absent

@@ -1,5 +1,5 @@
 -- Where nothing is done soon, and what comes of a request that is. Cited by the proofs on commands and on taking.
-use Rattle.std.proofs.Common.{◌≡◌, ℕ, ◌-◌, ◌<◌, false, List, length, take, Some}
+use Rattle.std.proofs.Common.{◌≡◌, ℕ, ◌-◌, ◌<◌, false, List, length, take, Some, None}
 use Rattle.std.proofs.Common.{refl, arith, ap, ap₂, sym, subst, ◌∙◌}
 use Rattle.std.specs.Prelude.{slice_get, slice_set}
 use Rattle.block_unit.specs.BlockMaps.{BlockMaps}

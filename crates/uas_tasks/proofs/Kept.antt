@@ -21,7 +21,7 @@ use Rattle.uas_tasks.specs.declared.Stage.{Stage}
 use Rattle.uas_tasks.specs.declared.Stage.TheVariants.{Asking, Waiting, Moving}
 use Rattle.uas_tasks.specs.declared.Task.{Task}
 use Rattle.uas_tasks.specs.declared.Task.TheVariants.{Giving, Blocks, Ended, Held}
-use Rattle.uas_tasks.specs.Machine.{no_slot}
+use Rattle.uas_tasks.specs.Machine.{no_slot, slot_under}
 use Rattle.uas_tasks.specs.Saved.{AreSavable, IsSavable, RestoredAreKept, TagsAreRestored, asking_span, buffer_again, given_again, is_job_of, is_pending, is_stage, is_task, is_unit, kept_bytes}
 use Rattle.uas_tasks.specs.Saved.{moving_span, part_of, restored_slot, stage_span, tag_state, task_kept}
 use Rattle.uas_tasks.specs.Slots.{SlotState, chunk_blocks, chunk_bytes, fresh_slot, request_bytes}

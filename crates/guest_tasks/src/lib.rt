@@ -149,9 +149,8 @@ impl GuestTasks {
     {
         let mut device = GuestTasks::new(tasks);
         for tag in 0..TAG_PLACES {
-            if device.tasks.tag_state(tag).task.is_some() {
-                device.set_active(tag, true);
-            }
+            let has_task = device.tasks.tag_state(tag).task.is_some();
+            device.set_active(tag, has_task);
         }
         device
     }

@@ -14,7 +14,7 @@ use Rattle.uas_tasks.specs.declared.AnswerFault.{AnswerFault}
 use Rattle.uas_tasks.specs.declared.LogicalUnit.{LogicalUnit}
 use Rattle.uas_tasks.specs.declared.Outcome.{Outcome}
 use Rattle.uas_tasks.specs.declared.Task.{Task}
-use Rattle.uas_tasks.specs.declared.Task.TheVariants.{Giving, Blocks, Ended, Held}
+use Rattle.uas_tasks.specs.declared.Task.TheVariants.{Giving, Blocks, Ended, Failed, Held}
 use Rattle.uas_tasks.specs.declared.Wants.TheVariants.{Absent, Waits}
 use Rattle.uas_tasks.specs.declared.slot.Out.{Out}
 use Rattle.uas_tasks.specs.declared.Job.{Job}
@@ -58,6 +58,7 @@ task_some chunk out given None absent has = false≢true has
 task_some chunk out given (Some (Giving unit at)) absent has = false≢true absent
 task_some chunk out given (Some (Blocks unit job stage)) absent has = stage_some chunk job out stage absent
 task_some chunk out given (Some (Ended unit answer)) absent has = false≢true absent
+task_some chunk out given (Some (Failed unit failure)) absent has = false≢true absent
 task_some chunk out given (Some (Held unit code)) absent has = false≢true absent
 
 slot_some : (slot : SlotState) → is_absent (slot_wants slot) ≡ true → is_some slot.task ≡ true → ⊥

@@ -214,7 +214,7 @@ static void answer(void)
 {
     uint16_t tag = out();
     struct second_slot *slot = &model.slots[tag];
-    uint8_t outcome = below(10) ? UAS_DONE : (uint8_t)(below(40) ? below(4) : 4 + below(252));
+    uint8_t outcome = below(10) ? UAS_DONE : (uint8_t)(below(40) ? below(4) : 4 + below(below(2) ? 4 : 252));
     uint64_t number = tag != 0 ? slot->number : below(3) ? slot->number + 256 * below(3) : drawn();
     size_t length = tag != 0 && below(50) ? slot->length : below(100);
     bool is_out = false;
@@ -227,7 +227,9 @@ static void answer(void)
     }
     draw_bytes(length);
     dropped += is_out && outcome < 4 && slot->stage != WAITING;
-    uint8_t fault = outcome > 3 ? UAS_TASKS_CALL : !is_out ? UAS_TASKS_NOT_OUT : second_tasks_answer(&model, tag, outcome, bytes, length);
+    uint8_t fault = outcome > UAS_BUSY ? UAS_TASKS_CALL : !is_out ? UAS_TASKS_NOT_OUT : UAS_TASKS_CALL;
+    if (is_out && outcome <= UAS_NOT_READY)
+        fault = second_tasks_answer(&model, tag, outcome, bytes, length);
     AGREE(uas_tasks_answered(tasks, number, outcome, bytes, length) == fault);
     faults[fault]++;
     if (fault == UAS_OK)

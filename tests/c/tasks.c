@@ -229,7 +229,7 @@ static void requests(void)
     CHECK(asks(1, &second, UAS_REQUEST_READ, 8, 8) && second.number != first.number);
     CHECK(uas_tasks_answered(tasks, first.number, UAS_DONE, disk, 4096) == UAS_TASKS_NOT_OUT);
     CHECK(uas_tasks_answered(tasks, second.number, UAS_NOT_READY, NULL, 0) == UAS_OK && phase_of(1) == UAS_ENDS);
-    CHECK(uas_tasks_answered(tasks, second.number, 4, NULL, 0) == UAS_TASKS_CALL);
+    CHECK(uas_tasks_answered(tasks, second.number, 8, NULL, 0) == UAS_TASKS_CALL);
 }
 
 static bool is_held(uint16_t tag)

@@ -10,7 +10,7 @@ use Rattle.cycle_ring.specs.Items.{ItemRing, item_read, known_consumed_at, known
 use Rattle.event_ring.specs.declared.Event.TheVariants.{Command as CommandCompletion}
 use Rattle.stream_array.specs.Contexts.{has_stream}
 use Rattle.stream_array.specs.Map.{has_ring, places_of}
-use Rattle.stream_array.specs.Rings.{LinesState, stream_ring, with_engine}
+use Rattle.stream_array.specs.Rings.{ring_of, LinesState, stream_ring, with_engine}
 use Rattle.uas_profile.specs.Doors.{door}
 use Rattle.uas_profile.specs.Pipes.{same_pipe, target_of}
 use Rattle.uas_profile.specs.Tags.{tag_of}
@@ -269,19 +269,24 @@ restarted driver recovery =
     let doors = restart_doors lines recovery.pipe in
     (with_state (record driver { lines = lines; recovery = None }) recovery.pipe (running_if (not (length doors == 0))), doors)
 
--- the last stream of a pipe, which no tag has, so that its ring is empty; the command pipe has one ring
-abbrev pub last_stream : Pipe → ℕ
-last_stream Command = 0
-last_stream Status = STREAMS
-last_stream DataIn = STREAMS
-last_stream DataOut = STREAMS
+-- the last of so many streams whose ring has nothing pending, or the last one where each has
+unfoldable pub idle_below : LinesState → Pipe → ℕ → ℕ
+idle_below lines pipe zero = STREAMS
+idle_below lines pipe (suc stream) = if has_pending (ring_of lines pipe (suc stream)) then idle_below lines pipe stream else suc stream
+
+-- that of a pipe; the command pipe has one ring
+abbrev pub resting_stream : LinesState → Pipe → ℕ
+resting_stream lines Command = 0
+resting_stream lines Status = idle_below lines Status STREAMS
+resting_stream lines DataIn = idle_below lines DataIn STREAMS
+resting_stream lines DataOut = idle_below lines DataOut STREAMS
 
 -- An endpoint that was halted, of which no TD is to be taken off: a dequeue pointer is set where it stands, since from state Error only that
--- leads on (4.8.3). It is that of an empty ring: of a TD that has begun no event told how far the controller is.
+-- leads on (4.8.3). It is that of an empty ring, where there is one: of a TD that has begun no event told how far the controller is.
 abbrev pub ends_here : DriverState → Recovery → List ℕ → Told
 ends_here driver recovery doors =
     if is_resetting recovery.stage
-    then put driver (record recovery { stage = Moving; subject = Nothing; stream = last_stream recovery.pipe }) doors
+    then put driver (record recovery { stage = Moving; subject = Nothing; stream = resting_stream driver.lines recovery.pipe }) doors
     else restarted driver recovery
 
 -- the retirement of the host's that is under way on a pipe

@@ -8,7 +8,7 @@ ghost use Rattle.uas_profile.specs.declared.TheConstants.{ENGINE_RING_PLACES, ST
 ghost use Rattle.stream_array.specs.Map.{HasRing, has_ring};
 ghost use Rattle.uas_host.specs.Retirement.{engine_freed, resumed_doors, stop_trb};
 ghost use Rattle.arrayvec.specs.ArrayVec.{array_vec_len};
-ghost use Rattle.uas_driver.specs.Recovery.{freed, last_stream, move_to, reset_text, restart_doors, rung, standing, stream_of, td_end, td_passed, with_command};
+ghost use Rattle.uas_driver.specs.Recovery.{freed, idle_below, move_to, reset_text, resting_stream, restart_doors, rung, standing, stream_of, td_end, td_passed, with_command};
 ghost use Rattle.uas_driver.specs.Recovery.{with_move, with_reset, with_stage};
 
 use crate::rings::{last_address, pass_all, step_over};
@@ -217,13 +217,32 @@ pub(crate) fn stream_of(pipe: Pipe, tag: u16) -> u16
     }
 }
 
-/// The last stream of a pipe, which no tag has.
-pub(crate) fn last_stream(pipe: Pipe) -> u16
-    ensures { result ≡ last_stream pipe }
+/// The last of so many streams whose ring has nothing pending, or the last one where each has.
+#[tactic(auto, unfolding(crate::specs::Recovery::idle_below))]
+fn idle_below(lines: &Lines, pipe: Pipe, most: u16) -> u16
+    requires streams { HasStreams pipe }
+    requires most { most ≤ STREAMS }
+    ensures { result ≡ idle_below lines.now pipe most }
+{
+    let mut stream = most;
+    while stream > 0 {
+        if lines.front_raw(pipe, stream).is_none() {
+            return stream;
+        }
+        stream -= 1;
+    }
+    STREAMS
+}
+
+/// That of a pipe; the command pipe has one ring.
+pub(crate) fn resting_stream(lines: &Lines, pipe: Pipe) -> u16
+    ensures { result ≡ resting_stream lines.now pipe }
 {
     match pipe {
         Pipe::Command => 0,
-        Pipe::Status | Pipe::DataIn | Pipe::DataOut => STREAMS,
+        Pipe::Status => idle_below(lines, Pipe::Status, STREAMS),
+        Pipe::DataIn => idle_below(lines, Pipe::DataIn, STREAMS),
+        Pipe::DataOut => idle_below(lines, Pipe::DataOut, STREAMS),
     }
 }
 

@@ -4,7 +4,7 @@ ghost use Rattle.uas_profile.specs.declared.TheConstants.{STREAMS};
 ghost use Rattle.uas_driver.specs.Recovery.{by_next, ends_here, gone_on, is_needed, lost, move_ended, moved_on_to, needed, new_recovery, now_stands};
 ghost use Rattle.uas_driver.specs.Recovery.{put, put_again, restarted, stood_by, stood_still, went_on};
 
-use crate::recovery::{free, last_stream, pass_td, put_stage, restart, ring, stream_of, td_end};
+use crate::recovery::{free, pass_td, put_stage, restart, resting_stream, ring, stream_of, td_end};
 use crate::states::{Next, Recovery, Stage, Subject, running_if};
 use crate::{Driver, EndpointState};
 use arrayvec::ArrayVec;
@@ -91,7 +91,7 @@ impl Driver {
             let next = Recovery {
                 stage: Stage::Moving,
                 subject: Subject::Nothing,
-                stream: last_stream(recovery.pipe),
+                stream: resting_stream(&self.lines, recovery.pipe),
                 ..recovery
             };
             self.put(next, doors);

@@ -135,6 +135,7 @@ task-few chunk given bytes (Blocks unit job stage) most few sound =
     let all = chunk-few chunk job most sound.0 in
     omega (arith, length-take span.many (drop span.from bytes), within, all)
 task-few chunk given bytes (Ended unit answer) most few sound = omega arith
+task-few chunk given bytes (Failed unit failure) most few sound = omega arith
 task-few chunk given bytes (Held unit code) most few sound = omega arith
 
 pub slot-few : (slot : SlotState) → IsSoundSlot slot → length (kept_bytes slot) ≤ 524288

@@ -1,5 +1,5 @@
 -- What a request that is answered makes of the device. Cited by the answers of `Device`.
-use Rattle.std.proofs.Common.{◌≡◌, ℕ, ◌+◌, ◌-◌, ◌*◌, ◌/◌, ◌%◌, ◌^◌, ◌<◌, ◌≤◌, min, false, true, List, [], ◌++◌, length, take, drop}
+use Rattle.std.proofs.Common.{◌≡◌, ℕ, Bool, cond, ◌+◌, ◌-◌, ◌*◌, ◌/◌, ◌%◌, ◌^◌, ◌<◌, ◌≤◌, min, false, true, List, [], ◌++◌, length, take, drop}
 use Rattle.std.proofs.Common.{Option, Some, None, Result, refl, arith, ap, sym, ◌∙◌, subst}
 use Rattle.std.specs.Prelude.{◌==◌, nat_lt, not, option_map}
 use Rattle.std.specs.List.{list_any}
@@ -10,6 +10,7 @@ use Rattle.scsi_cmd.specs.Sense.{unrecovered_read_error, write_error}
 use Rattle.device_server.specs.declared.Answer.{Answer}
 use Rattle.device_server.specs.declared.Answer.TheVariants.{Good, Check}
 use Rattle.uas_tasks.specs.declared.AnswerFault.{AnswerFault}
+use Rattle.uas_tasks.specs.declared.AnswerFault.TheVariants.{WrongLength}
 use Rattle.uas_tasks.specs.declared.Job.{Job}
 use Rattle.uas_tasks.specs.declared.JobKind.{JobKind}
 use Rattle.uas_tasks.specs.declared.JobKind.TheVariants.{Reads, Writes, Synchronizes}
@@ -70,7 +71,8 @@ read_done blocks number lba request new m m1 m2 r is asks answer all =
     let bytes : List ℕ = (slot_of m 1).bytes in
     let others : List SlotState = drop 1 m.slots in
     let after : m2 ≡ machine_at blocks (slot_at (Some (moving Reads lba (blocks_of new))) ((turn + 1) % 2 ^ 32) given (with_bytes_at bytes 0 new)) others =
-    served_at blocks number job request Done new m m1 m2 r is asks answer (right_length lba new all) in (
+    served_at blocks number job request Done new m m1 m2 r is asks answer
+    (ap (λ (b : Bool). cond {A = Option AnswerFault} b (Some WrongLength) None) (right_length lba new all)) in (
       subst (λ (x : Machine). IsAt blocks x (Some (moving Reads lba (blocks_of new)))) (sym after)
           (is_at blocks ((turn + 1) % 2 ^ 32) (Some (moving Reads lba (blocks_of new))) given (with_bytes_at bytes 0 new) others
           (over_length bytes new is.room all.most) is.rest),

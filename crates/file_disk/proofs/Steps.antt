@@ -25,8 +25,8 @@ use Rattle.uas_tasks.specs.declared.Stage.TheVariants.{Asking, Waiting, Moving}
 use Rattle.uas_tasks.specs.declared.Task.{Task}
 use Rattle.uas_tasks.specs.declared.Task.TheVariants.{Blocks}
 use Rattle.uas_tasks.specs.declared.slot.Out.{Out}
-use Rattle.uas_tasks.specs.Machine.{Machine, answered, answered_out, next_of, no_slot, out_of_number, quiet, slot_of}
-use Rattle.uas_tasks.specs.Slots.{SlotState, answered_slot, chunk_bytes, is_wrong_length, request_bytes, request_of}
+use Rattle.uas_tasks.specs.Machine.{answer_fault, Machine, answered, answered_out, next_of, no_slot, out_of_number, quiet, slot_of}
+use Rattle.uas_tasks.specs.Slots.{SlotState, answered_slot, chunk_bytes, request_bytes, request_of}
 use Rattle.uas_tasks.specs.Stale.{is_stale}
 use Rattle.file_disk.specs.Device.{IsAt, asking, moving, shape_of}
 
@@ -100,7 +100,7 @@ out_there blocks slot others =
     rw (turn_back slot.turn, tag_back slot.turn, eq-eqb slot.turn slot.turn refl) refl
 
 pub answered_at : (blocks : ℕ) (slot : SlotState) (others : List SlotState) (out : Out) (outcome : Outcome) (new : List ℕ) → slot.out ≡ Some out
-    → is_wrong_length slot out outcome (length new) ≡ false
+    → answer_fault (Host 128) slot out outcome (length new) ≡ None
     → answered (machine_at blocks slot others) (256 * slot.turn + 1) outcome new
     ≡ (machine_at blocks (answered_slot slot out outcome new) others, Ok tt)
 answered_at blocks slot others out outcome new is right =
@@ -131,7 +131,7 @@ asked_at blocks number job request m m1 is asks =
 
 pub served_at : (blocks number : ℕ) (job : Job) (request : Request) (outcome : Outcome) (new : List ℕ) (m m1 m2 : Machine) (r : Result (Unit {0}) AnswerFault)
     → IsAt blocks m (Some (Blocks 0 job Asking)) → (m1, NextAsks number request) ≡ next_of m 1 → (m2, r) ≡ answered m1 number outcome new
-    → is_wrong_length (waiting_at job (slot_of m 1).turn (slot_of m 1).given (slot_of m 1).bytes) (out_at job) outcome (length new) ≡ false
+    → answer_fault (Host 128) (waiting_at job (slot_of m 1).turn (slot_of m 1).given (slot_of m 1).bytes) (out_at job) outcome (length new) ≡ None
     → m2 ≡ machine_at blocks
     (answered_slot (waiting_at job (slot_of m 1).turn (slot_of m 1).given (slot_of m 1).bytes) (out_at job) outcome new) (drop 1 m.slots)
 served_at blocks number job request outcome new m m1 m2 r is asks answer right =

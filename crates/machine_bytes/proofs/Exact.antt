@@ -8,8 +8,11 @@ use Rattle.byteorder.specs.Numbers.{big_from-lt, big_number-reads_back, length-b
 use Rattle.byte_numbers.specs.Bytes.{AreBytes}
 use Rattle.byte_numbers.proofs.Bytes.{bytes_back, bytes_behind, bytes_taken}
 use Rattle.byte_numbers.proofs.Numbers.{number_bytes}
-use Rattle.machine_bytes.specs.Forms.{Form, below, bytes_of, checked, flag, flag_number, flag_part, mapped, nothing, number, option_number, option_part, optional, of_some, pair, tagged, then_read}
+use Rattle.machine_bytes.specs.Forms.{Form, below, bytes_of, checked, flag, flag_number, flag_part, mapped, named, nothing, number, option_number, option_part, optional, of_some, pair, tagged, then_read}
+use Rattle.machine_bytes.specs.declared.place.Place.{Place}
+use Rattle.machine_bytes.specs.Places.{IsWithin, written}
 use Rattle.machine_bytes.specs.Exact.{IsExact}
+use Rattle.machine_bytes.proofs.Placed.{written_behind, written_joined, written_within}
 
 -- what two reads gave is the same
 pub same_value : {A : Type 0} (x y : A) (left behind : List ℕ)
@@ -38,7 +41,7 @@ where_true true x y left behind other e = let same = same_value _ _ _ _ e in (re
 where_true false x y left behind other e = absurd (no_value _ _ _ e)
 
 pub number-exact : (n : ℕ) → IsExact (number n)
-number-exact n = record { read_back = back; written_so = so }
+number-exact n = record { read_back = back; written_so = so; wrote = λ _ _ _ _. refl }
   where
     back : (x : ℕ) (rest : List ℕ) → x < 256 ^ n → (number n).read (big_bytes n x ++ rest) ≡ (Some x, rest)
     back x rest few =
@@ -54,7 +57,7 @@ number-exact n = record { read_back = back; written_so = so }
         (sym (take-append-drop n text) ∙ rw (same, rest) refl, rw (sym value) (big_from-lt 0 n text are))
 
 pub nothing-exact : {A : Type 0} (value : A) → IsExact (nothing value)
-nothing-exact {A = A} value = record { read_back = back; written_so = so }
+nothing-exact {A = A} value = record { read_back = back; written_so = so; wrote = λ w within x has. sym within }
   where
     back : (x : A) (rest : List ℕ) → x ≡ value → (nothing value).read ([] ++ rest) ≡ (Some x, rest)
     back x rest e = rw e refl
@@ -63,8 +66,13 @@ nothing-exact {A = A} value = record { read_back = back; written_so = so }
     so text x left are e = let same = same_value _ _ _ _ e in (same.1, sym same.0)
 
 pub pair-exact : {A B : Type 0} (f : Form A) (g : Form B) → IsExact f → IsExact g → IsExact (pair f g)
-pair-exact {A = A} {B = B} f g first second = record { read_back = back; written_so = so }
+pair-exact {A = A} {B = B} f g first second = record { read_back = back; written_so = so; wrote = both }
   where
+    both : (w : List ℕ × Place) → IsWithin w → (x : A × B) → f.Has x.0 × g.Has x.1 → (pair f g).write w x ≡ written w (f.bytes x.0 ++ g.bytes x.1)
+    both w within x has =
+        rw (first.wrote w within x.0 has.0, written_joined w (f.bytes x.0) (g.bytes x.1))
+        (second.wrote (written w (f.bytes x.0)) (written_within w (f.bytes x.0)) x.1 has.1)
+
     joined : (text : List ℕ) (a : A) (b : B) (behind last : List ℕ) (x : A × B) (left : List ℕ) → (text ≡ f.bytes a ++ behind) × f.Has a
         → (behind ≡ g.bytes b ++ last) × g.Has b → (a, b) ≡ x → last ≡ left → (text ≡ (f.bytes x.0 ++ g.bytes x.1) ++ left) × (f.Has x.0 × g.Has x.1)
     joined text a b behind last x left here next same end =
@@ -85,7 +93,7 @@ pair-exact {A = A} {B = B} f g first second = record { read_back = back; written
         joined text one.0 two.0 one.1 two.1 x left here next same.0 same.1
 
 pub mapped-exact : {A B : Type 0} (to : A → B) (from : B → A) (f : Form A) → IsExact f → ((a : A) → from (to a) ≡ a) → IsExact (mapped to from f)
-mapped-exact {A = A} {B = B} to from f exact inverse = record { read_back = back; written_so = so }
+mapped-exact {A = A} {B = B} to from f exact inverse = record { read_back = back; written_so = so; wrote = λ w within x has. exact.wrote w within (from x) has.0 }
   where
     back : (x : B) (rest : List ℕ) → f.Has (from x) × (to (from x) ≡ x) → (mapped to from f).read (f.bytes (from x) ++ rest) ≡ (Some x, rest)
     back x rest has = rw (exact.read_back (from x) rest has.0, has.1) refl
@@ -103,7 +111,7 @@ mapped-exact {A = A} {B = B} to from f exact inverse = record { read_back = back
         of_value text one.0 x one.1 left (exact.written_so text one.0 one.1 are one.2) same.0 same.1
 
 pub checked-exact : {A : Type 0} (test : A → Bool) (f : Form A) → IsExact f → IsExact (checked test f)
-checked-exact {A = A} test f exact = record { read_back = back; written_so = so }
+checked-exact {A = A} test f exact = record { read_back = back; written_so = so; wrote = λ w within x has. exact.wrote w within x has.0 }
   where
     back : (x : A) (rest : List ℕ) → f.Has x × (test x ≡ true) → (checked test f).read (f.bytes x ++ rest) ≡ (Some x, rest)
     back x rest has = rw (exact.read_back x rest has.0, has.1) refl
@@ -119,7 +127,7 @@ checked-exact {A = A} test f exact = record { read_back = back; written_so = so 
         of_value text one.0 x one.1 left (exact.written_so text one.0 one.1 are one.2) same.0 same.1 same.2
 
 pub below-exact : (limit : ℕ) → IsExact (below limit)
-below-exact limit = record { read_back = back; written_so = so }
+below-exact limit = record { read_back = back; written_so = so; wrote = λ _ _ _ _. refl }
   where
     back : (x : ℕ) (rest : List ℕ) → (x < limit) × (x < 256) → (below limit).read ((x ∷ []) ++ rest) ≡ (Some x, rest)
     back x rest has = rw (lt-ltb x limit has.0) refl
@@ -131,7 +139,7 @@ below-exact limit = record { read_back = back; written_so = so }
         rw (sym same.1, sym same.2) (refl, (ltb-true byte limit same.0, are 0))
 
 pub bytes_of-exact : (n : ℕ) → IsExact (bytes_of n)
-bytes_of-exact n = record { read_back = back; written_so = so }
+bytes_of-exact n = record { read_back = back; written_so = so; wrote = λ _ _ _ _. refl }
   where
     back : (x rest : List ℕ) → (length x ≡ n) × AreBytes x → (bytes_of n).read (x ++ rest) ≡ (Some x, rest)
     back x rest has =
@@ -144,8 +152,12 @@ bytes_of-exact n = record { read_back = back; written_so = so }
         rw (sym same.1, sym same.2) (sym (take-append-drop n text), (length-take-le n text (leb-true _ _ same.0), bytes_taken n text are))
 
 pub of_some-exact : {A : Type 0} (f : Form A) → IsExact f → IsExact (of_some f)
-of_some-exact {A = A} f exact = record { read_back = back; written_so = so }
+of_some-exact {A = A} f exact = record { read_back = back; written_so = so; wrote = parts }
   where
+    parts : (w : List ℕ × Place) → IsWithin w → (x : Option A) → (of_some f).Has x → (of_some f).write w x ≡ written w ((of_some f).bytes x)
+    parts w within None has = absurd has
+    parts w within (Some x) has = exact.wrote w within x has
+
     back : (x : Option A) (rest : List ℕ) → (of_some f).Has x → (of_some f).read ((of_some f).bytes x ++ rest) ≡ (Some x, rest)
     back None rest has = absurd has
     back (Some x) rest has = rw (exact.read_back x rest has) refl
@@ -162,8 +174,14 @@ of_some-exact {A = A} f exact = record { read_back = back; written_so = so }
 
 pub tagged-exact : {A : Type 0} (limit : ℕ) (kind : A → ℕ) (part : ℕ → Form A) → ((k : ℕ) → k < limit → IsExact (part k))
     → ((k : ℕ) → k < limit → (x : A) → (part k).Has x → kind x ≡ k) → IsExact (tagged limit kind part)
-tagged-exact {A = A} limit kind part exact kinds = record { read_back = back; written_so = so }
+tagged-exact {A = A} limit kind part exact kinds = record { read_back = back; written_so = so; wrote = parts }
   where
+    parts : (w : List ℕ × Place) → IsWithin w → (x : A) → (below limit).Has (kind x) × (part (kind x)).Has x
+        → (tagged limit kind part).write w x ≡ written w (kind x ∷ (part (kind x)).bytes x)
+    parts w within x has =
+        rw (written_behind w (kind x) ((part (kind x)).bytes x))
+        ((exact (kind x) has.0.0).wrote (written w (kind x ∷ [])) (written_within w (kind x ∷ [])) x has.1)
+
     back : (x : A) (rest : List ℕ) → (below limit).Has (kind x) × (part (kind x)).Has x
         → (tagged limit kind part).read ((kind x ∷ (part (kind x)).bytes x) ++ rest) ≡ (Some x, rest)
     back x rest has =
@@ -204,3 +222,6 @@ optional-exact {A = A} f exact = tagged-exact 2 option_number (option_part f) (t
     kinds (suc zero) few None has = absurd has
     kinds (suc zero) few (Some x) has = refl
     kinds (suc (suc k)) few x has = absurd (omega (arith, few))
+
+pub named-exact : {A : Type 0} (limit : ℕ) (kind : A → ℕ) (value : ℕ → A) → ((k : ℕ) → k < limit → kind (value k) ≡ k) → IsExact (named limit kind value)
+named-exact limit kind value same = tagged-exact limit kind (λ k. nothing (value k)) (λ k few. nothing-exact (value k)) (λ k few x has. ap kind has ∙ same k few)

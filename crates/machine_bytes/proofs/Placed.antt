@@ -1,11 +1,11 @@
 -- Bytes that are written into cells, as a slice's part that is replaced.
 use Rattle.std.proofs.Common.{◌≡◌, ℕ, zero, suc, ◌+◌, ◌-◌, ◌^◌, ◌≤◌, min, List, [], ◌∷◌, ◌++◌, length, length-append, take, drop, refl, sym, ap, ◌∙◌, arith}
-use Rattle.std.proofs.lemmas.List.{length-take-le}
+use Rattle.std.proofs.lemmas.List.{append-nil, length-take-le}
 use Rattle.std.proofs.lemmas.Slice.{put_mid-paste}
 use Rattle.std.proofs.lemmas.List.Edits.{paste_all}
 use borrow.Rule.Slice.PartMut.{put_mid}
 use Rattle.machine_bytes.specs.declared.place.Place.{Place}
-use Rattle.machine_bytes.specs.Places.{overlaid, written}
+use Rattle.machine_bytes.specs.Places.{IsWithin, overlaid, written}
 
 pub whole : (xs part bytes : List ℕ) (start k : ℕ) → part ≡ bytes → length bytes ≡ k → start + length bytes ≤ length xs
     → put_mid start k xs part ≡ take start xs ++ (bytes ++ drop (start + length bytes) xs)
@@ -70,3 +70,11 @@ written_is w bytes cells start count needs s k is n =
     let few : length (take count bytes) ≡ count = length-take-le count bytes (omega (arith, k)) in
     same_written _ _ _ _ _ _
     (is ∙ rw few (placed_at w.0 w.1.at bytes start count s k)) (omega (arith, s, k)) (n)
+
+-- a kind is written before what it has
+pub written_behind : (w : List ℕ × Place) (kind : ℕ) (bytes : List ℕ) → written w (kind ∷ bytes) ≡ written (written w (kind ∷ [])) bytes
+written_behind w kind bytes = written_joined w (kind ∷ []) bytes
+
+-- where something was written the place is within the cells
+pub written_within : (w : List ℕ × Place) (bytes : List ℕ) → IsWithin (written w bytes)
+written_within w bytes = sym (written_joined w bytes []) ∙ ap (written w) (append-nil bytes)

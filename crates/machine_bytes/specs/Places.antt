@@ -1,5 +1,5 @@
 -- Bytes written into the cells of a slice, as far as there is room.
-use Rattle.std.specs.Prelude.{ℕ, zero, suc, ◌+◌, ◌-◌, ◌^◌, min, List, [], ◌∷◌, length}
+use Rattle.std.specs.Prelude.{◌≡◌, ℕ, zero, suc, ◌+◌, ◌-◌, ◌^◌, min, List, [], ◌∷◌, length}
 use Rattle.machine_bytes.specs.declared.place.Place.{Place}
 
 -- the cells with these bytes from a place on; those for which there is no cell are left out
@@ -15,3 +15,7 @@ written w bytes = (
   overlaid w.0 w.1.at bytes,
   record { at = min (w.1.at + length bytes) (length w.0); needs = min (w.1.needs + length bytes) (2 ^ 64 - 1) },
 )
+
+-- a place within the cells or at their end: writing nothing changes nothing
+abbrev pub IsWithin : List ℕ × Place → Type 0
+IsWithin w = written w [] ≡ w

@@ -1,6 +1,6 @@
 //! Where the next byte is written.
-ghost use Rattle.std.specs.Prelude.{◌≡◌, ◌+◌, ◌<◌, ◌≤◌, ◌++◌, length, take, drop};
-ghost use Rattle.machine_bytes.specs.Forms.{below, flag, flag_number, number};
+ghost use Rattle.std.specs.Prelude.{◌≡◌, ◌+◌, ◌≤◌, [], ◌∷◌, ◌++◌, length, take, drop};
+ghost use Rattle.machine_bytes.specs.Forms.{flag, flag_number, number};
 ghost use Rattle.machine_bytes.specs.Places.{written};
 
 /// Where the next byte goes, and how many cells all bytes so far need.
@@ -34,43 +34,42 @@ impl Place {
 
     /// Writes a number of a byte.
     pub fn u8(self, cells: &mut [u8], value: u8) -> Place
-        ensures { (cells.new, result) ≡ written (cells.old, self) ((number 1).bytes value) }
+        ensures { (cells.new, result) ≡ (number 1).write (cells.old, self) value }
     {
         self.write(cells, &[value])
     }
 
     /// Writes a number of two bytes.
     pub fn u16(self, cells: &mut [u8], value: u16) -> Place
-        ensures { (cells.new, result) ≡ written (cells.old, self) ((number 2).bytes value) }
+        ensures { (cells.new, result) ≡ (number 2).write (cells.old, self) value }
     {
         self.write(cells, &value.to_be_bytes())
     }
 
     /// Writes a number of four bytes.
     pub fn u32(self, cells: &mut [u8], value: u32) -> Place
-        ensures { (cells.new, result) ≡ written (cells.old, self) ((number 4).bytes value) }
+        ensures { (cells.new, result) ≡ (number 4).write (cells.old, self) value }
     {
         self.write(cells, &value.to_be_bytes())
     }
 
     /// Writes a number of eight bytes.
     pub fn u64(self, cells: &mut [u8], value: u64) -> Place
-        ensures { (cells.new, result) ≡ written (cells.old, self) ((number 8).bytes value) }
+        ensures { (cells.new, result) ≡ (number 8).write (cells.old, self) value }
     {
         self.write(cells, &value.to_be_bytes())
     }
 
-    /// Writes a number below a limit, in a byte.
-    pub fn below(self, cells: &mut [u8], limit: u8, value: u8) -> Place
-        requires { value < limit }
-        ensures { (cells.new, result) ≡ written (cells.old, self) ((below limit).bytes value) }
+    /// Writes a kind, a number in a byte.
+    pub fn kind(self, cells: &mut [u8], kind: u8) -> Place
+        ensures { (cells.new, result) ≡ written (cells.old, self) (kind ∷ []) }
     {
-        self.write(cells, &[value])
+        self.write(cells, &[kind])
     }
 
     /// Writes a flag.
     pub fn flag(self, cells: &mut [u8], value: bool) -> Place
-        ensures { (cells.new, result) ≡ written (cells.old, self) (flag.bytes value) }
+        ensures { (cells.new, result) ≡ flag.write (cells.old, self) value }
     {
         self.write(cells, &[flag_number(value)])
     }

@@ -24,7 +24,7 @@ ending-exact = tagged-exact 3 ending_number ending_part part kinds
   where
     part : (k : ℕ) → k < 3 → IsExact (ending_part k)
     part zero few = nothing-exact _
-    part (suc zero) few = mapped-exact (λ (code : ℕ). Told code) code_of (number 1) (number-exact 1) (λ code. refl)
+    part (suc zero) few = mapped-exact (λ (code : ℕ). Told code) code_of (number 1) (number-exact 1) (λ code has. refl)
     part (suc (suc k)) few = nothing-exact _
 
     kinds : (k : ℕ) → k < 3 → (x : Ending) → (ending_part k).Has x → ending_number x ≡ k
@@ -35,8 +35,8 @@ ending-exact = tagged-exact 3 ending_number ending_part part kinds
 
 pub progress-exact : IsExact progress_form
 progress-exact =
-    mapped-exact _ _ _ (pair-exact _ _ (number-exact 4) (pair-exact _ _ ending-exact (pair-exact _ _ (number-exact 4) (pair-exact _ _ flag-exact flag-exact)))) (λ p. refl)
+    mapped-exact _ _ _ (pair-exact _ _ (number-exact 4) (pair-exact _ _ ending-exact (pair-exact _ _ (number-exact 4) (pair-exact _ _ flag-exact flag-exact)))) (λ p has. refl)
 
 pub consumer-exact : IsExact consumer_form
 consumer-exact =
-    mapped-exact _ _ _ (pair-exact _ _ (number-exact 1) (pair-exact _ _ state-exact (pair-exact _ _ flag-exact progress-exact))) (λ p. refl)
+    mapped-exact _ _ _ (pair-exact _ _ (number-exact 1) (pair-exact _ _ state-exact (pair-exact _ _ flag-exact progress-exact))) (λ p has. refl)

@@ -1,14 +1,14 @@
 -- The forms that all others are made of are exact.
-use Rattle.std.proofs.Common.{◌≡◌, ℕ, zero, suc, ◌^◌, ◌<◌, ◌≤◌, Bool, true, false, nat_lt, List, [], ◌∷◌, ◌++◌, length, length-append, take, append_assoc, Option, Some, None, refl, sym, ap, ◌∙◌, arith}
+use Rattle.std.proofs.Common.{◌≡◌, ℕ, zero, suc, ◌^◌, ◌<◌, ◌≤◌, Bool, true, false, ◌==◌, nat_lt, List, [], ◌∷◌, ◌++◌, length, length-append, take, append_assoc, Option, Some, None, refl, sym, ap, ◌∙◌, arith}
 use Rattle.std.specs.Prelude.{nat_le, if◌then◌else◌}
-use Rattle.std.proofs.lemmas.Bool.{leb-true, le-leb, lt-ltb, ltb-true}
+use Rattle.std.proofs.lemmas.Bool.{eqb-true, leb-true, le-leb, lt-ltb, ltb-true}
 use Rattle.std.proofs.lemmas.List.{drop_at, length-take-le, take-append-drop, take_at}
 use Rattle.byteorder.specs.Endian.{big_bytes}
 use Rattle.byteorder.specs.Numbers.{big_from-lt, big_number-reads_back, length-bytes_high_first}
 use Rattle.byte_numbers.specs.Bytes.{AreBytes}
 use Rattle.byte_numbers.proofs.Bytes.{bytes_back, bytes_behind, bytes_taken}
 use Rattle.byte_numbers.proofs.Numbers.{number_bytes}
-use Rattle.machine_bytes.specs.Forms.{Form, below, bytes_of, checked, flag, flag_number, flag_part, mapped, named, nothing, number, option_number, option_part, optional, of_some, pair, tagged, then_read}
+use Rattle.machine_bytes.specs.Forms.{Form, below, bytes_of, checked, coded, counted, flag, flag_number, flag_part, mapped, named, nothing, number, option_number, option_part, optional, of_some, pair, tagged, then_read}
 use Rattle.machine_bytes.specs.declared.place.Place.{Place}
 use Rattle.machine_bytes.specs.Places.{IsWithin, written}
 use Rattle.machine_bytes.specs.Exact.{IsExact}
@@ -92,7 +92,7 @@ pair-exact {A = A} {B = B} f g first second = record { read_back = back; written
         let same = same_value _ _ _ _ two.3 in
         joined text one.0 two.0 one.1 two.1 x left here next same.0 same.1
 
-pub mapped-exact : {A B : Type 0} (to : A → B) (from : B → A) (f : Form A) → IsExact f → ((a : A) → from (to a) ≡ a) → IsExact (mapped to from f)
+pub mapped-exact : {A B : Type 0} (to : A → B) (from : B → A) (f : Form A) → IsExact f → ((a : A) → f.Has a → from (to a) ≡ a) → IsExact (mapped to from f)
 mapped-exact {A = A} {B = B} to from f exact inverse = record { read_back = back; written_so = so; wrote = λ w within x has. exact.wrote w within (from x) has.0 }
   where
     back : (x : B) (rest : List ℕ) → f.Has (from x) × (to (from x) ≡ x) → (mapped to from f).read (f.bytes (from x) ++ rest) ≡ (Some x, rest)
@@ -101,7 +101,7 @@ mapped-exact {A = A} {B = B} to from f exact inverse = record { read_back = back
     of_value : (text : List ℕ) (a : A) (x : B) (behind left : List ℕ) → (text ≡ f.bytes a ++ behind) × f.Has a → to a ≡ x → behind ≡ left
         → (text ≡ f.bytes (from x) ++ left) × (f.Has (from x) × (to (from x) ≡ x))
     of_value text a x behind left here same last =
-        rw (sym same, sym last, inverse a) (here.0, (here.1, refl))
+        rw (sym same, sym last, inverse a here.1) (here.0, (here.1, refl))
 
     so : (text : List ℕ) (x : B) (left : List ℕ) → AreBytes text → (mapped to from f).read text ≡ (Some x, left)
         → (text ≡ f.bytes (from x) ++ left) × (f.Has (from x) × (to (from x) ≡ x))
@@ -225,3 +225,28 @@ optional-exact {A = A} f exact = tagged-exact 2 option_number (option_part f) (t
 
 pub named-exact : {A : Type 0} (limit : ℕ) (kind : A → ℕ) (value : ℕ → A) → ((k : ℕ) → k < limit → kind (value k) ≡ k) → IsExact (named limit kind value)
 named-exact limit kind value same = tagged-exact limit kind (λ k. nothing (value k)) (λ k few. nothing-exact (value k)) (λ k few x has. ap kind has ∙ same k few)
+
+pub coded-exact : {A : Type 0} (n : ℕ) (to : ℕ → A) (from : A → ℕ) → IsExact (coded n to from)
+coded-exact n to from =
+    mapped-exact to from (checked (λ x. from (to x) == x) (number n)) (checked-exact (λ x. from (to x) == x) (number n) (number-exact n)) (λ x has. eqb-true _ _ has.1)
+
+pub counted-exact : (n limit : ℕ) → IsExact (counted n limit)
+counted-exact n limit = record { read_back = back; written_so = so; wrote = λ w within x has. sym (written_joined w (big_bytes n (length x)) x) }
+  where
+    back : (x rest : List ℕ) → (counted n limit).Has x → (counted n limit).read ((big_bytes n (length x) ++ x) ++ rest) ≡ (Some x, rest)
+    back x rest has =
+        rw (append_assoc (big_bytes n (length x)) x rest, (checked-exact (λ k. nat_le k limit) (number n) (number-exact n)).read_back (length x) (x ++ rest) (has.0, has.1))
+        ((bytes_of-exact (length x)).read_back x rest (refl, has.2))
+
+    joined : (text : List ℕ) (k : ℕ) (behind x left : List ℕ) → (text ≡ big_bytes n k ++ behind) × ((k < 256 ^ n) × (nat_le k limit ≡ true))
+        → (behind ≡ x ++ left) × ((length x ≡ k) × AreBytes x) → (text ≡ (big_bytes n (length x) ++ x) ++ left) × (counted n limit).Has x
+    joined text k behind x left here next =
+        rw (next.1.0) (here.0 ∙ ap (λ (l : List ℕ). big_bytes n k ++ l) next.0 ∙ sym (append_assoc (big_bytes n k) x left), (here.1.0, here.1.1, next.1.1))
+
+    so : (text x left : List ℕ) → AreBytes text → (counted n limit).read text ≡ (Some x, left)
+        → (text ≡ (big_bytes n (length x) ++ x) ++ left) × (counted n limit).Has x
+    so text x left are e =
+        let one = then_some ((checked (λ k. nat_le k limit) (number n)).read text) _ _ _ e in
+        let here = (checked-exact (λ k. nat_le k limit) (number n) (number-exact n)).written_so text one.0 one.1 are one.2 in
+        let behind = bytes_back (big_bytes n one.0) one.1 (rw (sym here.0) are) in
+        joined text one.0 one.1 x left here ((bytes_of-exact one.0).written_so one.1 x left behind one.3)

@@ -1,5 +1,5 @@
 -- A form: the bytes of each value of a type, and the value at the front of bytes. Numbers are big endian.
-use Rattle.std.specs.Prelude.{◌≡◌, ℕ, zero, suc, ◌<◌, ◌^◌, nat_le, nat_lt, Bool, true, false, if◌then◌else◌, List, [], ◌∷◌, ◌++◌, length, take, drop, Option, Some, None}
+use Rattle.std.specs.Prelude.{◌≡◌, ℕ, zero, suc, ◌<◌, ◌==◌, ◌^◌, nat_le, nat_lt, Bool, true, false, if◌then◌else◌, List, [], ◌∷◌, ◌++◌, length, take, drop, Option, Some, None}
 use Rattle.byteorder.specs.Endian.{big_bytes, big_number}
 use Rattle.byte_numbers.specs.Bytes.{AreBytes}
 use Rattle.machine_bytes.specs.declared.place.Place.{Place}
@@ -109,6 +109,19 @@ of_some {A = A} f = record {
     some_write : List ℕ × Place → Option A → List ℕ × Place
     some_write w None = w
     some_write w (Some x) = f.write w x
+
+-- a value by the number of n bytes that has its parts in its bits; a number with other bits is none
+abbrev pub coded : {A : Type 0} → ℕ → (ℕ → A) → (A → ℕ) → Form A
+coded n to from = mapped to from (checked (λ x. from (to x) == x) (number n))
+
+-- at most so many bytes, behind their number, which has n bytes
+abbrev pub counted : ℕ → ℕ → Form (List ℕ)
+counted n limit = record {
+  Has = λ text. (number n).Has (length text) × (nat_le (length text) limit ≡ true) × AreBytes text;
+  bytes = λ text. big_bytes n (length text) ++ text;
+  write = λ w text. written (written w (big_bytes n (length text))) text;
+  read = λ text. then_read ((checked (λ k. nat_le k limit) (number n)).read text) (λ k left. (bytes_of k).read left);
+}
 
 -- a kind in a byte, of so many, and then what that kind has
 abbrev pub tagged : {A : Type 0} → ℕ → (A → ℕ) → (ℕ → Form A) → Form A

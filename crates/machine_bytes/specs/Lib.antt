@@ -2,3 +2,4 @@
 pub mod Places
 pub mod Forms
 pub mod Exact
+pub mod Sparse

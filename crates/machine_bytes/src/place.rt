@@ -1,6 +1,6 @@
 //! Where the next byte is written.
-ghost use Rattle.std.specs.Prelude.{◌≡◌, ◌+◌, ◌≤◌, [], ◌∷◌, ◌++◌, length, take, drop};
-ghost use Rattle.machine_bytes.specs.Forms.{flag, flag_number, number};
+ghost use Rattle.std.specs.Prelude.{◌≡◌, ◌+◌, ◌<◌, ◌≤◌, [], ◌∷◌, ◌++◌, length, take, drop};
+ghost use Rattle.machine_bytes.specs.Forms.{counted, flag, flag_number, number};
 ghost use Rattle.machine_bytes.specs.Places.{written};
 
 /// Where the next byte goes, and how many cells all bytes so far need.
@@ -65,6 +65,24 @@ impl Place {
         ensures { (cells.new, result) ≡ written (cells.old, self) (kind ∷ []) }
     {
         self.write(cells, &[kind])
+    }
+
+    /// Writes less than 256 bytes behind their number, which has a byte.
+    pub fn counted_u8(self, cells: &mut [u8], bytes: &[u8]) -> Place
+        requires { length bytes.now < 256 }
+        ensures { (cells.new, result) ≡ (counted 1 255).write (cells.old, self) bytes.now }
+    {
+        let place = self.u8(cells, bytes.len() as u8);
+        place.write(cells, bytes)
+    }
+
+    /// Writes less than 65,536 bytes behind their number, which has two bytes.
+    pub fn counted_u16(self, cells: &mut [u8], bytes: &[u8]) -> Place
+        requires { length bytes.now < 65536 }
+        ensures { (cells.new, result) ≡ (counted 2 65535).write (cells.old, self) bytes.now }
+    {
+        let place = self.u16(cells, bytes.len() as u16);
+        place.write(cells, bytes)
     }
 
     /// Writes a flag.

@@ -1,7 +1,7 @@
 //! What is still to be read.
 ghost use Rattle.std.specs.Prelude.{◌≡◌, List};
 ghost use Rattle.std.specs.Option.{option_copied};
-ghost use Rattle.machine_bytes.specs.Forms.{below, bytes_of, flag, number};
+ghost use Rattle.machine_bytes.specs.Forms.{below, bytes_of, counted, flag, number};
 
 use byteorder::{BigEndian, ByteOrder};
 use std::marker::Model;
@@ -94,6 +94,32 @@ impl<'a> Reader<'a> {
         let (front, back) = self.left.split_at(count);
         self.left = back;
         Some(front)
+    }
+
+    /// At most so many bytes, behind their number, which has a byte.
+    pub fn counted_u8(&mut self, limit: u8) -> Option<&'a [u8]>
+        ensures { (option_copied result, self.new) ≡ (counted 1 limit).read self.old }
+    {
+        let start = self.left;
+        let count = self.u8()?;
+        if count > limit {
+            self.left = start;
+            return None;
+        }
+        self.bytes(usize::from(count))
+    }
+
+    /// At most so many bytes, behind their number, which has two bytes.
+    pub fn counted_u16(&mut self, limit: u16) -> Option<&'a [u8]>
+        ensures { (option_copied result, self.new) ≡ (counted 2 limit).read self.old }
+    {
+        let start = self.left;
+        let count = self.u16()?;
+        if count > limit {
+            self.left = start;
+            return None;
+        }
+        self.bytes(usize::from(count))
     }
 
     /// What is left.

@@ -1,5 +1,5 @@
 //! The producer as plain values, and one made of such.
-ghost use Rattle.std.specs.Prelude.{◌≡◌, ◌+◌, ◌*◌, ◌^◌, ◌<◌, ◌≤◌, IfSome};
+ghost use Rattle.std.specs.Prelude.{◌≡◌, ◌+◌, ◌*◌, ◌^◌, ◌<◌, ◌≤◌, true};
 ghost use Rattle.guest_memory.specs.rings.Saved.{has_segment, ring_restored};
 
 use crate::rings::event_ring::EventRing;

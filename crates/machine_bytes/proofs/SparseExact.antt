@@ -1,5 +1,5 @@
 -- A list of which only those places are written that aren't as made is exact.
-use Rattle.std.proofs.Common.{◌≡◌, ◌≢◌, ℕ, zero, suc, ◌+◌, ◌^◌, ◌<◌, ◌≤◌, Bool, true, false, List, [], ◌∷◌, ◌++◌, length, drop, replicate, append_assoc, Option, Some, None, refl, sym, ap, ◌∙◌, arith, inl, inr}
+use Rattle.std.proofs.Common.{◌≡◌, ◌≢◌, ℕ, zero, suc, ◌+◌, ◌^◌, ◌<◌, ◌≤◌, Bool, true, false, List, [], ◌∷◌, ◌++◌, length, drop, replicate, append_assoc, Option, Some, None, refl, sym, ap, subst, ◌∙◌, arith, inl, inr}
 use Rattle.std.specs.Prelude.{not, if◌then◌else◌}
 use Rattle.std.proofs.lemmas.Bool.{false≢true}
 use Rattle.byteorder.specs.Endian.{big_bytes}
@@ -9,7 +9,7 @@ use Rattle.machine_bytes.specs.declared.place.Place.{Place}
 use Rattle.machine_bytes.specs.Exact.{IsExact}
 use Rattle.machine_bytes.specs.Forms.{Form, checked, then_read}
 use Rattle.machine_bytes.specs.Places.{IsWithin, written}
-use Rattle.machine_bytes.specs.Sparse.{PlaceForm, PlaceHasIf, PlacesHave, changed_form, end_mark, end_read, has_mark, place_bytes_if, place_read, place_write_if, places_bytes, places_read, places_write, sparse}
+use Rattle.machine_bytes.specs.Sparse.{PlaceForm, PlaceHasIf, PlacesHave, changed_form, end_mark, end_read, has_mark, made_places, place_bytes_if, place_read, place_write_if, places_bytes, places_read, places_write, sparse}
 use Rattle.machine_bytes.proofs.Exact.{checked-exact, no_value, same_value, then_some, where_true}
 use Rattle.machine_bytes.proofs.Marks.{behind_mark, mark_found, mark_missed, mark_stands}
 use Rattle.machine_bytes.proofs.Placed.{written_joined, written_within}
@@ -111,6 +111,10 @@ places_wrote p exact w within at (x ∷ xs) have =
     rw (here, written_joined w front (places_bytes p (suc at) xs))
     (places_wrote p exact (written w front) (written_within w front) (suc at) xs have.1)
 
+made-is : {A : Type 0} (n : ℕ) (fresh : A) → made_places n fresh ≡ replicate n fresh
+unfolding made_places
+made-is n fresh = refl
+
 pub sparse-exact : {A : Type 0} (n : ℕ) (fresh : A) (p : PlaceForm A) → n < 65535 → IsExact p.form → p.is_fresh fresh ≡ true
     → ((x : A) → p.is_fresh x ≡ true → x ≡ fresh) → IsExact (sparse n fresh p)
 sparse-exact {A = A} n fresh p few exact made only = record { read_back = back; written_so = so; wrote = parts }
@@ -125,7 +129,7 @@ sparse-exact {A = A} n fresh p few exact made only = record { read_back = back; 
         let behind : List ℕ = big_bytes 2 end_mark ++ rest in
         let missed = λ (before : ℕ) (below : before < 0 + length xs). mark_missed before end_mark rest (omega arith) (λ e. omega (arith, e, below, has.0, few)) in
         let all = places_back p fresh exact only 0 xs behind (omega (arith, has.0, few)) has.1 missed in
-        rw (append_assoc (places_bytes p 0 xs) (big_bytes 2 end_mark) rest, sym has.0, all, mark_found end_mark rest (omega arith), behind_mark end_mark rest) refl
+        rw (append_assoc (places_bytes p 0 xs) (big_bytes 2 end_mark) rest, made-is n fresh, sym has.0, all, mark_found end_mark rest (omega arith), behind_mark end_mark rest) refl
 
     end_so : (text : List ℕ) (ys : List A) (mid : List ℕ) (xs : List A) (left : List ℕ) → AreBytes mid
         → (text ≡ places_bytes p 0 ys ++ mid) × (length ys ≡ n) × PlacesHave p ys → end_read ys mid ≡ (Some xs, left)
@@ -139,7 +143,8 @@ sparse-exact {A = A} n fresh p few exact made only = record { read_back = back; 
     so : (text : List ℕ) (xs : List A) (left : List ℕ) → AreBytes text → (sparse n fresh p).read text ≡ (Some xs, left)
         → (text ≡ (places_bytes p 0 xs ++ big_bytes 2 end_mark) ++ left) × ((length xs ≡ n) × PlacesHave p xs)
     so text xs left are e =
-        let one = then_some (places_read (changed_form p) (replicate n fresh) 0 text) _ _ _ e in
-        let all = places_so p fresh exact made 0 n text one.0 one.1 are one.2 in
+        let one = then_some (places_read (changed_form p) (made_places n fresh) 0 text) _ _ _ e in
+        let P : List A → Type 0 = λ l. places_read (changed_form p) l 0 text ≡ (Some one.0, one.1) in
+        let all = places_so p fresh exact made 0 n text one.0 one.1 are (subst P (made-is n fresh) one.2) in
         let behind = bytes_back (places_bytes p 0 one.0) one.1 (rw (sym all.0) are) in
         end_so text one.0 one.1 xs left behind all one.3

@@ -59,10 +59,14 @@ abbrev pub end_read : {A : Type 0} → A → List ℕ → Option A × List ℕ
 end_read x text = if has_mark end_mark text then (Some x, drop 2 text) else (None, text)
 
 -- so many places, made as this value
+unfoldable pub made_places : {A : Type 0} → ℕ → A → List A
+made_places n fresh = replicate n fresh
+
+-- a list of so many places
 abbrev pub sparse : {A : Type 0} → ℕ → A → PlaceForm A → Form (List A)
 sparse {A = A} n fresh p = record {
   Has = λ xs. (length xs ≡ n) × PlacesHave p xs;
   bytes = λ xs. places_bytes p 0 xs ++ big_bytes 2 end_mark;
   write = λ w xs. written (places_write p w 0 xs) (big_bytes 2 end_mark);
-  read = λ text. then_read (places_read (changed_form p) (replicate n fresh) 0 text) (λ (xs : List A) left. end_read xs left);
+  read = λ text. then_read (places_read (changed_form p) (made_places n fresh) 0 text) (λ (xs : List A) left. end_read xs left);
 }

@@ -27,3 +27,6 @@ mod reader;
 
 pub use place::Place;
 pub use reader::Reader;
+
+/// What stands behind the last place of a list of which only changed places are written.
+pub const END_MARK: u16 = 0xffff;

@@ -1,6 +1,7 @@
 //! What is still to be read.
-ghost use Rattle.std.specs.Prelude.{◌≡◌, List};
+ghost use Rattle.std.specs.Prelude.{◌≡◌, List, drop, if◌then◌else◌};
 ghost use Rattle.std.specs.Option.{option_copied};
+ghost use Rattle.machine_bytes.specs.Sparse.{has_mark};
 ghost use Rattle.machine_bytes.specs.Forms.{below, bytes_of, counted, flag, number};
 
 use byteorder::{BigEndian, ByteOrder};
@@ -120,6 +121,18 @@ impl<'a> Reader<'a> {
             return None;
         }
         self.bytes(usize::from(count))
+    }
+
+    /// Takes this number of two bytes, where it stands in front.
+    pub fn take_mark(&mut self, at: u16) -> bool
+        ensures found { result ≡ has_mark at self.old }
+        ensures left { self.new ≡ (if result then drop 2 self.old else self.old) }
+    {
+        if self.left.len() < 2 || BigEndian::read_u16(self.left) != at {
+            return false;
+        }
+        self.left = &self.left[2..];
+        true
     }
 
     /// What is left.

@@ -2,5 +2,8 @@ pub mod ConsumersExact
 pub mod RegistersExact
 pub mod SlotsExact
 pub mod ControlExact
-pub mod PipesExact
 pub mod Rings
+pub mod PipesExact
+pub mod TagsExact
+pub mod TransfersExact
+pub mod BulkExact

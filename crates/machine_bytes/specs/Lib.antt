@@ -3,3 +3,4 @@ pub mod Places
 pub mod Forms
 pub mod Exact
 pub mod Sparse
+pub mod Sealed

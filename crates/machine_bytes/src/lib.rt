@@ -18,15 +18,21 @@
 //!
 //! A form of a record is one of pairs, `mapped`; one of an enum is `tagged`. proofs/Exact.antt has that each is exact, by a lemma with its name.
 //!
+//! A saved text is a head, a body and a checksum (`sealed` of specs/Sealed.antt): "UASXHC", the version (2), the length of all (4); the body; and the
+//! CRC-32C of all before (4). [`write_head`] writes the head, and [`opened`] gives the body or the first fault.
+//!
 //! A [`Place`] is where the next byte is written into a slice, and how many bytes there are in all, so that what has no room is counted too. A
-//! [`Reader`] is what is left to be read. No call takes memory. It stands on `byteorder` and `byte_numbers`.
+//! [`Reader`] is what is left to be read. No call takes memory. It stands on `byteorder`, `byte_numbers`, `log_records`
+//! for the checksum, and `thiserror`.
 #![tactic(auto)]
 
 mod place;
 mod reader;
+mod sealed;
 
 pub use place::Place;
 pub use reader::Reader;
+pub use sealed::{SealFault, opened, write_head};
 
 /// What stands behind the last place of a list of which only changed places are written.
 pub const END_MARK: u16 = 0xffff;

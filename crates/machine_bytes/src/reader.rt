@@ -1,5 +1,5 @@
 //! What is still to be read.
-ghost use Rattle.std.specs.Prelude.{◌≡◌, List, drop, if◌then◌else◌};
+ghost use Rattle.std.specs.Prelude.{◌≡◌, ◌≤◌, IfSome, List, drop, length, if◌then◌else◌};
 ghost use Rattle.std.specs.Option.{option_copied};
 ghost use Rattle.machine_bytes.specs.Sparse.{has_mark};
 ghost use Rattle.machine_bytes.specs.Forms.{below, bytes_of, counted, flag, number};
@@ -99,7 +99,8 @@ impl<'a> Reader<'a> {
 
     /// At most so many bytes, behind their number, which has a byte.
     pub fn counted_u8(&mut self, limit: u8) -> Option<&'a [u8]>
-        ensures { (option_copied result, self.new) ≡ (counted 1 limit).read self.old }
+        ensures read { (option_copied result, self.new) ≡ (counted 1 limit).read self.old }
+        ensures few { IfSome result (λ bytes. length bytes.now ≤ limit) }
     {
         let start = self.left;
         let count = self.u8()?;
@@ -112,7 +113,8 @@ impl<'a> Reader<'a> {
 
     /// At most so many bytes, behind their number, which has two bytes.
     pub fn counted_u16(&mut self, limit: u16) -> Option<&'a [u8]>
-        ensures { (option_copied result, self.new) ≡ (counted 2 limit).read self.old }
+        ensures read { (option_copied result, self.new) ≡ (counted 2 limit).read self.old }
+        ensures few { IfSome result (λ bytes. length bytes.now ≤ limit) }
     {
         let start = self.left;
         let count = self.u16()?;

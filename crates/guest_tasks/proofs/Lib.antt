@@ -2,3 +2,4 @@ mod Asking
 mod Marked
 mod Kept
 mod Calls
+mod Restored

@@ -40,6 +40,14 @@ abbrev pub rested : GuestTasks → ℕ → GuestTasks
 rested device tag =
     if nat_lt tag 256 && is_absent (wanted device.tasks tag) then record device { active = with_mark device.active tag false } else device
 
+-- whether a tag is active
+abbrev pub is_active : GuestTasks → ℕ → Bool
+is_active device tag = nat_lt tag 256 && is_marked device.active tag
+
+-- a tag is active from now on, or isn't any more; there is a mark for each below 256
+abbrev pub set_active : GuestTasks → ℕ → Bool → GuestTasks
+set_active device tag active = if nat_lt tag 256 then record device { active = with_mark device.active tag active } else device
+
 abbrev pub is_asking : Wants → Bool
 is_asking Absent = false
 is_asking Asks = true

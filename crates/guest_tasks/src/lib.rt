@@ -17,7 +17,7 @@ ghost use Rattle.uas_tasks.specs.Machine.{Machine, answer_on, answered, has_task
 ghost use Rattle.guest_tags.specs.Devices.{IsChunk, Kind};
 ghost use Rattle.guest_tasks.specs.declared.GuestTasks.{GuestTasks};
 ghost use Rattle.uas_tasks.specs.declared.Outcome.{Outcome};
-ghost use Rattle.guest_tasks.specs.Active.{IsIdle, TasksAreActive, active_after, asks_on, is_asking, rested, with_active};
+ghost use Rattle.guest_tasks.specs.Active.{IsIdle, TasksAreActive, active_after, asks_on, is_active, is_asking, rested, set_active, with_active};
 ghost use Rattle.guest_tasks.specs.Tasks.{end_of, end_of_status, gives_of, phase_of, received_as, received_told, takes_of, tasks_kind, text_of};
 
 use arrayvec::ArrayVec;
@@ -30,6 +30,11 @@ use uas_tasks::{Next, Tasks, Wants};
 
 /// The greatest chunk, in bytes.
 const CHUNK_BYTES: usize = 4096;
+
+/// There is a mark for each tag below this one.
+const TAG_PLACES: u16 = 256;
+
+const _: () = prove!(TAG_PLACES == 256);
 
 /// A device without blocks, and which of its tags are active.
 #[derive(Debug, Drop)]
@@ -108,7 +113,7 @@ fn tag_of(bytes: &[u8]) -> u16
 fn mark(active: &mut Marks<4>, tag: u16)
     ensures { active.new ≡ with_active active.old tag }
 {
-    if tag < 256 {
+    if tag < TAG_PLACES {
         active.set(usize::from(tag), true);
     }
 }
@@ -136,6 +141,40 @@ impl GuestTasks {
         }
     }
 
+    /// A device behind the pipes whose tasks were restored: those tags are active that have one.
+    pub fn restored(tasks: Tasks) -> GuestTasks
+        ensures tasks { result.tasks ≡ tasks }
+        ensures active { (tag : ℕ) → tag < 256 → is_marked result.active tag ≡ has_task tasks tag }
+        ensures keeps { TasksAreActive result }
+    {
+        let mut device = GuestTasks::new(tasks);
+        for tag in 0..TAG_PLACES {
+            let has_task = device.tasks.tag_state(tag).task.is_some();
+            device.set_active(tag, has_task);
+        }
+        device
+    }
+
+    /// Whether a tag is active.
+    pub fn is_active(&self, tag: u16) -> bool
+        ensures { result ≡ is_active self.now tag }
+    {
+        tag < TAG_PLACES && self.active.is_marked(usize::from(tag))
+    }
+
+    /// A tag is active from now on, or isn't any more, where it may have a mark.
+    pub fn set_active(&mut self, tag: u16, active: bool)
+        ensures device { self.new ≡ set_active self.old tag active }
+        ensures tasks { self.new.tasks ≡ self.old.tasks }
+        ensures here { tag < 256 → is_marked self.new.active tag ≡ active }
+        ensures others { (other : ℕ) → (other ≡ tag → ⊥) → is_marked self.new.active other ≡ is_marked self.old.active other }
+        ensures room { length self.new.active ≡ length self.old.active }
+    {
+        if tag < TAG_PLACES {
+            self.active.set(usize::from(tag), active);
+        }
+    }
+
     /// The first active tag from one on.
     pub fn next_active(&self, from: u16) -> Option<u16>
         ensures next { IfSome result (λ tag. (from ≤ tag) × (tag < 256) × (is_marked self.now.active tag ≡ true)
@@ -156,7 +195,7 @@ impl GuestTasks {
         ensures busy { (wanted self.old.tasks tag ≡ Wants.Absent → ⊥) → self.new ≡ self.old }
         ensures others { (other : ℕ) → (other ≡ tag → ⊥) → is_marked self.new.active other ≡ is_marked self.old.active other }
     {
-        if tag < 256 && matches!(self.tasks.wants(tag), Wants::Absent) {
+        if tag < TAG_PLACES && matches!(self.tasks.wants(tag), Wants::Absent) {
             self.active.set(usize::from(tag), false);
         }
     }

@@ -9,10 +9,11 @@ use Rattle.std.proofs.lemmas.Bool.Decides.{nat_tests}
 use Rattle.std.proofs.lemmas.List.{get_or-set_other, get_or-set_same, get_or_default, get_or_past, length-take, take_all}
 use Rattle.std.proofs.lemmas.List.Elements.{All-get_or}
 use Rattle.std.proofs.lemmas.List.Sums.{count_by-le-length, get_or-le-sum_by, sum_by-cons, sum_by-set, sum_by_more}
+use Rattle.host_commands.specs.Shapes.{Shape}
 use Rattle.uas_target.specs.Tasks.{is_at}
 use Rattle.uas_tasks.specs.declared.Task.{Task}
 use Rattle.uas_tasks.specs.Slots.{SlotState, has_command, is_command_of, spared_slot, task_waits}
-use Rattle.uas_tasks.specs.Soundness.{AreCounted, IsWithin, counted_down, counted_up}
+use Rattle.uas_tasks.specs.Soundness.{AreCounted, IsWithin, IsWritten, counted_down, counted_up}
 use Rattle.uas_tasks.specs.Stale.{is_stale, stale_unit, stale_without, writes_out}
 
 abbrev pub one : Bool → ℕ
@@ -35,8 +36,8 @@ any_counted p (x ∷ xs) = some-none (p x) (list_any p xs) (count_by p xs) (any_
 -- A SLOT IS WRITTEN
 
 -- the same is stale as before, and all is of logical units that are there where it was
-pub record Keeps (many : ℕ) (before after : SlotState) : Type 0 where
-  pub within : IsWithin many before → IsWithin many after
+pub record Keeps (shapes : List Shape) (before after : SlotState) : Type 0 where
+  pub within : IsWithin shapes before → IsWithin shapes after
   pub stale : stale_unit after ≡ stale_unit before
 
 count-set : (number : ℕ) (slots : List SlotState) (place : ℕ) (read now : SlotState) → place < length slots → read ≡ slice_index_or slots place read →
@@ -148,11 +149,11 @@ stale_past stale slots number counted past =
 
 -- THEY ARE COUNTED ANEW, slot by slot
 
-pub stale_within : (many : ℕ) (slot : SlotState) → IsWithin many slot → IfSome (stale_unit slot) (λ unit. unit < many)
+pub stale_within : (many : ℕ) (slot : SlotState) → IsWritten many slot → IfSome (stale_unit slot) (λ unit. unit < many)
 stale_within many slot within =
     elim (option_map_or task_waits slot.task false) as (λ b. IfSome (cond b None (writes_out slot)) (λ unit. unit < many)) [
       | true ↦ tt
-      | false ↦ within.written
+      | false ↦ within
     ]
 
 with_small : (many most : ℕ) (stale : List ℕ) (left : Option ℕ) → ((number : ℕ) → slice_index_or stale number 0 < most) → IfSome left (λ unit. unit < many) →
@@ -170,12 +171,12 @@ may_count stale slots slot left counted few =
     with_small (length stale) 255 stale left (λ number. omega (arith, few_counted stale slots 240 number counted few))
 
 pub may_count_next : (stale : List ℕ) (slots : List SlotState) (at : ℕ) (slot : SlotState) → AreCounted stale (take at slots) → length slots ≤ 240 →
-    IsWithin (length stale) slot → IfSome (stale_unit slot) (λ unit. (unit < length stale) × (slice_index_or stale unit 0 < 255))
+    IsWritten (length stale) slot → IfSome (stale_unit slot) (λ unit. (unit < length stale) × (slice_index_or stale unit 0 < 255))
 may_count_next stale slots at slot counted few within =
     may_count stale (take at slots) slot (stale_unit slot) counted (omega (arith, length-take at slots, few)) (stale_within (length stale) slot within)
 
 pub counted_next : (stale : List ℕ) (slots : List SlotState) (at : ℕ) (slot : SlotState) → AreCounted stale (take at slots) → at < length slots →
-    slot ≡ slice_index_or slots at slot → IsWithin (length stale) slot → AreCounted (counted_up stale (stale_unit slot)) (take (at + 1) slots)
+    slot ≡ slice_index_or slots at slot → IsWritten (length stale) slot → AreCounted (counted_up stale (stale_unit slot)) (take (at + 1) slots)
 counted_next stale slots at slot counted within is sound number =
     let P : SlotState → Type 0 = λ s. count_by (is_stale number) (take (at + 1) slots) ≡ count_by (is_stale number) (take at slots) + one (is_stale number s) in
     let more = subst P (sym is) (sum_by_more (λ s. cond (is_stale number s) 1 0) slots at slot within) in
@@ -187,17 +188,17 @@ zeros stale all number = elim (cases_lt number (length stale)) [ inl within ↦ 
 pub all_counted : (stale : List ℕ) (slots : List SlotState) (at : ℕ) → AreCounted stale (take at slots) → length slots ≤ at → AreCounted stale slots
 all_counted stale slots at counted all number = counted number ∙ ap (λ front. count_by (is_stale number) front) (take_all at slots all)
 
-pub within_next : (many before : ℕ) (slots : List SlotState) (at : ℕ) (slot : SlotState) → many ≡ before → All (IsWithin before) slots → at < length slots →
-    slot ≡ slice_index_or slots at slot → IsWithin many slot
+pub within_next : (many before : ℕ) (slots : List SlotState) (at : ℕ) (slot : SlotState) → many ≡ before → All (IsWritten before) slots → at < length slots →
+    slot ≡ slice_index_or slots at slot → IsWritten many slot
 within_next many before slots at slot same all within is =
-    rw same (subst (IsWithin before) (sym is) (All-get_or (IsWithin before) slots at slot within all))
+    rw same (subst (IsWritten before) (sym is) (All-get_or (IsWritten before) slots at slot within all))
 
 -- A COMMAND IS ENDED, OR A REQUEST ANSWERED
 
-pub left_within : (many unit : ℕ) (slot : SlotState) → IsWithin many slot → IfSome (stale_without unit slot) (λ number. number < many)
+pub left_within : (many unit : ℕ) (slot : SlotState) → IsWritten many slot → IfSome (stale_without unit slot) (λ number. number < many)
 left_within many unit slot within =
     elim (option_map_or task_waits slot.task false && has_command unit slot) as (λ b. IfSome (cond b (writes_out slot) None) (λ number. number < many)) [
-      | true ↦ within.written
+      | true ↦ within
       | false ↦ tt
     ]
 
@@ -211,7 +212,7 @@ some_counted stale slots place slot unit counted within is stale_is =
     omega (arith, counted unit, most, this)
 
 pub may_count_down : (stale : List ℕ) (slots : List SlotState) (place : ℕ) (slot : SlotState) → AreCounted stale slots → place < length slots →
-    slot ≡ slice_index_or slots place slot → IsWithin (length stale) slot →
+    slot ≡ slice_index_or slots place slot → IsWritten (length stale) slot →
     IfSome (stale_unit slot) (λ unit. (unit < length stale) × (1 ≤ slice_index_or stale unit 0))
 may_count_down stale slots place slot counted within is sound = by_unit (stale_unit slot) (stale_within (length stale) slot sound) (some_counted stale slots place slot)
   where

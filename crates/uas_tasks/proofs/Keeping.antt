@@ -1,15 +1,16 @@
 -- What each call leaves of a slot as it is: the stale request, and that all is of logical units that are there. Cited by the answers of
 -- a device's calls.
-use Rattle.std.proofs.Common.{◌≡◌, ℕ, ◌+◌, ◌<◌, Bool, true, false, cond, List, length, Option, Some, None, IfSome, Result, Ok, Err}
+use Rattle.std.proofs.Common.{◌≡◌, ℕ, zero, suc, ◌+◌, ◌-◌, ◌<◌, ◌≤◌, Bool, true, false, cond, List, [], ◌∷◌, length, Option, Some, None, IfSome, Result, Ok, Err, IfOk, arith}
 use Rattle.std.proofs.Common.{refl, sym, ◌∙◌}
 use Rattle.std.proofs.lemmas.Bool.{false≢true}
-use Rattle.std.specs.Prelude.{is_some, IsSome, nat_lt, ◌==◌, ◌&&◌, option_and_then, option_map, slice_index}
+use Rattle.std.proofs.lemmas.Option.{slice_get_within}
+use Rattle.std.specs.Prelude.{is_some, IsSome, nat_lt, ◌==◌, ◌&&◌, option_and_then, option_map, slice_get, slice_index}
 use Rattle.std.specs.Option.{option_map_or}
 use Rattle.scsi_cmd.specs.declared.Sense.{Sense}
 use Rattle.host_commands.specs.declared.Attention.{Attention}
 use Rattle.host_commands.specs.declared.Attention.TheVariants.{Ignored, Given, Reported}
-use Rattle.host_commands.specs.declared.BlockLength.{BlockLength}
 use Rattle.host_commands.specs.declared.CommandSet.{CommandSet}
+use Rattle.host_commands.specs.declared.UnitAttention.{UnitAttention}
 use Rattle.host_commands.specs.declared.Work.{Work}
 use Rattle.host_commands.specs.declared.Work.TheVariants.{Nothing, Gives as GivesWork, Reads as ReadsWork, Writes as WritesWork, Synchronizes as SynchronizesWork}
 use Rattle.host_commands.specs.declared.Work.TheVariants.{Verifies as VerifiesWork, Compares as ComparesWork, WritesAndVerifies as WritesAndVerifiesWork}
@@ -36,99 +37,108 @@ use Rattle.uas_tasks.specs.Machine.{Machine, begun, begun_as, is_held, reported_
 use Rattle.uas_tasks.specs.Slots.{SlotState, after_answer, after_outcome, answered_slot, asked_slot, blocks_synchronized, chunk_blocks, chunk_bytes, done_by, ended_good, first_stage}
 use Rattle.uas_tasks.specs.Slots.{done_slot, gave_slot, gave_task, is_command_of, is_done, is_read, job_task, moved_on, next_chunk, out_of, passed_out, passing_out, request_of, slot_wants, spared_slot, stage_wants}
 use Rattle.uas_tasks.specs.Slots.{started, started_none, started_none_work, started_work, task_waits, task_wants, took_slot, took_task, waiting, with_task}
-use Rattle.uas_tasks.specs.Soundness.{IsAnswer, IsTaskWithin, IsWithin}
+use Rattle.uas_tasks.specs.Soundness.{IsAnswer, IsJobOf, IsTaskWithin, IsUnit, IsWithin, StartsOn}
 use Rattle.uas_tasks.specs.Stale.{stale_unit, unit_written}
 use Rattle.uas_tasks.proofs.Counts.{Keeps}
 
 -- A TASK THAT WAITS FOR NO ANSWER, of a logical unit that is there
 
-abbrev pub Rests : ℕ → Task → Type 0
-Rests many task = (task_waits task ≡ false) × IsTaskWithin many task
+abbrev pub Rests : List Shape → Task → Type 0
+Rests shapes task = (task_waits task ≡ false) × IsTaskWithin shapes task
 
 abbrev pub waits : Option Task → Bool
 waits task = option_map_or task_waits task false
 
-rests_waits : (many : ℕ) (task : Option Task) → IfSome task (Rests many) → waits task ≡ false
-rests_waits many None rests = refl
-rests_waits many (Some task) rests = rests.0
+rests_waits : (shapes : List Shape) (task : Option Task) → IfSome task (Rests shapes) → waits task ≡ false
+rests_waits shapes None rests = refl
+rests_waits shapes (Some task) rests = rests.0
 
-rests_within : (many : ℕ) (task : Option Task) → IfSome task (Rests many) → IfSome task (IsTaskWithin many)
-rests_within many None rests = tt
-rests_within many (Some task) rests = rests.1
+rests_within : (shapes : List Shape) (task : Option Task) → IfSome task (Rests shapes) → IfSome task (IsTaskWithin shapes)
+rests_within shapes None rests = tt
+rests_within shapes (Some task) rests = rests.1
 
 -- a slot that has such a task after one that didn't wait either
-pub rests-keeps : (many : ℕ) (before after : SlotState) → after.out ≡ before.out → waits before.task ≡ false → IfSome after.task (Rests many) →
-    Keeps many before after
-rests-keeps many before after out still rests = record {
-  within = λ was. record { task = rests_within many after.task rests; written = rw out was.written };
-  stale = rw (out, still, rests_waits many after.task rests) refl;
+pub rests-keeps : (shapes : List Shape) (before after : SlotState) → after.out ≡ before.out → waits before.task ≡ false → IfSome after.task (Rests shapes) →
+    Keeps shapes before after
+rests-keeps shapes before after out still rests = record {
+  within = λ was. record { task = rests_within shapes after.task rests; written = rw out was.written };
+  stale = rw (out, still, rests_waits shapes after.task rests) refl;
 }
+
+-- a job of a logical unit is of one that is there
+pub job_there : (shapes : List Shape) (number : ℕ) (job : Job) → IsJobOf shapes number job → number < length shapes
+job_there [] number job on = absurd on
+job_there (shape ∷ shapes) zero job on = omega arith
+job_there (shape ∷ shapes) (suc number) job on = let rest = job_there shapes number job on in omega (arith, rest)
+
+shape_there : (shapes : List Shape) (number : ℕ) (shape : Shape) → slice_get shapes number ≡ Some shape → number < length shapes
+shape_there shapes number shape is = slice_get_within shapes number shape is
 
 -- CHUNKS
 
-first_stage-rests : (many unit : ℕ) (job : Job) (kind : JobKind) → unit < many → Rests many (Blocks unit job (first_stage kind))
-first_stage-rests many unit job Reads there = (refl, there)
-first_stage-rests many unit job (Writes through) there = (refl, there)
-first_stage-rests many unit job Compares there = (refl, there)
-first_stage-rests many unit job Verifies there = (refl, there)
-first_stage-rests many unit job Synchronizes there = (refl, there)
-first_stage-rests many unit job (WritesAndVerifies compares has_written) there = (refl, there)
+first_stage-rests : (shapes : List Shape) (unit : ℕ) (job : Job) (kind : JobKind) → IsJobOf shapes unit job → Rests shapes (Blocks unit job (first_stage kind))
+first_stage-rests shapes unit job Reads there = (refl, there)
+first_stage-rests shapes unit job (Writes through) there = (refl, there)
+first_stage-rests shapes unit job Compares there = (refl, there)
+first_stage-rests shapes unit job Verifies there = (refl, there)
+first_stage-rests shapes unit job Synchronizes there = (refl, there)
+first_stage-rests shapes unit job (WritesAndVerifies compares has_written) there = (refl, there)
 
-either-rests : (many : ℕ) (b : Bool) (one other : Task) → Rests many one → Rests many other → Rests many (cond b one other)
-either-rests many true one other first second = first
-either-rests many false one other first second = second
+either-rests : (shapes : List Shape) (b : Bool) (one other : Task) → Rests shapes one → Rests shapes other → Rests shapes (cond b one other)
+either-rests shapes true one other first second = first
+either-rests shapes false one other first second = second
 
-next_chunk-rests : (many chunk unit : ℕ) (job : Job) → unit < many → Rests many (next_chunk chunk unit job)
-next_chunk-rests many chunk unit job there =
+next_chunk-rests : (shapes : List Shape) (chunk unit : ℕ) (job : Job) → IsJobOf shapes unit job → Rests shapes (next_chunk chunk unit job)
+next_chunk-rests shapes chunk unit job there =
     let done : ℕ = job.done + chunk_blocks chunk job in
-    either-rests many (nat_lt done job.count) (Blocks unit (record job { done = done }) (first_stage job.kind)) (ended_good unit)
-    (first_stage-rests many unit (record job { done = done }) job.kind there) (refl, tt)
+    either-rests shapes (nat_lt done job.count) (Blocks unit (record job { done = done }) (first_stage job.kind)) (ended_good unit)
+    (first_stage-rests shapes unit (record job { done = done }) job.kind there) (refl, job_there shapes unit job there)
 
 -- BYTES THAT MOVE
 
-moved_on-stays : (many chunk moved unit : ℕ) (job : Job) (after : Task) (stage : Stage) → (unit < many → Rests many after) → unit < many →
-    (task_waits (moved_on chunk moved unit job after stage) ≡ task_waits (Blocks unit job stage)) × IsTaskWithin many (moved_on chunk moved unit job after stage)
-moved_on-stays many chunk moved unit job after Asking rests there = (refl, there)
-moved_on-stays many chunk moved unit job after Waiting rests there = (refl, there)
-moved_on-stays many chunk moved unit job after (Moving at) rests there =
-    either-rests many (nat_lt (at + moved) (chunk_bytes chunk job)) (Blocks unit job (Moving (at + moved))) after (refl, there) (rests there)
+moved_on-stays : (shapes : List Shape) (chunk moved unit : ℕ) (job : Job) (after : Task) (stage : Stage) → (IsJobOf shapes unit job → Rests shapes after) → IsJobOf shapes unit job →
+    (task_waits (moved_on chunk moved unit job after stage) ≡ task_waits (Blocks unit job stage)) × IsTaskWithin shapes (moved_on chunk moved unit job after stage)
+moved_on-stays shapes chunk moved unit job after Asking rests there = (refl, there)
+moved_on-stays shapes chunk moved unit job after Waiting rests there = (refl, there)
+moved_on-stays shapes chunk moved unit job after (Moving at) rests there =
+    either-rests shapes (nat_lt (at + moved) (chunk_bytes chunk job)) (Blocks unit job (Moving (at + moved))) after (refl, there) (rests there)
 
 -- the same of a slot, by its task, where it is of a logical unit that is there
-pub task-keeps : (many : ℕ) (before after : SlotState) → after.out ≡ before.out →
-    (IfSome before.task (IsTaskWithin many) → (waits after.task ≡ waits before.task) × IfSome after.task (IsTaskWithin many)) →
-    IsWithin many before → Keeps many before after
-task-keeps many before after out stays sound =
+pub task-keeps : (shapes : List Shape) (before after : SlotState) → after.out ≡ before.out →
+    (IfSome before.task (IsTaskWithin shapes) → (waits after.task ≡ waits before.task) × IfSome after.task (IsTaskWithin shapes)) →
+    IsWithin shapes before → Keeps shapes before after
+task-keeps shapes before after out stays sound =
     let both = stays sound.task in
     record {
       within = λ was. record { task = both.1; written = rw out was.written };
       stale = rw (out, both.0) refl;
     }
 
-gave_task-stays : (many chunk given moved : ℕ) (task : Option Task) → IfSome task (IsTaskWithin many) →
-    (waits (option_map (gave_task chunk given moved) task) ≡ waits task) × IfSome (option_map (gave_task chunk given moved) task) (IsTaskWithin many)
-gave_task-stays many chunk given moved None within = (refl, tt)
-gave_task-stays many chunk given moved (Some (Giving unit at)) within =
-    either-rests many (nat_lt (at + moved) given) (Giving unit (at + moved)) (Ended unit (Status Good)) (refl, tt) (refl, tt)
-gave_task-stays many chunk given moved (Some (Blocks unit job stage)) within =
-    moved_on-stays many chunk moved unit job (next_chunk chunk unit job) stage (next_chunk-rests many chunk unit job) within
-gave_task-stays many chunk given moved (Some (Ended unit answer)) within = (refl, tt)
-gave_task-stays many chunk given moved (Some (Held unit code)) within = (refl, tt)
+gave_task-stays : (shapes : List Shape) (chunk given moved : ℕ) (task : Option Task) → IfSome task (IsTaskWithin shapes) →
+    (waits (option_map (gave_task chunk given moved) task) ≡ waits task) × IfSome (option_map (gave_task chunk given moved) task) (IsTaskWithin shapes)
+gave_task-stays shapes chunk given moved None within = (refl, tt)
+gave_task-stays shapes chunk given moved (Some (Giving unit at)) within =
+    either-rests shapes (nat_lt (at + moved) given) (Giving unit (at + moved)) (Ended unit (Status Good)) (refl, within) (refl, within)
+gave_task-stays shapes chunk given moved (Some (Blocks unit job stage)) within =
+    moved_on-stays shapes chunk moved unit job (next_chunk chunk unit job) stage (next_chunk-rests shapes chunk unit job) within
+gave_task-stays shapes chunk given moved (Some (Ended unit answer)) within = (refl, within)
+gave_task-stays shapes chunk given moved (Some (Held unit code)) within = (refl, within)
 
-pub gave-keeps : (many : ℕ) (slot : SlotState) (moved : ℕ) → IsWithin many slot → Keeps many slot (gave_slot slot moved)
-gave-keeps many slot moved =
-    task-keeps many slot (gave_slot slot moved) refl (gave_task-stays many slot.chunk (length slot.given) moved slot.task)
+pub gave-keeps : (shapes : List Shape) (slot : SlotState) (moved : ℕ) → IsWithin shapes slot → Keeps shapes slot (gave_slot slot moved)
+gave-keeps shapes slot moved =
+    task-keeps shapes slot (gave_slot slot moved) refl (gave_task-stays shapes slot.chunk (length slot.given) moved slot.task)
 
-took_task-stays : (many chunk moved : ℕ) (task : Option Task) → IfSome task (IsTaskWithin many) →
-    (waits (option_map (took_task chunk moved) task) ≡ waits task) × IfSome (option_map (took_task chunk moved) task) (IsTaskWithin many)
-took_task-stays many chunk moved None within = (refl, tt)
-took_task-stays many chunk moved (Some (Giving unit at)) within = (refl, tt)
-took_task-stays many chunk moved (Some (Blocks unit job stage)) within =
-    moved_on-stays many chunk moved unit job (Blocks unit job Asking) stage (λ there. (refl, there)) within
-took_task-stays many chunk moved (Some (Ended unit answer)) within = (refl, tt)
-took_task-stays many chunk moved (Some (Held unit code)) within = (refl, tt)
+took_task-stays : (shapes : List Shape) (chunk moved : ℕ) (task : Option Task) → IfSome task (IsTaskWithin shapes) →
+    (waits (option_map (took_task chunk moved) task) ≡ waits task) × IfSome (option_map (took_task chunk moved) task) (IsTaskWithin shapes)
+took_task-stays shapes chunk moved None within = (refl, tt)
+took_task-stays shapes chunk moved (Some (Giving unit at)) within = (refl, within)
+took_task-stays shapes chunk moved (Some (Blocks unit job stage)) within =
+    moved_on-stays shapes chunk moved unit job (Blocks unit job Asking) stage (λ there. (refl, there)) within
+took_task-stays shapes chunk moved (Some (Ended unit answer)) within = (refl, within)
+took_task-stays shapes chunk moved (Some (Held unit code)) within = (refl, within)
 
-pub took-keeps : (many : ℕ) (slot : SlotState) (new : List ℕ) → IsWithin many slot → Keeps many slot (took_slot slot new)
-took-keeps many slot new = task-keeps many slot (took_slot slot new) refl (took_task-stays many slot.chunk (length new) slot.task)
+pub took-keeps : (shapes : List Shape) (slot : SlotState) (new : List ℕ) → IsWithin shapes slot → Keeps shapes slot (took_slot slot new)
+took-keeps shapes slot new = task-keeps shapes slot (took_slot slot new) refl (took_task-stays shapes slot.chunk (length new) slot.task)
 
 -- A REQUEST IS ASKED: none was out, and the task waits for this one
 
@@ -160,14 +170,15 @@ request_of-written many unit chunk job (WritesAndVerifies compares false) there 
 request_of-written many unit chunk job (WritesAndVerifies true true) there = tt
 request_of-written many unit chunk job (WritesAndVerifies false true) there = tt
 
-asked_task : (many chunk : ℕ) (task : Option Task) → IfSome task (IsTaskWithin many) →
-    IfSome (option_map waiting task) (IsTaskWithin many)
-    × IfSome (option_and_then (λ (out : Out). unit_written out.request) (option_and_then (out_of chunk) task)) (λ unit. unit < many)
-asked_task many chunk None within = (tt, tt)
-asked_task many chunk (Some (Giving unit at)) within = (tt, tt)
-asked_task many chunk (Some (Blocks unit job stage)) within = (within, request_of-written many unit chunk job job.kind within)
-asked_task many chunk (Some (Ended unit answer)) within = (tt, tt)
-asked_task many chunk (Some (Held unit code)) within = (tt, tt)
+asked_task : (shapes : List Shape) (chunk : ℕ) (task : Option Task) → IfSome task (IsTaskWithin shapes) →
+    IfSome (option_map waiting task) (IsTaskWithin shapes)
+    × IfSome (option_and_then (λ (out : Out). unit_written out.request) (option_and_then (out_of chunk) task)) (λ unit. unit < length shapes)
+asked_task shapes chunk None within = (tt, tt)
+asked_task shapes chunk (Some (Giving unit at)) within = (within, tt)
+asked_task shapes chunk (Some (Blocks unit job stage)) within =
+    (within, request_of-written (length shapes) unit chunk job job.kind (job_there shapes unit job within))
+asked_task shapes chunk (Some (Ended unit answer)) within = (within, tt)
+asked_task shapes chunk (Some (Held unit code)) within = (within, tt)
 
 -- nothing is stale before, and nothing after
 asked_stale : (slot : SlotState) (task : Option Task) → waits task ≡ false →
@@ -181,11 +192,11 @@ asked_stale slot (Some (Held unit code)) still = refl
 pub asked-stale : (slot : SlotState) → slot_wants slot ≡ Asks → stale_unit (asked_slot slot) ≡ None
 asked-stale slot asks = asked_stale slot slot.task (asks_none slot asks).1
 
-pub asked-keeps : (many : ℕ) (slot : SlotState) → slot_wants slot ≡ Asks → Keeps many slot (asked_slot slot)
-asked-keeps many slot asks =
+pub asked-keeps : (shapes : List Shape) (slot : SlotState) → slot_wants slot ≡ Asks → Keeps shapes slot (asked_slot slot)
+asked-keeps shapes slot asks =
     let none = asks_none slot asks in
     record {
-      within = λ was. let both = asked_task many slot.chunk slot.task was.task in record { task = both.0; written = both.1 };
+      within = λ was. let both = asked_task shapes slot.chunk slot.task was.task in record { task = both.0; written = both.1 };
       stale = asked_stale slot slot.task none.1 ∙ sym (rw (none.1, none.0) refl);
     }
 
@@ -214,109 +225,124 @@ pub free_still : (task : Option Task) → is_some task ≡ false → waits task 
 free_still None free = refl
 free_still (Some task) free = let it : ⊥ = cc in absurd it
 
-answer-rests : (many : ℕ) (task : Task) → IsAnswer task → Rests many task
-answer-rests many (Giving unit at) is = absurd is
-answer-rests many (Blocks unit job stage) is = absurd is
-answer-rests many (Ended unit answer) is = (refl, tt)
-answer-rests many (Held unit code) is = (refl, tt)
+answer-rests : (shapes : List Shape) (task : Task) → IsAnswer (length shapes) task → Rests shapes task
+answer-rests shapes (Giving unit at) is = absurd is
+answer-rests shapes (Blocks unit job stage) is = absurd is
+answer-rests shapes (Ended unit answer) is = (refl, is)
+answer-rests shapes (Held unit code) is = (refl, is)
 
-pub answer-keeps : (many : ℕ) (slot : SlotState) (task : Task) → waits slot.task ≡ false → IsAnswer task → Keeps many slot (with_task slot (Some task))
-answer-keeps many slot task still is = rests-keeps many slot (with_task slot (Some task)) refl still (answer-rests many task is)
+pub answer-keeps : (shapes : List Shape) (slot : SlotState) (task : Task) → waits slot.task ≡ false → IsAnswer (length shapes) task → Keeps shapes slot (with_task slot (Some task))
+answer-keeps shapes slot task still is = rests-keeps shapes slot (with_task slot (Some task)) refl still (answer-rests shapes task is)
 
 -- A COMMAND BEGINS
 
-job-rests : (many unit : ℕ) (kind : JobKind) (block_length : BlockLength) (lba count : ℕ) → unit < many → Rests many (job_task unit kind block_length lba count)
-job-rests many unit kind block_length lba count there =
-    let job : Job = record { kind = kind; block_bytes = block_bytes block_length; lba = lba; count = count; done = 0 } in
-    either-rests many (count == 0) (ended_good unit) (Blocks unit job (first_stage kind)) (refl, tt) (first_stage-rests many unit job kind there)
+job-rests : (shapes : List Shape) (unit : ℕ) (kind : JobKind) (shape : Shape) (lba count : ℕ) → slice_get shapes unit ≡ Some shape → lba + count ≤ shape.blocks →
+    Rests shapes (job_task unit kind shape.block_length lba count)
+job-rests shapes unit kind shape lba count there on =
+    let job : Job = record { kind = kind; block_bytes = block_bytes shape.block_length; lba = lba; count = count; done = 0 } in
+    let of_it : IsJobOf shapes unit job = rw there (refl, on) in
+    either-rests shapes (count == 0) (ended_good unit) (Blocks unit job (first_stage kind)) (refl, job_there shapes unit job of_it)
+    (first_stage-rests shapes unit job kind of_it)
 
--- so many bytes of the device's data are left to give, or none are
-giving-rests : (many : ℕ) (unit : Option ℕ) (given : List ℕ) → Rests many (cond (length given == 0) (Ended unit (Status Good)) (Giving unit 0))
-giving-rests many unit given = either-rests many (length given == 0) (Ended unit (Status Good)) (Giving unit 0) (refl, tt) (refl, tt)
+-- so shapes bytes of the device's data are left to give, or none are
+giving-rests : (shapes : List Shape) (unit : Option ℕ) (given : List ℕ) → IsUnit (length shapes) unit → Rests shapes (cond (length given == 0) (Ended unit (Status Good)) (Giving unit 0))
+giving-rests shapes unit given there = either-rests shapes (length given == 0) (Ended unit (Status Good)) (Giving unit 0) (refl, there) (refl, there)
 
-work-keeps : (many : ℕ) (slot : SlotState) (unit : ℕ) (shape : Shape) (work : Work) → unit < many → waits slot.task ≡ false →
-    Keeps many slot (started_work slot unit shape work)
-work-keeps many slot unit shape Nothing there still = rests-keeps many slot (started_work slot unit shape Nothing) refl still (refl, tt)
-work-keeps many slot unit shape (GivesWork given allocation) there still =
-    rests-keeps many slot (started_work slot unit shape (GivesWork given allocation)) refl still (giving-rests many (Some unit) (given_bytes given allocation))
-work-keeps many slot unit shape (ReadsWork lba count) there still =
-    rests-keeps many slot (started_work slot unit shape (ReadsWork lba count)) refl still (job-rests many unit Reads shape.block_length lba count there)
-work-keeps many slot unit shape (WritesWork lba count through) there still =
-    rests-keeps many slot (started_work slot unit shape (WritesWork lba count through)) refl still (job-rests many unit (Writes through) shape.block_length lba count there)
-work-keeps many slot unit shape (SynchronizesWork lba count) there still =
-    rests-keeps many slot (started_work slot unit shape (SynchronizesWork lba count)) refl still
-    (job-rests many unit Synchronizes shape.block_length lba (blocks_synchronized shape lba count) there)
-work-keeps many slot unit shape (VerifiesWork lba count) there still =
-    rests-keeps many slot (started_work slot unit shape (VerifiesWork lba count)) refl still (job-rests many unit Verifies shape.block_length lba count there)
-work-keeps many slot unit shape (WritesAndVerifiesWork lba count compares) there still =
-    rests-keeps many slot (started_work slot unit shape (WritesAndVerifiesWork lba count compares)) refl still
-    (job-rests many unit (WritesAndVerifies compares false) shape.block_length lba count there)
-work-keeps many slot unit shape (ComparesWork lba count) there still =
-    rests-keeps many slot (started_work slot unit shape (ComparesWork lba count)) refl still (job-rests many unit Compares shape.block_length lba count there)
+synchronized_on : (shape : Shape) (lba count : ℕ) → lba + count ≤ shape.blocks → lba + blocks_synchronized shape lba count ≤ shape.blocks
+synchronized_on shape lba count on =
+    elim (count == 0) as (λ b. lba + cond b (shape.blocks - lba) count ≤ shape.blocks) [ true ↦ omega arith | false ↦ on ]
 
-started-keeps : (many : ℕ) (slot : SlotState) (unit : ℕ) (shape : Shape) (asked : Result Work Sense) → unit < many → waits slot.task ≡ false →
-    Keeps many slot (started slot unit shape asked)
-started-keeps many slot unit shape (Ok work) there still = work-keeps many slot unit shape work there still
-started-keeps many slot unit shape (Err sense) there still = rests-keeps many slot (started slot unit shape (Err sense)) refl still (refl, tt)
+reported_on : (blocks : ℕ) (attention : Option UnitAttention) (asked : Result Work Sense) → IfOk asked (StartsOn blocks) →
+    IfOk (reported_as attention asked) (StartsOn blocks)
+reported_on blocks None asked on = on
+reported_on blocks (Some attention) asked on = tt
 
-begun_as-keeps : (many : ℕ) (attention : Attention) (unit : LogicalUnit) (number : ℕ) (slot : SlotState) (asked : Result Work Sense) → number < many →
-    waits slot.task ≡ false → Keeps many slot (begun_as attention unit number slot asked).1
-begun_as-keeps many Ignored unit number slot asked there still = started-keeps many slot number unit.shape asked there still
-begun_as-keeps many Given unit number slot asked there still = started-keeps many slot number unit.shape asked there still
-begun_as-keeps many Reported unit number slot asked there still =
-    started-keeps many slot number unit.shape (reported_as unit.attention asked) there still
+work-keeps : (shapes : List Shape) (slot : SlotState) (unit : ℕ) (shape : Shape) (work : Work) → slice_get shapes unit ≡ Some shape → StartsOn shape.blocks work → waits slot.task ≡ false →
+    Keeps shapes slot (started_work slot unit shape work)
+work-keeps shapes slot unit shape Nothing there on still =
+    rests-keeps shapes slot (started_work slot unit shape Nothing) refl still (refl, shape_there shapes unit shape there)
+work-keeps shapes slot unit shape (GivesWork given allocation) there on still =
+    rests-keeps shapes slot (started_work slot unit shape (GivesWork given allocation)) refl still (giving-rests shapes (Some unit) (given_bytes given allocation) (shape_there shapes unit shape there))
+work-keeps shapes slot unit shape (ReadsWork lba count) there on still =
+    rests-keeps shapes slot (started_work slot unit shape (ReadsWork lba count)) refl still (job-rests shapes unit Reads shape lba count there on)
+work-keeps shapes slot unit shape (WritesWork lba count through) there on still =
+    rests-keeps shapes slot (started_work slot unit shape (WritesWork lba count through)) refl still (job-rests shapes unit (Writes through) shape lba count there on)
+work-keeps shapes slot unit shape (SynchronizesWork lba count) there on still =
+    rests-keeps shapes slot (started_work slot unit shape (SynchronizesWork lba count)) refl still
+    (job-rests shapes unit Synchronizes shape lba (blocks_synchronized shape lba count) there (synchronized_on shape lba count on))
+work-keeps shapes slot unit shape (VerifiesWork lba count) there on still =
+    rests-keeps shapes slot (started_work slot unit shape (VerifiesWork lba count)) refl still (job-rests shapes unit Verifies shape lba count there on)
+work-keeps shapes slot unit shape (WritesAndVerifiesWork lba count compares) there on still =
+    rests-keeps shapes slot (started_work slot unit shape (WritesAndVerifiesWork lba count compares)) refl still
+    (job-rests shapes unit (WritesAndVerifies compares false) shape lba count there on)
+work-keeps shapes slot unit shape (ComparesWork lba count) there on still =
+    rests-keeps shapes slot (started_work slot unit shape (ComparesWork lba count)) refl still (job-rests shapes unit Compares shape lba count there on)
 
-pub begun-keeps : (many : ℕ) (unit : LogicalUnit) (number : ℕ) (set : CommandSet) (count : ℕ) (cdb : List ℕ) (slot : SlotState) → number < many →
-    waits slot.task ≡ false → Keeps many slot (begun unit number set count cdb slot).1
-begun-keeps many unit number set count cdb slot there still =
-    begun_as-keeps many (attention_of (slice_index cdb 0) set) unit number slot (asked_of cdb set unit.shape count unit.attention) there still
+started-keeps : (shapes : List Shape) (slot : SlotState) (unit : ℕ) (shape : Shape) (asked : Result Work Sense) → slice_get shapes unit ≡ Some shape →
+    IfOk asked (StartsOn shape.blocks) → waits slot.task ≡ false → Keeps shapes slot (started slot unit shape asked)
+started-keeps shapes slot unit shape (Ok work) there on still = work-keeps shapes slot unit shape work there on still
+started-keeps shapes slot unit shape (Err sense) there on still =
+    rests-keeps shapes slot (started slot unit shape (Err sense)) refl still (refl, shape_there shapes unit shape there)
 
-none-keeps : (many : ℕ) (slot : SlotState) (work : Work) → waits slot.task ≡ false → Keeps many slot (started_none_work slot work)
-none-keeps many slot Nothing still = rests-keeps many slot (started_none_work slot Nothing) refl still (refl, tt)
-none-keeps many slot (GivesWork given allocation) still =
-    rests-keeps many slot (started_none_work slot (GivesWork given allocation)) refl still (giving-rests many None (given_bytes given allocation))
-none-keeps many slot (ReadsWork lba count) still = rests-keeps many slot (started_none_work slot (ReadsWork lba count)) refl still (refl, tt)
-none-keeps many slot (WritesWork lba count through) still = rests-keeps many slot (started_none_work slot (WritesWork lba count through)) refl still (refl, tt)
-none-keeps many slot (SynchronizesWork lba count) still = rests-keeps many slot (started_none_work slot (SynchronizesWork lba count)) refl still (refl, tt)
-none-keeps many slot (VerifiesWork lba count) still = rests-keeps many slot (started_none_work slot (VerifiesWork lba count)) refl still (refl, tt)
-none-keeps many slot (WritesAndVerifiesWork lba count compares) still =
-    rests-keeps many slot (started_none_work slot (WritesAndVerifiesWork lba count compares)) refl still (refl, tt)
-none-keeps many slot (ComparesWork lba count) still = rests-keeps many slot (started_none_work slot (ComparesWork lba count)) refl still (refl, tt)
+begun_as-keeps : (shapes : List Shape) (attention : Attention) (unit : LogicalUnit) (number : ℕ) (slot : SlotState) (asked : Result Work Sense) →
+    slice_get shapes number ≡ Some unit.shape → IfOk asked (StartsOn unit.shape.blocks) → waits slot.task ≡ false → Keeps shapes slot (begun_as attention unit number slot asked).1
+begun_as-keeps shapes Ignored unit number slot asked there on still = started-keeps shapes slot number unit.shape asked there on still
+begun_as-keeps shapes Given unit number slot asked there on still = started-keeps shapes slot number unit.shape asked there on still
+begun_as-keeps shapes Reported unit number slot asked there on still =
+    started-keeps shapes slot number unit.shape (reported_as unit.attention asked) there (reported_on unit.shape.blocks unit.attention asked on) still
 
-pub started_none-keeps : (many : ℕ) (slot : SlotState) (asked : Result Work Sense) → waits slot.task ≡ false → Keeps many slot (started_none slot asked)
-started_none-keeps many slot (Ok work) still = none-keeps many slot work still
-started_none-keeps many slot (Err sense) still = rests-keeps many slot (started_none slot (Err sense)) refl still (refl, tt)
+pub begun-keeps : (shapes : List Shape) (unit : LogicalUnit) (number : ℕ) (set : CommandSet) (count : ℕ) (cdb : List ℕ) (slot : SlotState) →
+    slice_get shapes number ≡ Some unit.shape → IfOk (asked_of cdb set unit.shape count unit.attention) (StartsOn unit.shape.blocks) → waits slot.task ≡ false →
+    Keeps shapes slot (begun unit number set count cdb slot).1
+begun-keeps shapes unit number set count cdb slot there on still =
+    begun_as-keeps shapes (attention_of (slice_index cdb 0) set) unit number slot (asked_of cdb set unit.shape count unit.attention) there on still
+
+none-keeps : (shapes : List Shape) (slot : SlotState) (work : Work) → waits slot.task ≡ false → Keeps shapes slot (started_none_work slot work)
+none-keeps shapes slot Nothing still = rests-keeps shapes slot (started_none_work slot Nothing) refl still (refl, tt)
+none-keeps shapes slot (GivesWork given allocation) still =
+    rests-keeps shapes slot (started_none_work slot (GivesWork given allocation)) refl still (giving-rests shapes None (given_bytes given allocation) tt)
+none-keeps shapes slot (ReadsWork lba count) still = rests-keeps shapes slot (started_none_work slot (ReadsWork lba count)) refl still (refl, tt)
+none-keeps shapes slot (WritesWork lba count through) still = rests-keeps shapes slot (started_none_work slot (WritesWork lba count through)) refl still (refl, tt)
+none-keeps shapes slot (SynchronizesWork lba count) still = rests-keeps shapes slot (started_none_work slot (SynchronizesWork lba count)) refl still (refl, tt)
+none-keeps shapes slot (VerifiesWork lba count) still = rests-keeps shapes slot (started_none_work slot (VerifiesWork lba count)) refl still (refl, tt)
+none-keeps shapes slot (WritesAndVerifiesWork lba count compares) still =
+    rests-keeps shapes slot (started_none_work slot (WritesAndVerifiesWork lba count compares)) refl still (refl, tt)
+none-keeps shapes slot (ComparesWork lba count) still = rests-keeps shapes slot (started_none_work slot (ComparesWork lba count)) refl still (refl, tt)
+
+pub started_none-keeps : (shapes : List Shape) (slot : SlotState) (asked : Result Work Sense) → waits slot.task ≡ false → Keeps shapes slot (started_none slot asked)
+started_none-keeps shapes slot (Ok work) still = none-keeps shapes slot work still
+started_none-keeps shapes slot (Err sense) still = rests-keeps shapes slot (started_none slot (Err sense)) refl still (refl, tt)
 
 -- A REQUEST IS ANSWERED: nothing is out any more
 
-after_answer-within : (many : ℕ) (outcome : Outcome) (chunk : ℕ) (task : Option Task) → IfSome task (IsTaskWithin many) →
-    IfSome (option_map (after_answer outcome chunk) task) (IsTaskWithin many)
-after_answer-within many outcome chunk None within = tt
-after_answer-within many outcome chunk (Some (Giving unit at)) within = tt
-after_answer-within many outcome chunk (Some (Blocks unit job Asking)) within = within
-after_answer-within many outcome chunk (Some (Blocks unit job Waiting)) within = by_outcome outcome
+after_answer-within : (shapes : List Shape) (outcome : Outcome) (chunk : ℕ) (task : Option Task) → IfSome task (IsTaskWithin shapes) →
+    IfSome (option_map (after_answer outcome chunk) task) (IsTaskWithin shapes)
+after_answer-within shapes outcome chunk None within = tt
+after_answer-within shapes outcome chunk (Some (Giving unit at)) within = within
+after_answer-within shapes outcome chunk (Some (Blocks unit job Asking)) within = within
+after_answer-within shapes outcome chunk (Some (Blocks unit job Waiting)) within = by_outcome outcome
   where
-    done : (kind : JobKind) → IsTaskWithin many (done_by kind chunk unit job)
+    done : (kind : JobKind) → IsTaskWithin shapes (done_by kind chunk unit job)
     done Reads = within
-    done (Writes through) = (next_chunk-rests many chunk unit job within).1
-    done Compares = (next_chunk-rests many chunk unit job within).1
-    done Verifies = tt
-    done Synchronizes = tt
+    done (Writes through) = (next_chunk-rests shapes chunk unit job within).1
+    done Compares = (next_chunk-rests shapes chunk unit job within).1
+    done Verifies = job_there shapes unit job within
+    done Synchronizes = job_there shapes unit job within
     done (WritesAndVerifies compares false) = within
-    done (WritesAndVerifies compares true) = (next_chunk-rests many chunk unit (record job { kind = WritesAndVerifies compares false }) within).1
+    done (WritesAndVerifies compares true) = (next_chunk-rests shapes chunk unit (record job { kind = WritesAndVerifies compares false }) within).1
 
-    by_outcome : (outcome : Outcome) → IsTaskWithin many (after_outcome outcome chunk unit job)
+    by_outcome : (outcome : Outcome) → IsTaskWithin shapes (after_outcome outcome chunk unit job)
     by_outcome Done = done job.kind
-    by_outcome Differs = tt
-    by_outcome MediumError = tt
-    by_outcome NotReady = tt
-after_answer-within many outcome chunk (Some (Blocks unit job (Moving at))) within = within
-after_answer-within many outcome chunk (Some (Ended unit answer)) within = tt
-after_answer-within many outcome chunk (Some (Held unit code)) within = tt
+    by_outcome Differs = job_there shapes unit job within
+    by_outcome MediumError = job_there shapes unit job within
+    by_outcome NotReady = job_there shapes unit job within
+after_answer-within shapes outcome chunk (Some (Blocks unit job (Moving at))) within = within
+after_answer-within shapes outcome chunk (Some (Ended unit answer)) within = within
+after_answer-within shapes outcome chunk (Some (Held unit code)) within = within
 
-pub answered-within : (many : ℕ) (slot : SlotState) (out : Out) (outcome : Outcome) (new : List ℕ) → IsWithin many slot →
-    IsWithin many (answered_slot slot out outcome new)
-answered-within many slot out outcome new was = record { task = after_answer-within many outcome slot.chunk slot.task was.task; written = tt }
+pub answered-within : (shapes : List Shape) (slot : SlotState) (out : Out) (outcome : Outcome) (new : List ℕ) → IsWithin shapes slot →
+    IsWithin shapes (answered_slot slot out outcome new)
+answered-within shapes slot out outcome new was = record { task = after_answer-within shapes outcome slot.chunk slot.task was.task; written = tt }
 
 -- and nothing is stale
 none-either : (b : Bool) (unit : Option ℕ) → unit ≡ None → cond b None unit ≡ None
@@ -331,12 +357,12 @@ waits_if : (b c d : Bool) (len : ℕ) → IsSome (cond (b && c && d) (Some len) 
 waits_if true c d len some = refl
 waits_if false c d len some = absurd (false≢true some)
 
-pub passed-keeps : (many : ℕ) (slot : SlotState) (out : Out) → IsSome (passing_out slot out) → IsWithin many slot → Keeps many slot (passed_out slot out)
-passed-keeps many slot out some was =
+pub passed-keeps : (shapes : List Shape) (slot : SlotState) (out : Out) → IsSome (passing_out slot out) → IsWithin shapes slot → Keeps shapes slot (passed_out slot out)
+passed-keeps shapes slot out some was =
     let waits_is : waits slot.task ≡ true = waits_if (waits slot.task) (is_read out.request) (is_done Done) out.len some in
     let none : stale_unit slot ≡ None = rw waits_is refl in
-    let within : IsWithin many (done_slot slot) = record { task = after_answer-within many Done slot.chunk slot.task was.task; written = tt } in
-    let gave = gave-keeps many (done_slot slot) out.len within in
+    let within : IsWithin shapes (done_slot slot) = record { task = after_answer-within shapes Done slot.chunk slot.task was.task; written = tt } in
+    let gave = gave-keeps shapes (done_slot slot) out.len within in
     record {
       within = λ before. gave.within within;
       stale = gave.stale ∙ none-either (waits (done_slot slot).task) None refl ∙ sym none;
@@ -344,16 +370,16 @@ passed-keeps many slot out some was =
 
 -- A TASK IS GONE
 
-pub without-within : (many : ℕ) (slot : SlotState) → IsWithin many slot → IsWithin many (with_task slot None)
-without-within many slot was = record { task = tt; written = was.written }
+pub without-within : (shapes : List Shape) (slot : SlotState) → IsWithin shapes slot → IsWithin shapes (with_task slot None)
+without-within shapes slot was = record { task = tt; written = was.written }
 
-spared-task : (many : ℕ) (ends : Bool) (task : Option Task) → IfSome task (IsTaskWithin many) → IfSome (cond ends None task) (IsTaskWithin many)
-spared-task many true task within = tt
-spared-task many false task within = within
+spared-task : (shapes : List Shape) (ends : Bool) (task : Option Task) → IfSome task (IsTaskWithin shapes) → IfSome (cond ends None task) (IsTaskWithin shapes)
+spared-task shapes true task within = tt
+spared-task shapes false task within = within
 
-pub spared-within : (many unit : ℕ) (slot : SlotState) → IsWithin many slot → IsWithin many (spared_slot unit slot)
-spared-within many unit slot was =
-    record { task = spared-task many (option_map_or (is_command_of unit) slot.task false) slot.task was.task; written = was.written }
+pub spared-within : (shapes : List Shape) (unit : ℕ) (slot : SlotState) → IsWithin shapes slot → IsWithin shapes (spared_slot unit slot)
+spared-within shapes unit slot was =
+    record { task = spared-task shapes (option_map_or (is_command_of unit) slot.task false) slot.task was.task; written = was.written }
 
 -- WHERE A TAG ISN'T HELD it wants what its slot wants
 

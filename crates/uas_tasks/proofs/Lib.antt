@@ -6,3 +6,5 @@ pub mod Places
 pub mod Machines
 pub mod Received
 pub mod Passing
+pub mod Restoring
+pub mod Kept

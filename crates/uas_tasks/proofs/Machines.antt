@@ -1,12 +1,12 @@
 -- What the calls on a logical unit make of a device, from what they read. Cited by the answers of the receiver and of task
 -- management.
-use Rattle.std.proofs.Common.{◌≡◌, ℕ, zero, suc, ◌-◌, ◌*◌, ◌<◌, ◌≤◌, Bool, true, false, ◌&&◌, cond, List, [], ◌∷◌, length, map, replicate, Option, Some, None, refl, arith, ap, sym, subst, ◌∙◌}
+use Rattle.std.proofs.Common.{◌≡◌, ℕ, zero, suc, ◌-◌, ◌*◌, ◌<◌, ◌≤◌, Bool, true, false, ◌&&◌, cond, List, [], ◌∷◌, length, map, replicate, Option, Some, None, IfSome, refl, arith, ap, sym, subst, ◌∙◌, length-set}
 use Rattle.std.specs.Prelude.{is_some, ◌==◌, slice_get, slice_index, slice_index_or, slice_set}
 use Rattle.std.specs.List.{list_any}
 use Rattle.std.proofs.lemmas.Bool.Decides.{nat_tests}
 use Rattle.std.proofs.lemmas.Option.{slice_get-get_or}
 use Rattle.host_commands.specs.declared.CommandSet.{CommandSet}
-use Rattle.uas_target.specs.Fields.{addressed}
+use Rattle.uas_target.specs.Fields.{addressed, is_plain_lun}
 use Rattle.uas_profile.specs.declared.TheConstants.{GREATEST_TAG}
 use Rattle.uas_tasks.specs.declared.LogicalUnit.{LogicalUnit}
 use Rattle.host_commands.specs.declared.UnitAttention.{UnitAttention}
@@ -17,7 +17,7 @@ use Rattle.uas_tasks.specs.declared.Wants.TheVariants.{Asks}
 use Rattle.uas_tasks.specs.Machine.{Machine, aborted_on, attentive, begun, completed, executed_on, greatest_block, has_stale, has_task, made, managed, next_asked, next_by, no_slot}
 use Rattle.uas_tasks.specs.Machine.{queried_on, reset_on, responded, slot_of, slot_under, with_slot_under, without_command}
 use Rattle.uas_tasks.specs.Slots.{SlotState, asked_slot, fresh_slot, has_command, is_tag, spared, spared_slot}
-use Rattle.uas_tasks.specs.Soundness.{IsAnswer, IsSoundMachine, IsWithin}
+use Rattle.uas_tasks.specs.Soundness.{IsAnswer, IsSoundMachine, IsWithin, shapes_of}
 use Rattle.uas_tasks.proofs.Counts.{Keeps}
 use Rattle.uas_tasks.proofs.Keeping.{free_still, waits}
 use Rattle.uas_tasks.proofs.Places.{IsSoundMachine-slot, slot_read, there, under_so}
@@ -63,7 +63,7 @@ reset_there machine number lun unit found is after after_is ended ended_is answe
 -- the slot of a tag that a task may have was read, and one with its chunk and its buffer's length is written
 pub tag_sound : (units : List LogicalUnit) (stale : List ℕ) (slots : List SlotState) (tag number : ℕ) (read now : SlotState) →
     IsSoundMachine units stale slots → is_tag tag ≡ true → number ≡ tag → read ≡ slice_index_or slots (number - 1) read → now.chunk ≡ read.chunk →
-    length now.bytes ≡ length read.bytes → Keeps (length units) read now → IsSoundMachine units stale (slice_set slots (number - 1) now)
+    length now.bytes ≡ length read.bytes → Keeps (shapes_of units) read now → IsSoundMachine units stale (slice_set slots (number - 1) now)
 tag_sound units stale slots tag number read now sound is same value chunk len keeps =
     let here = tag_there tag slots is sound.places in
     let within : number - 1 < length slots = omega (arith, here.1, same) in
@@ -120,40 +120,69 @@ managed_free machine function named lun tag free =
     (if_free (function == 128) (queried_on machine number named unit) (machine, responded 4) tag (queried_free machine number named tag unit free) free))
 
 -- and the answer of a function is one
-either_answers : (b : Bool) (one other : Task) → IsAnswer one → IsAnswer other → IsAnswer (cond b one other)
-either_answers true one other first second = first
-either_answers false one other first second = second
+either_answers : (many : ℕ) (b : Bool) (one other : Task) → IsAnswer many one → IsAnswer many other → IsAnswer many (cond b one other)
+either_answers many true one other first second = first
+either_answers many false one other first second = second
 
-aborted_answers : (machine : Machine) (number named : ℕ) (unit : Option LogicalUnit) → IsAnswer (aborted_on machine number named unit).1
-aborted_answers machine number named None = tt
-aborted_answers machine number named (Some unit) =
-    either_answers (has_command number (slot_of machine named) && has_stale (without_command machine number named) number) (Held number 0) (responded 0) tt tt
+-- of one of the logical units, as many as there were
+abbrev Answers : Machine → Machine × Task → Type 0
+Answers machine after = (length after.0.units ≡ length machine.units) × IsAnswer (length machine.units) after.1
 
-reset_answers : (machine : Machine) (number : ℕ) (unit : Option LogicalUnit) → IsAnswer (reset_on machine number unit).1
-reset_answers machine number None = tt
-reset_answers machine number (Some unit) =
-    either_answers (list_any (has_command number) machine.slots && has_stale (reset_on machine number (Some unit)).0 number) (Held number 0) (responded 0) tt tt
+aborted_answers : (machine : Machine) (number named : ℕ) (unit : Option LogicalUnit) → IfSome unit (λ found. number < length machine.units) →
+    Answers machine (aborted_on machine number named unit)
+aborted_answers machine number named None here = (refl, tt)
+aborted_answers machine number named (Some unit) here = (
+  refl,
+  either_answers (length machine.units) (has_command number (slot_of machine named) && has_stale (without_command machine number named) number) (Held number 0)
+      (responded 0) here tt,
+)
 
-queried_answers : (machine : Machine) (number named : ℕ) (unit : Option LogicalUnit) → IsAnswer (queried_on machine number named unit).1
-queried_answers machine number named None = tt
-queried_answers machine number named (Some unit) = tt
+reset_answers : (machine : Machine) (number : ℕ) (unit : Option LogicalUnit) → IfSome unit (λ found. number < length machine.units) →
+    Answers machine (reset_on machine number unit)
+reset_answers machine number None here = (refl, tt)
+reset_answers machine number (Some unit) here = (
+  length-set machine.units number (attentive unit),
+  either_answers (length machine.units) (list_any (has_command number) machine.slots && has_stale (reset_on machine number (Some unit)).0 number) (Held number 0)
+      (responded 0) here tt,
+)
 
-if_answers : (b : Bool) (one other : Machine × Task) → IsAnswer one.1 → IsAnswer other.1 → IsAnswer (cond b one other).1
-if_answers true one other first second = first
-if_answers false one other first second = second
+queried_answers : (machine : Machine) (number named : ℕ) (unit : Option LogicalUnit) → Answers machine (queried_on machine number named unit)
+queried_answers machine number named None = (refl, tt)
+queried_answers machine number named (Some unit) = (refl, tt)
 
-pub managed_answers : (machine : Machine) (function named : ℕ) (lun : List ℕ) → IsAnswer (managed machine function named lun).1
+if_answers : (machine : Machine) (b : Bool) (one other : Machine × Task) → Answers machine one → Answers machine other → Answers machine (cond b one other)
+if_answers machine true one other first second = first
+if_answers machine false one other first second = second
+
+addressed_there : (units : List LogicalUnit) (lun : List ℕ) → IfSome (addressed units lun) (λ found. slice_index lun 1 < length units)
+addressed_there units lun =
+    elim (is_plain_lun lun) as (λ b. IfSome (cond b (slice_get units (slice_index lun 1)) None) (λ found. slice_index lun 1 < length units)) [
+      | true ↦ by_get units (slice_index lun 1)
+      | false ↦ tt
+    ]
+  where
+    by_get : (units : List LogicalUnit) (number : ℕ) → IfSome (slice_get units number) (λ found. number < length units)
+    by_get [] number = tt
+    by_get (unit ∷ units) zero = omega arith
+    by_get (unit ∷ units) (suc number) =
+        elim (slice_get units number) as (λ found. IfSome found (λ u. number < length units) → IfSome found (λ u. suc number < suc (length units))) [
+          | None ↦ λ here. tt
+          | Some found ↦ λ here. omega arith
+        ] (by_get units number)
+
+pub managed_answers : (machine : Machine) (function named : ℕ) (lun : List ℕ) → Answers machine (managed machine function named lun)
 managed_answers machine function named lun =
     let number : ℕ = slice_index lun 1 in
     let unit : Option LogicalUnit = addressed machine.units lun in
-    if_answers (function == 1) (aborted_on machine number named unit) _ (aborted_answers machine number named unit)
-    (if_answers (function == 8) (reset_on machine number unit) _ (reset_answers machine number unit)
-    (if_answers (function == 128) (queried_on machine number named unit) (machine, responded 4) (queried_answers machine number named unit) tt))
+    let here = addressed_there machine.units lun in
+    if_answers machine (function == 1) (aborted_on machine number named unit) _ (aborted_answers machine number named unit here)
+    (if_answers machine (function == 8) (reset_on machine number unit) _ (reset_answers machine number unit here)
+    (if_answers machine (function == 128) (queried_on machine number named unit) (machine, responded 4) (queried_answers machine number named unit) (refl, tt)))
 
 -- so where something is so of the slot that isn't so of none
 pub there_sound : (P : SlotState → Type 0) → (P no_slot → ⊥) → (units : List LogicalUnit) (stale : List ℕ) (slots : List SlotState) (tag number : ℕ)
     (read now : SlotState) → IsSoundMachine units stale slots → P (slot_under slots tag) → number ≡ tag → read ≡ slice_index_or slots (number - 1) read →
-    now.chunk ≡ read.chunk → length now.bytes ≡ length read.bytes → (P read → IsWithin (length units) read → Keeps (length units) read now) →
+    now.chunk ≡ read.chunk → length now.bytes ≡ length read.bytes → (P read → IsWithin (shapes_of units) read → Keeps (shapes_of units) read now) →
     IsSoundMachine units stale (slice_set slots (number - 1) now)
 there_sound P none units stale slots tag number read now sound so same value chunk len keeps =
     let here = there P none slots tag so in

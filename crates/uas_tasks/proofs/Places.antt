@@ -2,7 +2,7 @@
 -- call of a device.
 use Rattle.std.proofs.Common.{◌≡◌, ℕ, zero, suc, ◌+◌, ◌-◌, ◌*◌, ◌<◌, ◌≤◌, Bool, true, false, cond, List, [], ◌∷◌, ◌++◌, length, map, replicate, take, drop, All}
 use Rattle.std.proofs.Common.{Option, Some, None, refl, arith, ap, sym, ◌∙◌, subst, inl, inr, length-set, mul-zero, add-one, drop-cons}
-use Rattle.std.specs.Prelude.{count_by, is_some, slice_index_or, slice_set, ◌==◌}
+use Rattle.std.specs.Prelude.{count_by, is_some, slice_get, slice_index_or, slice_set, ◌==◌}
 use Rattle.std.specs.List.{list_any}
 use Rattle.std.proofs.lemmas.Bool.{cases_lt, or_parts}
 use Rattle.std.proofs.lemmas.List.{append-nil, drop_all, get_or_default, get_or_past, length-map, take_all}
@@ -11,13 +11,13 @@ use Rattle.std.proofs.lemmas.List.Elements.{All-get_or, All-map, All-replicate, 
 use Rattle.std.proofs.Math.Seq.{map-set_same, take-append_seam}
 use Rattle.host_commands.specs.declared.BlockLength.{BlockLength}
 use Rattle.host_commands.specs.declared.BlockLength.TheVariants.{Bytes512, Bytes4096}
-use Rattle.host_commands.specs.Shapes.{block_bytes}
+use Rattle.host_commands.specs.Shapes.{Shape, block_bytes}
 use Rattle.uas_profile.specs.declared.TheConstants.{GREATEST_TAG, MAX_UNITS}
 use Rattle.uas_tasks.specs.declared.LogicalUnit.{LogicalUnit}
 use Rattle.uas_tasks.specs.declared.slot.Out.{Out}
 use Rattle.uas_tasks.specs.Machine.{attentive, greatest_block, is_long, is_long_block, no_slot, number_of, out_on, powered, slot_under, stale_from, with_slot_under}
 use Rattle.uas_tasks.specs.Slots.{SlotState, fresh_slot}
-use Rattle.uas_tasks.specs.Soundness.{AreCounted, EachFits, HasRoom, IsSoundMachine, IsWithin, lengths_of}
+use Rattle.uas_tasks.specs.Soundness.{AreCounted, EachFits, HasRoom, IsSoundMachine, IsWithin, IsWritten, lengths_of, shapes_of}
 use Rattle.uas_tasks.specs.Stale.{is_stale, stale_unit}
 use Rattle.uas_tasks.proofs.Counts.{AreCounted-kept, Keeps}
 
@@ -71,20 +71,20 @@ HasRoom-kept : (lengths : List BlockLength) (before after : SlotState) → after
     HasRoom lengths before → HasRoom lengths after
 HasRoom-kept lengths before after chunk len room = rw (chunk, len) room
 
-room_at : (units : List LogicalUnit) (stale : List ℕ) (slots : List SlotState) (place : ℕ) (read : SlotState) → IsSoundMachine units stale slots →
+pub room_at : (units : List LogicalUnit) (stale : List ℕ) (slots : List SlotState) (place : ℕ) (read : SlotState) → IsSoundMachine units stale slots →
     place < length slots → read ≡ slice_index_or slots place read → HasRoom (lengths_of units) read
 room_at units stale slots place read sound within is =
     subst (HasRoom (lengths_of units)) (sym is) (All-get_or (HasRoom (lengths_of units)) slots place read within sound.rooms)
 
 pub within_at : (units : List LogicalUnit) (stale : List ℕ) (slots : List SlotState) (place : ℕ) (read : SlotState) → IsSoundMachine units stale slots →
-    place < length slots → read ≡ slice_index_or slots place read → IsWithin (length units) read
+    place < length slots → read ≡ slice_index_or slots place read → IsWithin (shapes_of units) read
 within_at units stale slots place read sound within is =
-    subst (IsWithin (length units)) (sym is) (All-get_or (IsWithin (length units)) slots place read within sound.within)
+    subst (IsWithin (shapes_of units)) (sym is) (All-get_or (IsWithin (shapes_of units)) slots place read within sound.within)
 
 -- where a slot is written that keeps its chunk and its buffer's length, and the stale requests are counted then
 pub IsSoundMachine-written : (units : List LogicalUnit) (stale after : List ℕ) (slots : List SlotState) (place : ℕ) (read now : SlotState) →
     IsSoundMachine units stale slots → place < length slots → read ≡ slice_index_or slots place read → now.chunk ≡ read.chunk →
-    length now.bytes ≡ length read.bytes → (IsWithin (length units) read → IsWithin (length units) now) → length after ≡ length stale →
+    length now.bytes ≡ length read.bytes → (IsWithin (shapes_of units) read → IsWithin (shapes_of units) now) → length after ≡ length stale →
     AreCounted after (slice_set slots place now) → IsSoundMachine units after (slice_set slots place now)
 IsSoundMachine-written units stale after slots place read now sound within is chunk len keeps many counted =
     let room = room_at units stale slots place read sound within is in
@@ -93,14 +93,14 @@ IsSoundMachine-written units stale after slots place read now sound within is ch
       places = length-set slots place now ∙ sound.places;
       rooms = All-set (HasRoom (lengths_of units)) slots place now (HasRoom-kept (lengths_of units) read now chunk len room) sound.rooms;
       many = many ∙ sound.many;
-      within = All-set (IsWithin (length units)) slots place now (keeps (within_at units stale slots place read sound within is)) sound.within;
+      within = All-set (IsWithin (shapes_of units)) slots place now (keeps (within_at units stale slots place read sound within is)) sound.within;
       counts = counted;
     }
 
 -- and where the same is stale
 pub IsSoundMachine-slot : (units : List LogicalUnit) (stale : List ℕ) (slots : List SlotState) (place : ℕ) (read now : SlotState) →
     IsSoundMachine units stale slots → place < length slots → read ≡ slice_index_or slots place read → now.chunk ≡ read.chunk →
-    length now.bytes ≡ length read.bytes → (IsWithin (length units) read → Keeps (length units) read now) → IsSoundMachine units stale (slice_set slots place now)
+    length now.bytes ≡ length read.bytes → (IsWithin (shapes_of units) read → Keeps (shapes_of units) read now) → IsSoundMachine units stale (slice_set slots place now)
 IsSoundMachine-slot units stale slots place read now sound within is chunk len keeps =
     let kept = keeps (within_at units stale slots place read sound within is) in
     IsSoundMachine-written units stale stale slots place read now sound within is chunk len kept.within refl
@@ -109,23 +109,36 @@ IsSoundMachine-slot units stale slots place read now sound within is chunk len k
 All-mapped : {T : Type 0} (P : T → Type 0) (f : T → T) (xs : List T) → ((x : T) → P x → P (f x)) → All P xs → All P (map f xs)
 All-mapped P f xs keeps all = All-map P f xs (All-weaker P (λ x. P (f x)) keeps xs all)
 
--- where the logical units keep the lengths of their blocks
+lengths_of-shapes : (units : List LogicalUnit) → lengths_of units ≡ map (λ (shape : Shape). shape.block_length) (shapes_of units)
+lengths_of-shapes [] = refl
+lengths_of-shapes (unit ∷ units) = ap (λ rest. unit.shape.block_length ∷ rest) (lengths_of-shapes units)
+
+-- where the logical units keep their shapes
 pub IsSoundMachine-units : (units after : List LogicalUnit) (stale : List ℕ) (slots : List SlotState) → IsSoundMachine units stale slots →
-    lengths_of after ≡ lengths_of units → length after ≡ length units → IsSoundMachine after stale slots
-IsSoundMachine-units units after stale slots sound same many = record {
-  most_units = omega (arith, many, sound.most_units);
-  places = sound.places;
-  rooms = rw same sound.rooms;
-  many = sound.many ∙ sym many;
-  within = rw many sound.within;
-  counts = sound.counts;
-}
+    shapes_of after ≡ shapes_of units → IsSoundMachine after stale slots
+IsSoundMachine-units units after stale slots sound same =
+    let many : length after ≡ length units = sym (length-map after (λ unit. unit.shape)) ∙ ap length same ∙ length-map units (λ unit. unit.shape) in
+    record {
+      most_units = omega (arith, many, sound.most_units);
+      places = sound.places;
+      rooms = rw (lengths_of-shapes after, same, ← lengths_of-shapes units) sound.rooms;
+      many = sound.many ∙ sym many;
+      within = rw same sound.within;
+      counts = sound.counts;
+    }
+
+-- the shape of one that was read
+pub shape_read : (units : List LogicalUnit) (number : ℕ) (read : LogicalUnit) → number < length units → read ≡ slice_index_or units number read →
+    slice_get (shapes_of units) number ≡ Some read.shape
+shape_read [] number read within is = absurd (omega arith)
+shape_read (unit ∷ units) zero read within is = ap (λ (u : LogicalUnit). Some u.shape) (sym is)
+shape_read (unit ∷ units) (suc number) read within is = shape_read units number read (omega arith) is
 
 -- one logical unit has another attention
-pub lengths_of-set : (units : List LogicalUnit) (number : ℕ) (read after : LogicalUnit) → read ≡ slice_index_or units number read →
-    after.shape.block_length ≡ read.shape.block_length → lengths_of (slice_set units number after) ≡ lengths_of units
-lengths_of-set units number read after is same =
-    let f : LogicalUnit → BlockLength = λ unit. unit.shape.block_length in
+pub shapes_of-set : (units : List LogicalUnit) (number : ℕ) (read after : LogicalUnit) → read ≡ slice_index_or units number read →
+    after.shape ≡ read.shape → shapes_of (slice_set units number after) ≡ shapes_of units
+shapes_of-set units number read after is same =
+    let f : LogicalUnit → Shape = λ unit. unit.shape in
     map-set_same f units number after read (same ∙ ap f is)
 
 -- a chunk of the logical unit of a number has room in a slot
@@ -142,14 +155,24 @@ room_of units stale slots place number read unit sound within is there unit_is =
     let P : LogicalUnit → Type 0 = λ u. read.chunk * block_bytes u.shape.block_length ≤ length read.bytes in
     subst P (sym unit_is) (unit_room units number unit read (room_at units stale slots place read sound within is) there)
 
+pub shapes_many : (units : List LogicalUnit) → length (shapes_of units) ≡ length units
+shapes_many units = length-map units (λ unit. unit.shape)
+
+-- a Write that is out is of a logical unit whose stale requests are counted
+pub written_there : (units : List LogicalUnit) (stale : List ℕ) (slots : List SlotState) (slot : SlotState) → IsSoundMachine units stale slots →
+    IsWithin (shapes_of units) slot → IsWritten (length stale) slot
+written_there units stale slots slot sound within = rw (sound.many, ← shapes_many units) within.written
+
 -- where every slot is changed and keeps its chunk and its buffer
 pub within-map : (units : List LogicalUnit) (stale : List ℕ) (slots : List SlotState) (f : SlotState → SlotState) → IsSoundMachine units stale slots →
-    ((slot : SlotState) → IsWithin (length units) slot → IsWithin (length units) (f slot)) → All (IsWithin (length stale)) (map f slots)
-within-map units stale slots f sound keeps = rw sound.many (All-mapped (IsWithin (length units)) f slots keeps sound.within)
+    ((slot : SlotState) → IsWithin (shapes_of units) slot → IsWithin (shapes_of units) (f slot)) → All (IsWritten (length stale)) (map f slots)
+within-map units stale slots f sound keeps =
+    All-weaker (IsWithin (shapes_of units)) (IsWritten (length stale)) (λ slot within. written_there units stale slots slot sound within) (map f slots)
+    (All-mapped (IsWithin (shapes_of units)) f slots keeps sound.within)
 
 pub IsSoundMachine-map : (units : List LogicalUnit) (stale after : List ℕ) (slots : List SlotState) (f : SlotState → SlotState) →
     IsSoundMachine units stale slots → ((slot : SlotState) → (f slot).chunk ≡ slot.chunk) → ((slot : SlotState) → (f slot).bytes ≡ slot.bytes) →
-    ((slot : SlotState) → IsWithin (length units) slot → IsWithin (length units) (f slot)) → length after ≡ length stale →
+    ((slot : SlotState) → IsWithin (shapes_of units) slot → IsWithin (shapes_of units) (f slot)) → length after ≡ length stale →
     AreCounted after (map f slots) → IsSoundMachine units after (map f slots)
 IsSoundMachine-map units stale after slots f sound chunk bytes keeps many counted = record {
   most_units = sound.most_units;
@@ -157,14 +180,14 @@ IsSoundMachine-map units stale after slots f sound chunk bytes keeps many counte
   rooms = All-mapped (HasRoom (lengths_of units)) f slots
       (λ slot room. HasRoom-kept (lengths_of units) slot (f slot) (chunk slot) (ap length (bytes slot)) room) sound.rooms;
   many = many ∙ sound.many;
-  within = All-mapped (IsWithin (length units)) f slots keeps sound.within;
+  within = All-mapped (IsWithin (shapes_of units)) f slots keeps sound.within;
   counts = counted;
 }
 
--- attentions are nothing to the lengths of blocks
-pub lengths_of-attentive : (units : List LogicalUnit) → lengths_of (map attentive units) ≡ lengths_of units
-lengths_of-attentive [] = refl
-lengths_of-attentive (unit ∷ units) = ap (λ rest. unit.shape.block_length ∷ rest) (lengths_of-attentive units)
+-- attentions are nothing to shapes
+pub shapes_of-attentive : (units : List LogicalUnit) → shapes_of (map attentive units) ≡ shapes_of units
+shapes_of-attentive [] = refl
+shapes_of-attentive (unit ∷ units) = ap (λ rest. unit.shape ∷ rest) (shapes_of-attentive units)
 
 -- as many items, written over all of a list
 pub written_over : {T : Type 0} (len : ℕ) (items now : List T) → len ≡ length items → length now ≡ length items →
@@ -173,9 +196,9 @@ written_over len items now whole many =
     let same : len ≡ length now = whole ∙ sym many in
     rw same (take-append_seam now (drop (length now) items))
 
-pub lengths_of-powered : (units : List LogicalUnit) → lengths_of (map powered units) ≡ lengths_of units
-lengths_of-powered [] = refl
-lengths_of-powered (unit ∷ units) = ap (λ rest. unit.shape.block_length ∷ rest) (lengths_of-powered units)
+pub shapes_of-powered : (units : List LogicalUnit) → shapes_of (map powered units) ≡ shapes_of units
+shapes_of-powered [] = refl
+shapes_of-powered (unit ∷ units) = ap (λ rest. unit.shape ∷ rest) (shapes_of-powered units)
 
 -- so many items changed, of which there are no more
 pub map-all : {T : Type 0} (f : T → T) (items now : List T) (many : ℕ) → now ≡ map f (take many items) ++ drop many items →
@@ -239,7 +262,7 @@ opening_sound units chunk room most is =
       places = length_replicate GREATEST_TAG (fresh_slot chunk room);
       rooms = All-replicate P GREATEST_TAG (fresh_slot chunk room) fits;
       many = length_replicate (length units) 0;
-      within = All-replicate (IsWithin (length units)) GREATEST_TAG (fresh_slot chunk room) (record { task = tt; written = tt });
+      within = All-replicate (IsWithin (shapes_of units)) GREATEST_TAG (fresh_slot chunk room) (record { task = tt; written = tt });
       counts = fresh_counted (length units) GREATEST_TAG chunk room;
     }
 

@@ -3,4 +3,5 @@ pub mod Slots
 pub mod Stale
 pub mod Machine
 pub mod Soundness
+pub mod Saved
 pub mod Laws

@@ -165,6 +165,24 @@ first_stage Verifies = Asking
 first_stage Synchronizes = Asking
 first_stage (WritesAndVerifies compares has_written) = Moving 0
 
+-- the kinds whose bytes move; those of a WRITE AND VERIFY do before its chunk is written
+abbrev pub is_moved : JobKind → Bool
+is_moved Reads = true
+is_moved (Writes through) = true
+is_moved Compares = true
+is_moved Verifies = false
+is_moved Synchronizes = false
+is_moved (WritesAndVerifies compares has_written) = not has_written
+
+-- those with which a chunk begins
+abbrev pub is_begun : JobKind → Bool
+is_begun Reads = true
+is_begun (Writes through) = true
+is_begun Compares = true
+is_begun Verifies = true
+is_begun Synchronizes = true
+is_begun (WritesAndVerifies compares has_written) = not has_written
+
 -- the chunk is done: the next one, or the end
 abbrev pub next_chunk : ℕ → ℕ → Job → Task
 next_chunk chunk unit job =
@@ -320,11 +338,11 @@ took_slot slot new = record slot {
 -- THE BEGINNING OF A COMMAND
 
 -- data of the device; none are GOOD at once
+abbrev pub giving_task : Option ℕ → ℕ → Task
+giving_task unit many = if many == 0 then Ended unit (Status Good) else Giving unit 0
+
 abbrev pub giving_slot : SlotState → Option ℕ → List ℕ → SlotState
-giving_slot slot unit given = record slot {
-  task = Some (if length given == 0 then Ended unit (Status Good) else Giving unit 0);
-  given = given;
-}
+giving_slot slot unit given = record slot { task = Some (giving_task unit (length given)); given = given }
 
 -- a command on blocks; no blocks are GOOD at once
 abbrev pub job_task : ℕ → JobKind → BlockLength → ℕ → ℕ → Task

@@ -1,11 +1,12 @@
 -- What is true of every slot and of the device.
-use Rattle.std.specs.Prelude.{◌≡◌, ℕ, ◌+◌, ◌-◌, ◌*◌, ◌^◌, ◌<◌, ◌≤◌, All, List, [], ◌∷◌, length, map, count_by, slice_index_or, slice_set, Option, Some, None, IfSome}
+use Rattle.std.specs.Prelude.{◌≡◌, ℕ, ◌+◌, ◌-◌, ◌*◌, ◌^◌, ◌<◌, ◌≤◌, All, List, [], ◌∷◌, length, map, count_by, slice_get, slice_index_or, slice_set, Option, Some, None, IfSome, MatchOption, true}
 use Rattle.host_commands.specs.declared.BlockLength.{BlockLength}
 use Rattle.host_commands.specs.declared.Work.{Work}
 use Rattle.host_commands.specs.declared.Work.TheVariants.{Nothing, Gives as GivesWork, Reads as ReadsWork, Writes as WritesWork, Synchronizes as SynchronizesWork}
 use Rattle.host_commands.specs.declared.Work.TheVariants.{Verifies as VerifiesWork, Compares as ComparesWork, WritesAndVerifies as WritesAndVerifiesWork}
 use Rattle.host_commands.specs.Data.{IsOfDevice}
-use Rattle.host_commands.specs.Shapes.{block_bytes}
+use Rattle.host_commands.specs.declared.TheConstants.{MOST_DATA_BYTES}
+use Rattle.host_commands.specs.Shapes.{Shape, block_bytes}
 use Rattle.uas_profile.specs.declared.TheConstants.{GREATEST_TAG, MAX_UNITS}
 use Rattle.uas_tasks.specs.declared.Job.{Job}
 use Rattle.uas_tasks.specs.declared.LogicalUnit.{LogicalUnit}
@@ -15,7 +16,7 @@ use Rattle.uas_tasks.specs.declared.Task.{Task}
 use Rattle.uas_tasks.specs.declared.Task.TheVariants.{Giving, Blocks, Ended, Held}
 use Rattle.uas_tasks.specs.declared.Wants.{Wants}
 use Rattle.uas_tasks.specs.declared.Wants.TheVariants.{Absent, Asks, Waits, Gives, Takes, Ends}
-use Rattle.uas_tasks.specs.Slots.{SlotState, chunk_bytes}
+use Rattle.uas_tasks.specs.Slots.{SlotState, chunk_bytes, is_moved}
 use Rattle.uas_tasks.specs.Stale.{is_stale, writes_out}
 
 -- it has blocks left, which are below 2^48
@@ -25,11 +26,11 @@ pub record IsSoundJob (job : Job) : Type 0 where
   pub some : 0 < job.block_bytes
   pub most : job.block_bytes ≤ 4096
 
--- bytes of the chunk are left to move
+-- bytes of the chunk are left to move, of a kind whose bytes move
 abbrev pub IsSoundStage : ℕ → Job → Stage → Type 0
 IsSoundStage chunk job Asking = Unit {0}
 IsSoundStage chunk job Waiting = Unit {0}
-IsSoundStage chunk job (Moving at) = at < chunk_bytes chunk job
+IsSoundStage chunk job (Moving at) = (at < chunk_bytes chunk job) × (is_moved job.kind ≡ true)
 
 abbrev pub IsSoundTask : ℕ → ℕ → Task → Type 0
 IsSoundTask chunk given (Giving unit at) = at < given
@@ -44,12 +45,16 @@ IsSoundWork chunk (Blocks unit job stage) = IsSoundJob job × IsSoundStage chunk
 IsSoundWork chunk (Ended unit answer) = Unit {0}
 IsSoundWork chunk (Held unit code) = Unit {0}
 
+-- the number of one of so many logical units, or none
+abbrev pub IsUnit : ℕ → Option ℕ → Type 0
+IsUnit many unit = IfSome unit (λ number. number < many)
+
 -- a task that tells a response code
-abbrev pub IsAnswer : Task → Type 0
-IsAnswer (Giving unit at) = ⊥
-IsAnswer (Blocks unit job stage) = ⊥
-IsAnswer (Ended unit answer) = Unit {0}
-IsAnswer (Held unit code) = Unit {0}
+abbrev pub IsAnswer : ℕ → Task → Type 0
+IsAnswer many (Giving unit at) = ⊥
+IsAnswer many (Blocks unit job stage) = ⊥
+IsAnswer many (Ended unit answer) = IsUnit many unit
+IsAnswer many (Held unit code) = unit < many
 
 -- a chunk of its blocks has room in the buffer
 abbrev pub FitsRoom : ℕ → ℕ → Task → Type 0
@@ -58,13 +63,14 @@ FitsRoom chunk room (Blocks unit job stage) = chunk * job.block_bytes ≤ room
 FitsRoom chunk room (Ended unit answer) = Unit {0}
 FitsRoom chunk room (Held unit code) = Unit {0}
 
--- a chunk has 1 to 128 blocks
+-- a chunk has 1 to 128 blocks, and there is room for all data of the device
 pub record IsSoundSlot (slot : SlotState) : Type 0 where
   pub some : 1 ≤ slot.chunk
   pub most : slot.chunk ≤ 128
   pub task : IfSome slot.task (IsSoundTask slot.chunk (length slot.given))
   pub fits : IfSome slot.task (FitsRoom slot.chunk (length slot.bytes))
   pub out : IfSome slot.out (λ out. out.len ≤ length slot.bytes)
+  pub given : length slot.given ≤ MOST_DATA_BYTES
 
 -- bytes may be given, or taken: at most as many as are wanted
 abbrev pub MayGive : Wants → ℕ → Type 0
@@ -106,16 +112,31 @@ EachFits chunk room (block_length ∷ lengths) = (chunk * block_bytes block_leng
 abbrev pub HasRoom : List BlockLength → SlotState → Type 0
 HasRoom lengths slot = EachFits slot.chunk (length slot.bytes) lengths
 
--- a task on blocks, and a Write that is out, are of one of so many logical units
-abbrev pub IsTaskWithin : ℕ → Task → Type 0
-IsTaskWithin many (Giving unit at) = Unit {0}
-IsTaskWithin many (Blocks unit job stage) = unit < many
-IsTaskWithin many (Ended unit answer) = Unit {0}
-IsTaskWithin many (Held unit code) = Unit {0}
+-- the shape of each logical unit
+abbrev pub shapes_of : List LogicalUnit → List Shape
+shapes_of units = map (λ unit. unit.shape) units
 
-pub record IsWithin (many : ℕ) (slot : SlotState) : Type 0 where
-  pub task : IfSome slot.task (IsTaskWithin many)
-  pub written : IfSome (writes_out slot) (λ unit. unit < many)
+-- a job of blocks of a logical unit, and of the one of this number
+abbrev pub IsJobOn : Job → Shape → Type 0
+IsJobOn job shape = (job.block_bytes ≡ block_bytes shape.block_length) × (job.lba + job.count ≤ shape.blocks)
+
+abbrev pub IsJobOf : List Shape → ℕ → Job → Type 0
+IsJobOf shapes number job = MatchOption (slice_get shapes number) ⊥ (IsJobOn job)
+
+-- a task is of one of these logical units, or of none
+abbrev pub IsTaskWithin : List Shape → Task → Type 0
+IsTaskWithin shapes (Giving unit at) = IsUnit (length shapes) unit
+IsTaskWithin shapes (Blocks unit job stage) = IsJobOf shapes unit job
+IsTaskWithin shapes (Ended unit answer) = IsUnit (length shapes) unit
+IsTaskWithin shapes (Held unit code) = unit < length shapes
+
+-- a Write that is out is of one of so many
+abbrev pub IsWritten : ℕ → SlotState → Type 0
+IsWritten many slot = IfSome (writes_out slot) (λ unit. unit < many)
+
+pub record IsWithin (shapes : List Shape) (slot : SlotState) : Type 0 where
+  pub task : IfSome slot.task (IsTaskWithin shapes)
+  pub written : IsWritten (length shapes) slot
 
 -- so many stale requests of each logical unit; of one that isn't there none
 abbrev pub AreCounted : List ℕ → List SlotState → Type 0
@@ -136,5 +157,5 @@ pub record IsSoundMachine (units : List LogicalUnit) (stale : List ℕ) (slots :
   pub places : length slots ≡ GREATEST_TAG
   pub rooms : All (HasRoom (lengths_of units)) slots
   pub many : length stale ≡ length units
-  pub within : All (IsWithin (length units)) slots
+  pub within : All (IsWithin (shapes_of units)) slots
   pub counts : AreCounted stale slots

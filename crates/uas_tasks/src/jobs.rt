@@ -1,9 +1,9 @@
 //! Commands on blocks: their chunks, their requests and what comes of these.
-ghost use Rattle.std.specs.Prelude.{◌≡◌, ℕ, ◌+◌, ◌*◌, ◌^◌, ◌<◌, ◌≤◌, IfSome, false, option_and_then, option_map};
+ghost use Rattle.std.specs.Prelude.{◌≡◌, ℕ, ◌+◌, ◌*◌, ◌^◌, ◌<◌, ◌≤◌, IfSome, false, option_and_then, option_map, true};
 ghost use Rattle.std.specs.Option.{option_map_or};
 ghost use Rattle.host_commands.specs.Shapes.{block_bytes};
 ghost use Rattle.uas_tasks.specs.Slots.{after_answer, after_outcome, chunk_blocks, chunk_bytes, done_by, ended_check, ended_good, first_stage};
-ghost use Rattle.uas_tasks.specs.Slots.{is_done, is_read, job_task, medium_error, moved_way, next_chunk, out_of, request_bytes};
+ghost use Rattle.uas_tasks.specs.Slots.{is_begun, is_done, is_read, job_task, medium_error, moved_way, next_chunk, out_of, request_bytes};
 ghost use Rattle.uas_tasks.specs.Slots.{request_of, stage_wants, task_waits, waiting};
 ghost use Rattle.uas_tasks.specs.Soundness.{FitsRoom, IsSoundJob, IsSoundStage, IsSoundTask, IsSoundWork};
 ghost use Rattle.uas_tasks.specs.Stale.{unit_written};
@@ -55,7 +55,8 @@ pub(crate) fn job_task(
     lba: u64,
     count: u64,
 ) -> Task
-    requires { lba + count ≤ 2 ^ 48 }
+    requires on { lba + count ≤ 2 ^ 48 }
+    requires begun { is_begun kind ≡ true }
     ensures task { result ≡ job_task unit kind block_length lba count }
     ensures sound { (chunk given : ℕ) → 1 ≤ chunk → IsSoundTask chunk given result }
     ensures fits { (chunk room : ℕ) → chunk * block_bytes block_length ≤ room → FitsRoom chunk room result }
@@ -190,7 +191,7 @@ fn request_of(unit: usize, job: &Job, chunk: u16) -> Request
     }
 }
 
-fn request_bytes(kind: JobKind, bytes: usize) -> usize
+pub(crate) fn request_bytes(kind: JobKind, bytes: usize) -> usize
     ensures { result ≡ request_bytes kind bytes }
 {
     match kind {

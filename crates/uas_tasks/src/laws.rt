@@ -1,5 +1,6 @@
-//! What is told and asked later lands later: laws over the definitions.
+//! What is told and asked later lands later, and what was saved is restored: laws over the definitions.
 ghost use Rattle.uas_tasks.specs.Laws.{LastAnswerFrees, NothingStalePasses, WhatIsAskedLaterLandsLater};
+ghost use Rattle.uas_tasks.specs.Saved.{RestoredAreKept, TagsAreRestored};
 
 /// Law: while a logical unit has a stale request, no request of it is asked, and no function that ended something there is answered.
 pub fn nothing_stale_passes()
@@ -10,4 +11,10 @@ pub fn nothing_stale_passes()
 /// Law: the answer of the last one makes those functions ready.
 pub fn last_answer_frees()
     ensures { LastAnswerFrees }
+{}
+
+/// Law: what was kept of a tag makes a fresh one that tag again, the bytes that don't matter being 0; and it is what is kept of that.
+pub fn tags_are_restored()
+    ensures restored { TagsAreRestored }
+    ensures kept { RestoredAreKept }
 {}

@@ -48,13 +48,15 @@ mod laws;
 mod management;
 mod moves;
 mod receiver;
+mod saved;
 mod slot;
 mod stale;
 mod starts;
 
 pub use device_server::Answer;
 use host_commands::{CommandSet, LogicalUnitShape, UnitAttention};
-pub use laws::{last_answer_frees, nothing_stale_passes};
+pub use laws::{last_answer_frees, nothing_stale_passes, tags_are_restored};
+pub use saved::{TagState, Unsound};
 use slot::Slot;
 use std::marker::Model;
 use thiserror::Error;

@@ -1,10 +1,24 @@
 //! Bytes that move, to the host or from it: data of the device, and chunks of blocks.
 ghost use Rattle.std.specs.Prelude.{◌≡◌, IfSome, option_map};
-ghost use Rattle.uas_tasks.specs.Slots.{gave_task, moved_on, took_task};
+ghost use Rattle.uas_tasks.specs.Slots.{gave_task, giving_task, moved_on, took_task};
 ghost use Rattle.uas_tasks.specs.Soundness.{IsSoundJob, IsSoundStage, IsSoundTask, IsSoundWork};
 
 use crate::jobs::{chunk_bytes, next_chunk};
 use crate::{Answer, DeviceAnswer, Job, Stage, Task};
+
+/// A task that gives so many bytes of data of the device, or has ended where there are none.
+pub(crate) fn giving_task(unit: Option<usize>, many: usize) -> Task
+    ensures { result ≡ giving_task unit many }
+{
+    if many == 0 {
+        Task::Ended {
+            unit,
+            answer: DeviceAnswer::Status(Answer::Good),
+        }
+    } else {
+        Task::Giving { unit, at: 0 }
+    }
+}
 
 /// A task that gave so many bytes, of data of the device of `given` bytes or of its chunk.
 pub(crate) fn gave_task(chunk: u16, given: usize, moved: usize, task: Option<Task>) -> Option<Task>

@@ -14,7 +14,7 @@ use uas_profile::GREATEST_TAG;
 use uas_target::unit_number;
 
 /// Whether a task may have this tag.
-fn is_tag(tag: u16) -> bool
+pub(crate) fn is_tag(tag: u16) -> bool
     ensures { result ≡ is_tag tag }
 {
     tag != 0 && tag <= GREATEST_TAG
@@ -159,7 +159,7 @@ impl Tasks {
     fn respond(&mut self, tag: u16, answer: Task)
         requires tag { is_tag tag ≡ true }
         requires free { has_task self.old tag ≡ false }
-        requires answer { IsAnswer answer }
+        requires answer { IsAnswer (length self.old.units) answer }
         ensures { self.new ≡ with_task_on self.old tag answer }
     {
         self.slots[usize::from(tag) - 1].set(Some(answer));

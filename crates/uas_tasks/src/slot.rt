@@ -5,7 +5,8 @@ ghost use Rattle.scsi_cmd.specs.Buffers.{with_bytes_at};
 ghost use Rattle.host_commands.specs.Data.{IsOfDevice, given_bytes};
 ghost use Rattle.uas_tasks.specs.Slots.{SlotState, answered_slot, asked_slot, brings_bytes, filled, fresh_slot, gave_slot, giving_slot};
 ghost use Rattle.uas_tasks.specs.Slots.{is_wrong_length, next_bytes, passed_out, passing_out, slot_wants, took_slot, with_task};
-ghost use Rattle.uas_tasks.specs.Soundness.{FitsRoom, IsSoundTask, MayGive, MayTake};
+ghost use Rattle.uas_tasks.specs.Soundness.{FitsRoom, IsSoundSlot, IsSoundTask, MayGive, MayTake};
+ghost use Rattle.uas_tasks.specs.Saved.{IsRestorable, is_pending, kept_bytes, restored_slot};
 ghost use Rattle.uas_tasks.specs.Stale.{held_by, stale_unit, stale_without, writes_out};
 ghost use Rattle.uas_tasks.specs.declared.Wants.{Wants};
 ghost use Rattle.uas_tasks.specs.declared.slot.Out.{Out};
@@ -13,7 +14,8 @@ ghost use Rattle.uas_tasks.specs.declared.slot.Out.{Out};
 use crate::jobs::{
     after_answer, is_done, is_read, is_waiting, out_of, stage_wants, unit_written, waiting,
 };
-use crate::moves::{gave_task, took_task};
+use crate::moves::{gave_task, giving_task, took_task};
+use crate::saved::{TagState, clear, give_again, stage_span};
 use crate::{Answer, DeviceAnswer, Outcome, Request, Stage, Task, Wants};
 use arrayvec::ArrayVec;
 use host_commands::{Data, MOST_DATA_BYTES, write_data};
@@ -135,14 +137,7 @@ impl Slot {
     {
         self.given.clear();
         write_data(given, allocation, &mut self.given);
-        self.task = Some(if self.given.is_empty() {
-            Task::Ended {
-                unit,
-                answer: DeviceAnswer::Status(Answer::Good),
-            }
-        } else {
-            Task::Giving { unit, at: 0 }
-        });
+        self.task = Some(giving_task(unit, self.given.len()));
     }
 
     /// Its request is out now.
@@ -330,6 +325,52 @@ impl Slot {
             self.buffer.write_at(at, bytes);
         }
         self.task = took_task(self.chunk, bytes.len(), self.task);
+    }
+}
+
+impl Slot {
+    /// Whether it has a request out, or a task that waits for one.
+    pub(crate) fn is_pending(&self) -> bool
+        ensures pending { result ≡ is_pending self.now }
+        ensures sound { IsSoundSlot self.now }
+    {
+        self.out.is_some() || is_waiting(&self.task)
+    }
+
+    /// The bytes that matter while no request is out.
+    pub(crate) fn kept_bytes(&self) -> &[u8]
+        ensures { result.now ≡ kept_bytes self.now }
+    {
+        match &self.task {
+            Some(Task::Giving { at, .. }) => &self.given[*at..],
+            Some(Task::Blocks { job, stage, .. }) => {
+                let span = stage_span(self.chunk, job, *stage);
+                &self.buffer.as_slice()[span.from..span.from + span.many]
+            }
+            _ => &[],
+        }
+    }
+
+    /// It has this state now, with these bytes and 0 where none matter, and no request out.
+    pub(crate) fn restore(&mut self, state: &TagState, bytes: &[u8])
+        requires sound { IfSome state.now.task (IsRestorable self.old.chunk (length bytes.now)) }
+        requires fits { IfSome state.now.task (FitsRoom self.old.chunk (length self.old.bytes)) }
+        ensures slot { self.new ≡ restored_slot self.old state.now bytes.now }
+        ensures len { length self.new.bytes ≡ length self.old.bytes }
+    {
+        self.given.clear();
+        clear(&mut self.buffer);
+        match &state.task {
+            Some(Task::Giving { at, .. }) => give_again(&mut self.given, *at, bytes),
+            Some(Task::Blocks { job, stage, .. }) => {
+                let span = stage_span(self.chunk, job, *stage);
+                self.buffer.write_at(span.from, bytes);
+            }
+            _ => (),
+        }
+        self.task = state.task;
+        self.turn = state.turn;
+        self.out = None;
     }
 }
 

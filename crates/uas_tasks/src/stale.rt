@@ -2,7 +2,7 @@
 //! device counts them for each logical unit, and what comes later waits for them.
 ghost use Rattle.std.specs.Prelude.{◌≡◌, ℕ, ◌<◌, ◌≤◌, All, IfSome, length, slice_index, slice_index_or};
 ghost use Rattle.uas_tasks.specs.Machine.{has_stale, is_held, number_of, stale_after};
-ghost use Rattle.uas_tasks.specs.Soundness.{AreCounted, IsWithin, counted_down, counted_up};
+ghost use Rattle.uas_tasks.specs.Soundness.{AreCounted, IsWritten, counted_down, counted_up};
 
 use crate::Tasks;
 use crate::calls::TAG_PLACES;
@@ -75,7 +75,7 @@ pub(crate) fn count_down(stale: &mut [u8], unit: Option<usize>)
 /// Counts the stale requests of each logical unit anew.
 pub(crate) fn count_anew(stale: &mut [u8], slots: &[Slot])
     requires few { length slots.now ≤ 240 }
-    requires within { All (IsWithin (length stale.old)) slots.now }
+    requires within { All (IsWritten (length stale.old)) slots.now }
     ensures counts { AreCounted stale.new slots.now }
 {
     stale.fill(0);

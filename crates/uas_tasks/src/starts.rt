@@ -1,9 +1,10 @@
 //! How a command begins: its unit attention, and what it asks.
-ghost use Rattle.std.specs.Prelude.{◌≡◌, ◌+◌, ◌*◌, ◌≤◌, IfOk, None, Some, length};
+ghost use Rattle.std.specs.Prelude.{◌≡◌, ◌+◌, ◌*◌, ◌≤◌, IfOk, None, Some, length, true};
+ghost use Rattle.host_commands.specs.Meaning.{asked_of};
 ghost use Rattle.host_commands.specs.Shapes.{block_bytes};
 ghost use Rattle.uas_profile.specs.declared.TheConstants.{MAX_UNITS};
 ghost use Rattle.uas_tasks.specs.Machine.{begun, kept_attention};
-ghost use Rattle.uas_tasks.specs.Slots.{blocks_synchronized, job_task, started, started_none, started_work, with_task};
+ghost use Rattle.uas_tasks.specs.Slots.{blocks_synchronized, is_begun, job_task, started, started_none, started_work, with_task};
 ghost use Rattle.uas_tasks.specs.Soundness.{StartsOn};
 
 use crate::jobs::{ended_check, ended_good, job_task};
@@ -30,6 +31,7 @@ pub(crate) fn begin(
     requires most { count ≤ MAX_UNITS }
     requires room { slot.old.chunk * block_bytes unit.now.shape.block_length ≤ length slot.old.bytes }
     ensures begun { (result, slot.new) ≡ begun unit.now number set.now count cdb.now slot.old }
+    ensures on { IfOk (asked_of cdb.now set.now unit.now.shape count unit.now.attention) (StartsOn unit.now.shape.blocks) }
     ensures chunk { slot.new.chunk ≡ slot.old.chunk }
     ensures len { length slot.new.bytes ≡ length slot.old.bytes }
 {
@@ -135,6 +137,7 @@ impl Slot {
         count: u64,
     )
         requires on { lba + count ≤ shape.now.blocks }
+        requires begun { is_begun kind ≡ true }
         requires room { self.old.chunk * block_bytes shape.now.block_length ≤ length self.old.bytes }
         ensures { self.new ≡ with_task self.old (Some (job_task unit kind shape.now.block_length lba count)) }
     {

@@ -2,11 +2,11 @@ use Rattle.std.proofs.Common.{◌≡◌, ◌-◌, Option, Some, None, length, re
 use Rattle.uas_tasks.specs.declared.slot.Out.{Out}
 use Rattle.uas_tasks.specs.Machine.{Machine, slot_under, with_slot_under}
 use Rattle.uas_tasks.specs.Slots.{SlotState, answered_slot}
-use Rattle.uas_tasks.specs.Soundness.{counted_down}
+use Rattle.uas_tasks.specs.Soundness.{counted_down, shapes_of}
 use Rattle.uas_tasks.specs.Stale.{stale_unit}
 use Rattle.uas_tasks.proofs.Counts.{AreCounted-down, length-down, may_count_down, none-split}
 use Rattle.uas_tasks.proofs.Keeping.{answered-stale, answered-within}
-use Rattle.uas_tasks.proofs.Places.{IsSoundMachine-written, slot_read, slot_written, there, within_at, written_over}
+use Rattle.uas_tasks.proofs.Places.{IsSoundMachine-written, slot_read, slot_written, there, within_at, written_over, written_there}
 use Rattle.uas_tasks.proofs.Tasks.answer.Goals as goal
 
 apart : (out : Out) → ◌≡◌ {A = Option Out} None (Some out) → ⊥
@@ -24,7 +24,7 @@ count_down-requires c =
     let within = rw (sym c.from.ensures) at here.1 in
     let sound = within_at units stale slots (c.from.result - 1) read c.self.invariant within c.index_mut-slot.ensures.value in
     rw (c.stale_unit.ensures, c.deref_mut.ensures.value)
-    (may_count_down stale slots (c.from.result - 1) read c.self.invariant.counts within c.index_mut-slot.ensures.value (rw c.self.invariant.many sound))
+    (may_count_down stale slots (c.from.result - 1) read c.self.invariant.counts within c.index_mut-slot.ensures.value (written_there units stale slots read c.self.invariant sound))
 
 pub invariant_of-self : goal.invariant_of-self
 invariant_of-self c =
@@ -45,9 +45,9 @@ invariant_of-self c =
     let len = rw c.answer.ensures.slot at c.answer.ensures.len in
     rw (written_over c.self.inside.stale.len stale c.count_down.new.stale c.self.inside.stale.ok.0 many, down, c.answer.ensures.slot)
     (IsSoundMachine-written units stale (counted_down stale left) slots place read now c.self.invariant within
-    c.index_mut-slot.ensures.value refl len (answered-within (length units) read c.args.out.now c.args.outcome c.args.bytes.now) (length-down stale left)
+    c.index_mut-slot.ensures.value refl len (answered-within (shapes_of units) read c.args.out.now c.args.outcome c.args.bytes.now) (length-down stale left)
     (AreCounted-down stale slots place read now left c.self.invariant.counts within c.index_mut-slot.ensures.value
-    (may_count_down stale slots place read c.self.invariant.counts within c.index_mut-slot.ensures.value (rw c.self.invariant.many sound))
+    (may_count_down stale slots place read c.self.invariant.counts within c.index_mut-slot.ensures.value (written_there units stale slots read c.self.invariant sound))
     (λ number. none-split number read now (answered-stale read c.args.out.now c.args.outcome c.args.bytes.now))))
 
 pub returns : goal.returns

@@ -3,6 +3,7 @@ use Rattle.uas_tasks.specs.declared.Wants.{Wants}
 use Rattle.uas_tasks.specs.declared.Wants.TheVariants.{Absent, Asks, Waits}
 use Rattle.uas_tasks.specs.Machine.{Machine, slot_under}
 use Rattle.uas_tasks.specs.Slots.{SlotState, slot_wants}
+use Rattle.uas_tasks.specs.Soundness.{shapes_of}
 use Rattle.uas_tasks.proofs.Counts.{Keeps}
 use Rattle.uas_tasks.proofs.Keeping.{asked-keeps, wanted-free}
 use Rattle.uas_tasks.proofs.Machines.{asked_there, there_sound}
@@ -34,7 +35,7 @@ invariant_of-self c =
     there_sound P apart c.self.inside.units.items c.self.inside.stale.items c.self.inside.slots.items c.args.tag c.from.result c.index_mut-slot.result.now c.ask.new.self
     c.self.invariant (subst M (sym c.self.view_is) free) c.from.ensures c.index_mut-slot.ensures.value
     (ap (λ (s : SlotState). s.chunk) c.ask.ensures) (ap (λ (s : SlotState). length s.bytes) c.ask.ensures)
-    (λ so was. subst (Keeps (length c.self.inside.units.items) read) (sym c.ask.ensures) (asked-keeps (length c.self.inside.units.items) read so))
+    (λ so was. subst (Keeps (shapes_of c.self.inside.units.items) read) (sym c.ask.ensures) (asked-keeps (shapes_of c.self.inside.units.items) read so))
 
 pub returns : goal.returns
 returns c =

@@ -1,6 +1,7 @@
 use Rattle.std.proofs.Common.{length, map, refl, arith, ap, ◌∙◌}
 use Rattle.std.proofs.lemmas.List.{length-map}
 use Rattle.uas_tasks.specs.Slots.{spared_slot}
+use Rattle.uas_tasks.specs.Soundness.{shapes_of}
 use Rattle.uas_tasks.proofs.Keeping.{spared-within}
 use Rattle.uas_tasks.proofs.Places.{IsSoundMachine-map, within-map, written_over}
 use Rattle.uas_tasks.proofs.Tasks.end_commands.Goals as goal
@@ -15,7 +16,7 @@ count_anew-requires c =
     rw (all, c.deref_mut-2.ensures.value)
     (record {
       few = omega (arith, length-map slots f, c.self.invariant.places);
-      within = within-map c.self.inside.units.items c.self.inside.stale.items slots f c.self.invariant (spared-within (length c.self.inside.units.items) c.args.number);
+      within = within-map c.self.inside.units.items c.self.inside.stale.items slots f c.self.invariant (spared-within (shapes_of c.self.inside.units.items) c.args.number);
     })
 
 pub invariant_of-self : goal.invariant_of-self
@@ -30,4 +31,4 @@ invariant_of-self c =
     let many = c.count_anew.auto.stale ∙ ap length c.deref_mut-2.ensures.value in
     rw (slots_now, over, written_over c.self.inside.stale.len stale c.count_anew.new.stale c.self.inside.stale.ok.0 many)
     (IsSoundMachine-map units stale c.count_anew.new.stale slots f c.self.invariant (λ slot. refl) (λ slot. refl)
-    (spared-within (length c.self.inside.units.items) c.args.number) many (rw all at c.count_anew.ensures.counts))
+    (spared-within (shapes_of c.self.inside.units.items) c.args.number) many (rw all at c.count_anew.ensures.counts))

@@ -1,4 +1,5 @@
-use Rattle.std.proofs.Common.{length, sym, subst}
+use Rattle.std.proofs.Common.{sym, subst}
+use Rattle.uas_tasks.specs.Soundness.{shapes_of}
 use Rattle.uas_tasks.proofs.Counts.{Keeps}
 use Rattle.uas_tasks.proofs.Keeping.{started_none-keeps}
 use Rattle.uas_tasks.proofs.Machines.{free_read, tag_sound}
@@ -13,4 +14,4 @@ invariant_of-self c =
     let still = free_read slots c.args.tag c.from.result read c.requires.tag c.self.invariant.places c.from.ensures c.index_mut.ensures.value free in
     tag_sound units c.self.inside.stale.items slots c.args.tag c.from.result read c.start_none.new.self c.self.invariant
     c.requires.tag c.from.ensures c.index_mut.ensures.value c.start_none.ensures.chunk c.start_none.ensures.len
-    (subst (Keeps (length units) read) (sym c.start_none.ensures.started) (started_none-keeps (length units) read _ still))
+    (subst (Keeps (shapes_of units) read) (sym c.start_none.ensures.started) (started_none-keeps (shapes_of units) read _ still))

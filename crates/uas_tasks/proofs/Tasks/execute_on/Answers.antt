@@ -1,11 +1,12 @@
-use Rattle.std.proofs.Common.{◌-◌, Option, length, length-set, refl, ap, sym, subst, ◌∙◌}
+use Rattle.std.proofs.Common.{◌-◌, Option, refl, ap, sym, subst, ◌∙◌}
 use Rattle.host_commands.specs.declared.UnitAttention.{UnitAttention}
 use Rattle.uas_tasks.specs.Machine.{begun}
 use Rattle.uas_tasks.specs.Slots.{SlotState}
+use Rattle.uas_tasks.specs.Soundness.{shapes_of}
 use Rattle.uas_tasks.proofs.Counts.{Keeps}
 use Rattle.uas_tasks.proofs.Keeping.{begun-keeps}
 use Rattle.uas_tasks.proofs.Machines.{executed_there, free_read, tag_there}
-use Rattle.uas_tasks.proofs.Places.{IsSoundMachine-slot, IsSoundMachine-units, lengths_of-set, room_of, slot_read, slot_written}
+use Rattle.uas_tasks.proofs.Places.{IsSoundMachine-slot, IsSoundMachine-units, shapes_of-set, room_of, shape_read, slot_read, slot_written}
 use Rattle.uas_tasks.proofs.Tasks.execute_on.Goals as goal
 
 pub begin-attention-requires-clause-room : goal.begin-attention-requires-clause-room
@@ -32,11 +33,11 @@ invariant_of-self c =
     let sound =
     IsSoundMachine-slot units c.self.inside.stale.items slots (c.from.result - 1) read c.begin-attention.new.slot c.self.invariant within
     c.index_mut-slot.ensures.value c.begin-attention.ensures.chunk c.begin-attention.ensures.len
-    (λ was. subst (Keeps (length units) read) (sym begun_so)
-    (begun-keeps (length units) c.index.result.now c.args.number c.self.inside.set c.len-count.result c.args.cdb.now read number_there still))
+    (λ was. subst (Keeps (shapes_of units) read) (sym begun_so)
+    (begun-keeps (shapes_of units) c.index.result.now c.args.number c.self.inside.set c.len-count.result c.args.cdb.now read
+    (shape_read units c.args.number c.index.result.now number_there c.index.ensures) c.begin-attention.ensures.on still))
     in
-    IsSoundMachine-units units _ _ _ sound (lengths_of-set units c.args.number c.index.result.now _ c.index.ensures refl)
-    (length-set units c.args.number _)
+    IsSoundMachine-units units _ _ _ sound (shapes_of-set units c.args.number c.index.result.now _ c.index.ensures refl)
 
 pub returns : goal.returns
 returns c =

@@ -2,7 +2,7 @@ use Rattle.std.proofs.Common.{◌-◌, length, ap, sym, subst, ◌∙◌}
 use Rattle.uas_tasks.specs.Machine.{Machine, slot_under}
 use Rattle.uas_tasks.specs.declared.Wants.{Wants}
 use Rattle.uas_tasks.specs.Slots.{SlotState, next_bytes, slot_wants}
-use Rattle.uas_tasks.specs.Soundness.{MayGive}
+use Rattle.uas_tasks.specs.Soundness.{MayGive, shapes_of}
 use Rattle.uas_tasks.proofs.Counts.{Keeps}
 use Rattle.uas_tasks.proofs.Keeping.{gave-keeps, wanted-free}
 use Rattle.uas_tasks.proofs.Places.{IsSoundMachine-slot, slot_read, there}
@@ -29,8 +29,8 @@ invariant_of-self c =
     IsSoundMachine-slot c.self.inside.units.items c.self.inside.stale.items slots (c.from.result - 1) c.index_mut.result.now c.give.new.self c.self.invariant
     within c.index_mut.ensures.value (ap (λ (s : SlotState). s.chunk) c.give.ensures.slot)
     (ap (λ (s : SlotState). length s.bytes) c.give.ensures.slot)
-    (λ was. subst (Keeps (length c.self.inside.units.items) c.index_mut.result.now) (sym c.give.ensures.slot)
-    (gave-keeps (length c.self.inside.units.items) c.index_mut.result.now (length c.args.bytes.now) was))
+    (λ was. subst (Keeps (shapes_of c.self.inside.units.items) c.index_mut.result.now) (sym c.give.ensures.slot)
+    (gave-keeps (shapes_of c.self.inside.units.items) c.index_mut.result.now (length c.args.bytes.now) was))
 
 pub returns-clause-bytes : goal.returns-clause-bytes
 returns-clause-bytes c =

@@ -1,8 +1,9 @@
-use Rattle.std.proofs.Common.{◌≡◌, ◌-◌, Option, Some, None, length, refl, ap, sym, ◌∙◌, subst}
+use Rattle.std.proofs.Common.{◌≡◌, Option, Some, None, length, ap, sym, ◌∙◌, subst}
 use Rattle.std.specs.Prelude.{IsSome}
 use Rattle.uas_tasks.specs.declared.slot.Out.{Out}
 use Rattle.uas_tasks.specs.Machine.{Machine, slot_under, with_slot_under}
 use Rattle.uas_tasks.specs.Slots.{SlotState, passed_out, passing_out}
+use Rattle.uas_tasks.specs.Soundness.{shapes_of}
 use Rattle.uas_tasks.proofs.Counts.{Keeps}
 use Rattle.uas_tasks.proofs.Keeping.{passed-keeps}
 use Rattle.uas_tasks.proofs.Machines.{there_sound}
@@ -21,7 +22,7 @@ invariant_of-self c =
     there_sound P (λ so. apart c.args.out.now so.0) units c.self.inside.stale.items c.self.inside.slots.items c.args.tag c.from.result read c.pass.new.self
     c.self.invariant (subst M (sym c.self.view_is) (c.requires.out, c.requires.passes)) c.from.ensures c.index_mut.ensures.value
     (ap (λ (s : SlotState). s.chunk) c.pass.ensures.slot) (ap (λ (s : SlotState). length s.bytes) c.pass.ensures.slot)
-    (λ so was. subst (Keeps (length units) read) (sym c.pass.ensures.slot) (passed-keeps (length units) read c.args.out.now so.1 was))
+    (λ so was. subst (Keeps (shapes_of units) read) (sym c.pass.ensures.slot) (passed-keeps (shapes_of units) read c.args.out.now so.1 was))
 
 pub returns : goal.returns
 returns c =

@@ -1,4 +1,4 @@
-use Rattle.std.proofs.Common.{ap, sym, subst, ◌∙◌}
+use Rattle.std.proofs.Common.{ap, length, sym, subst, ◌∙◌}
 use Rattle.uas_tasks.specs.declared.Task.{Task}
 use Rattle.uas_tasks.specs.Machine.{Machine, has_task}
 use Rattle.uas_tasks.specs.Soundness.{IsAnswer}
@@ -12,5 +12,6 @@ respond-requires-clause-free c =
 
 pub respond-requires-clause-answer : goal.respond-requires-clause-answer
 respond-requires-clause-answer c =
-    subst IsAnswer (sym (ap (λ (after : Machine × Task). after.1) c.manage-answer.ensures))
-    (managed_answers c.args.self.now c.args.function c.args.task_tag c.args.lun.now)
+    let answers = managed_answers c.args.self.now c.args.function c.args.task_tag c.args.lun.now in
+    let P : Machine × Task → Type 0 = λ after. IsAnswer (length after.0.units) after.1 in
+    subst P (sym c.manage-answer.ensures) (rw answers.0 answers.1)

@@ -1,17 +1,17 @@
-use Rattle.std.proofs.Common.{refl, ap, ◌∙◌, length-set}
+use Rattle.std.proofs.Common.{refl, ap, ◌∙◌}
 use Rattle.std.specs.Prelude.{slice_set}
 use Rattle.std.specs.List.{list_any}
 use Rattle.uas_tasks.specs.Machine.{Machine, reset_over}
 use Rattle.uas_tasks.specs.Slots.{has_command}
 use Rattle.uas_tasks.proofs.Machines.{reset_there}
-use Rattle.uas_tasks.proofs.Places.{IsSoundMachine-units, lengths_of-set}
+use Rattle.uas_tasks.proofs.Places.{IsSoundMachine-units, shapes_of-set}
 use Rattle.uas_tasks.proofs.Tasks.reset_unit.Goals as goal
 
 pub invariant_of-self : goal.invariant_of-self
 invariant_of-self c =
     let units = c.self-2.inside.units.items in
     IsSoundMachine-units units _ c.self-2.inside.stale.items c.self-2.inside.slots.items c.self-2.invariant
-    (lengths_of-set units c.in-Some.number c.index-unit.result.now _ c.index-unit.ensures refl) (length-set units c.in-Some.number _)
+    (shapes_of-set units c.in-Some.number c.index-unit.result.now _ c.index-unit.ensures refl)
 
 pub returns : goal.returns
 returns c =

@@ -3,6 +3,7 @@ use Rattle.uas_tasks.specs.declared.Wants.{Wants}
 use Rattle.uas_tasks.specs.declared.Wants.TheVariants.{Absent, Ends, Waits}
 use Rattle.uas_tasks.specs.Machine.{Machine, slot_under}
 use Rattle.uas_tasks.specs.Slots.{SlotState, slot_wants, with_task}
+use Rattle.uas_tasks.specs.Soundness.{shapes_of}
 use Rattle.uas_tasks.proofs.Counts.{Keeps}
 use Rattle.uas_tasks.proofs.Keeping.{ends_still, rests-keeps, wanted-free}
 use Rattle.uas_tasks.proofs.Machines.{there_sound}
@@ -23,5 +24,5 @@ invariant_of-self c =
     there_sound P apart c.self.inside.units.items c.self.inside.stale.items c.self.inside.slots.items c.args.tag c.from.result c.index_mut.result.now c.set.new.self
     c.self.invariant (subst M (sym c.self.view_is) free) c.from.ensures c.index_mut.ensures.value
     (ap (λ (s : SlotState). s.chunk) c.set.ensures) (ap (λ (s : SlotState). length s.bytes) c.set.ensures)
-    (λ so was. subst (Keeps (length c.self.inside.units.items) read) (sym c.set.ensures)
-    (rests-keeps (length c.self.inside.units.items) read (with_task read None) refl (ends_still read so) tt))
+    (λ so was. subst (Keeps (shapes_of c.self.inside.units.items) read) (sym c.set.ensures)
+    (rests-keeps (shapes_of c.self.inside.units.items) read (with_task read None) refl (ends_still read so) tt))

@@ -2,7 +2,7 @@ use Rattle.std.proofs.Common.{◌-◌, length, ap, sym, subst}
 use Rattle.uas_tasks.specs.Machine.{Machine, slot_under}
 use Rattle.uas_tasks.specs.declared.Wants.{Wants}
 use Rattle.uas_tasks.specs.Slots.{SlotState, slot_wants}
-use Rattle.uas_tasks.specs.Soundness.{MayTake}
+use Rattle.uas_tasks.specs.Soundness.{MayTake, shapes_of}
 use Rattle.uas_tasks.proofs.Counts.{Keeps}
 use Rattle.uas_tasks.proofs.Keeping.{took-keeps, wanted-free}
 use Rattle.uas_tasks.proofs.Places.{IsSoundMachine-slot, slot_read, there}
@@ -29,5 +29,5 @@ invariant_of-self c =
     IsSoundMachine-slot c.self.inside.units.items c.self.inside.stale.items slots (c.from.result - 1) c.index_mut.result.now c.take.new.self c.self.invariant
     within c.index_mut.ensures.value (ap (λ (s : SlotState). s.chunk) c.take.ensures.slot)
     c.take.ensures.len
-    (λ was. subst (Keeps (length c.self.inside.units.items) c.index_mut.result.now) (sym c.take.ensures.slot)
-    (took-keeps (length c.self.inside.units.items) c.index_mut.result.now c.args.bytes.now was))
+    (λ was. subst (Keeps (shapes_of c.self.inside.units.items) c.index_mut.result.now) (sym c.take.ensures.slot)
+    (took-keeps (shapes_of c.self.inside.units.items) c.index_mut.result.now c.args.bytes.now was))

@@ -14,4 +14,5 @@ invariant_of-self c =
       fits = rw (c.after_answer-self-inside.ensures, c.fill.ensures.len)
           (after_answer-fits c.args.outcome slot.chunk (length slot.given.items) (length slot.buffer) slot.task sound.some sound.task sound.fits);
       out = tt;
+      given = sound.given;
     }

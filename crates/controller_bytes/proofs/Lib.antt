@@ -1,0 +1,9 @@
+pub mod ConsumersExact
+pub mod RegistersExact
+pub mod SlotsExact
+pub mod ControlExact
+pub mod Rings
+pub mod PipesExact
+pub mod TagsExact
+pub mod TransfersExact
+pub mod BulkExact

@@ -26,7 +26,7 @@ mod words;
 pub use context::{Found, Front, Home, look, stand};
 pub use cursor::{Cursor, fetch};
 pub use event::Event;
-pub use event_ring::EventRing;
+pub use event_ring::{EventRing, EventRingParts};
 pub use trb::{Flags, PipeTrb, read_trb};
 pub use wanting::{Range, look_wants, part_wants};
 pub use words::Words;

@@ -37,7 +37,7 @@ mod wanting;
 pub use acted::Acted;
 pub use consumer::{Consumer, EndpointState};
 pub use gate::room_gate;
-pub use pipe::{Pipe, STREAM_CONTEXTS};
+pub use pipe::{Pipe, PipeHead, STREAM_CONTEXTS};
 pub use progress::{Ending, Progress};
 pub use step::there;
 pub use wanting::place_range;

@@ -7,10 +7,13 @@ ghost use Rattle.guest_pipes.specs.Step.{has_home};
 ghost use Rattle.guest_pipes.specs.Wanted.{front_wanted, ring_wanted};
 ghost use Rattle.guest_pipes.specs.Pipe.{configured, disabled, forgotten, has_stray, has_stream, home_of, loaded, noted, progress_on, recovered, reset_with, ring_home, rung_by, stopped, stored};
 
+mod saved;
+
 use crate::consumer::{Consumer, EndpointState};
 use crate::progress::Progress;
 use guest_memory::rings::{Front, Home, Range, look, look_wants};
 use guest_memory::{GuestMemory, Outside};
+pub use saved::PipeHead;
 use std::alloc::{AllocError, Global};
 use std::marker::Model;
 

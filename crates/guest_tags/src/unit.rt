@@ -4,6 +4,8 @@ ghost use Rattle.guest_tags.specs.Devices.{IsEnded, Kind};
 ghost use Rattle.guest_tags.specs.Status.{left_of, overlap_text};
 ghost use Rattle.guest_tags.specs.Units.{Outgoing, whole};
 
+mod saved;
+
 use crate::device::UasDevice;
 use arrayvec::ArrayVec;
 use std::marker::Model;

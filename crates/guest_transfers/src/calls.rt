@@ -78,7 +78,7 @@ impl Slot {
 }
 
 /// Nothing is kept of any tag. The error is want of memory.
-fn empty_slots(alloc: Global) -> Result<Vec<Slot>, AllocError>
+pub fn empty_slots(alloc: Global) -> Result<Vec<Slot>, AllocError>
     ensures items { IfOk result (λ slots. slots.items ≡ replicate 241 empty_slot) }
     ensures len { IfOk result (λ slots. vec_len slots ≡ 241) }
 {

@@ -30,16 +30,18 @@
 mod calls;
 mod control;
 mod laws;
+mod saved;
 mod silent;
 mod slot;
 mod steps;
 mod waiting;
 mod wanting;
 
-pub use calls::{TAG_SLOTS, Transfers};
+pub use calls::{TAG_SLOTS, Transfers, empty_slots};
 pub use control::StreamPipe;
 pub use laws::{
     copies_stand_for_all_memory, what_is_wanted_is_not_there, what_lacks_nothing_is_taken,
 };
+pub use saved::TransfersParts;
 pub use silent::next_rung;
 pub use slot::Slot;

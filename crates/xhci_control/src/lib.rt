@@ -27,4 +27,5 @@ mod unanswered;
 mod wanting;
 
 pub use pipe::{ControlPipe, Served};
+pub use stage::{AnswerBytes, Given, Stage};
 pub use wanting::{what_is_wanted_is_not_there, what_lacks_nothing_is_taken};

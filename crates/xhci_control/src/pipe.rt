@@ -45,10 +45,10 @@ pub struct Served {
 /// Endpoint 0: its consumer, the address of its dequeue pointer, the disk's answers, and where its control transfer is.
 #[derive(Debug, Drop)]
 pub struct ControlPipe {
-    pub(crate) consumer: Consumer,
-    pub(crate) home: u64,
-    pub(crate) disk: UsbDisk,
-    pub(crate) stage: Stage,
+    pub consumer: Consumer,
+    pub home: u64,
+    pub disk: UsbDisk,
+    pub stage: Stage,
 }
 
 fn consumer_in(state: EndpointState) -> Consumer

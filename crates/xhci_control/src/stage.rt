@@ -7,11 +7,11 @@ use arrayvec::ArrayVec;
 use usb_disk::{Answer, MOST_ANSWER_BYTES};
 
 /// The bytes of an answer that are still to go to the host.
-pub(crate) type AnswerBytes = ArrayVec<u8, MOST_ANSWER_BYTES>;
+pub type AnswerBytes = ArrayVec<u8, MOST_ANSWER_BYTES>;
 
 /// Where a control transfer is.
 #[derive(Debug, Drop)]
-pub(crate) enum Stage {
+pub enum Stage {
     /// None is under way.
     Setup,
     /// Its Data Stage is to come, or has begun.
@@ -22,7 +22,7 @@ pub(crate) enum Stage {
 
 /// What a Data Stage gives.
 #[derive(Debug, Drop)]
-pub(crate) enum Given {
+pub enum Given {
     /// These bytes, of which so many have gone.
     Bytes { bytes: AnswerBytes, gone: usize },
     /// Nothing.

@@ -3,8 +3,11 @@ ghost use Rattle.std.specs.Prelude.{◌≡◌, ◌+◌, ◌-◌, ◌*◌, ◌^�
 ghost use Rattle.guest_memory.specs.Bytes.{is_there, written};
 ghost use Rattle.guest_memory.specs.rings.Events.{EventEnd, advanced, enqueue_pointer, enqueued, event_bytes, free_by, has_room, place_at};
 
+mod saved;
+
 use crate::GuestMemory;
 use crate::rings::event::{Event, event_bytes};
+pub use saved::EventRingParts;
 use std::marker::Model;
 
 /// An event ring's segment, where its producer stands, how many places are free, and whether an event since the last

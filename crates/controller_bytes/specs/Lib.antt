@@ -1,0 +1,2 @@
+-- The forms of what a controller keeps.
+pub mod Consumers

@@ -1,0 +1,6 @@
+//! The form of what a controller keeps.
+#![tactic(auto)]
+
+mod consumers;
+
+pub use consumers::{read_consumer, write_consumer};

@@ -1,0 +1,4 @@
+pub mod Placed
+pub mod Exact
+pub mod Marks
+pub mod SparseExact

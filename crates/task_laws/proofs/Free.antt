@@ -55,7 +55,7 @@ written_free machine tag slot free none number = any_written number machine.slot
 
 -- as that of one whose request is to be asked
 pub asks_fresh : (slot : SlotState) → slot_wants slot ≡ Asks → (number : ℕ) → is_stale number slot ≡ false
-asks_fresh slot asks number = ap (is_at number) (sym (asked-keeps 0 slot asks).stale ∙ asked-stale slot asks)
+asks_fresh slot asks number = ap (is_at number) (sym (asked-keeps [] slot asks).stale ∙ asked-stale slot asks)
 
 -- NOTHING IS HELD
 

@@ -1,0 +1,2 @@
+pub mod TasksExact
+pub mod DevicesExact

@@ -1,6 +1,6 @@
 -- What is kept of a tag is a state that a tag can have, and the tag that has it again keeps the same. Cited by the law and by has_request_out.
 use Rattle.std.proofs.Common.{◌≡◌, ℕ, zero, suc, ◌+◌, ◌*◌, ◌<◌, ◌≤◌, Bool, true, false, List, [], ◌∷◌, ◌++◌, length, replicate, take, drop, Option, Some, None, IfSome}
-use Rattle.std.proofs.Common.{refl, arith, ap, sym, ◌∙◌, subst, inl, inr, length-drop}
+use Rattle.std.proofs.Common.{refl, arith, ap, sym, ◌∙◌, subst, inl, inr, length-drop, length-take}
 use Rattle.std.specs.Prelude.{◌==◌, is_some, slice_index_or}
 use Rattle.std.specs.List.{list_any}
 use Rattle.std.specs.Option.{option_map_or}
@@ -25,7 +25,7 @@ use Rattle.uas_tasks.specs.Machine.{no_slot, slot_under}
 use Rattle.uas_tasks.specs.Saved.{AreSavable, IsSavable, RestoredAreKept, TagsAreRestored, asking_span, buffer_again, given_again, is_job_of, is_pending, is_stage, is_task, is_unit, kept_bytes}
 use Rattle.uas_tasks.specs.Saved.{moving_span, part_of, restored_slot, stage_span, tag_state, task_kept}
 use Rattle.uas_tasks.specs.Slots.{SlotState, chunk_blocks, chunk_bytes, fresh_slot, request_bytes}
-use Rattle.uas_tasks.specs.Soundness.{EachFits, FitsRoom, IsJobOf, IsSoundMachine, IsSoundSlot, IsSoundStage, IsSoundTask, IsTaskWithin, IsUnit, IsWithin, lengths_of, shapes_of}
+use Rattle.uas_tasks.specs.Soundness.{EachFits, IsSoundJob, FitsRoom, IsJobOf, IsSoundMachine, IsSoundSlot, IsSoundStage, IsSoundTask, IsTaskWithin, IsUnit, IsWithin, lengths_of, shapes_of}
 use Rattle.uas_tasks.proofs.Keeping.{waits}
 use Rattle.uas_tasks.proofs.Places.{shapes_many}
 use Rattle.uas_tasks.proofs.Restoring.{apart, task_fits}
@@ -118,6 +118,29 @@ slot-savable units slot sound within still = by_task slot.task sound.task sound.
     by_task None task fits there rests = refl
     by_task (Some task) is fits there rests = task-is units slot.chunk slot.given slot.bytes task sound.given is fits there rests
 
+-- and at most a chunk
+chunk-few : (chunk : ℕ) (job : Job) → chunk ≤ 128 → IsSoundJob job → chunk_bytes chunk job ≤ 524288
+chunk-few chunk job most sound = mul-le job.block_bytes (chunk_blocks chunk job) 4096 128 sound.most (omega (arith, most))
+
+task-few : (chunk : ℕ) (given bytes : List ℕ) (task : Task) → chunk ≤ 128 → length given ≤ 604 → IsSoundTask chunk (length given) task →
+    length (task_kept chunk given bytes task) ≤ 524288
+task-few chunk given bytes (Giving unit at) most few sound = omega (arith, length-drop at given, few)
+task-few chunk given bytes (Blocks unit job stage) most few sound =
+    let span = stage_span chunk job stage in
+    let within = stage-within chunk job stage sound.1 in
+    let all = chunk-few chunk job most sound.0 in
+    omega (arith, length-take span.many (drop span.from bytes), within, all)
+task-few chunk given bytes (Ended unit answer) most few sound = omega arith
+task-few chunk given bytes (Held unit code) most few sound = omega arith
+
+pub slot-few : (slot : SlotState) → IsSoundSlot slot → length (kept_bytes slot) ≤ 524288
+slot-few slot sound = by_task slot.task sound.task
+  where
+    by_task : (task : Option Task) → IfSome task (IsSoundTask slot.chunk (length slot.given)) →
+        length (option_map_or (task_kept slot.chunk slot.given slot.bytes) task []) ≤ 524288
+    by_task None is = omega arith
+    by_task (Some task) is = task-few slot.chunk slot.given slot.bytes task sound.most sound.given is
+
 -- A TAG AGAIN
 
 fresh-again : (slot : SlotState) (state : TagState) (bytes : List ℕ) →
@@ -197,8 +220,16 @@ none_pending (slot ∷ slots) still =
 
 pub all_savable : (units : List LogicalUnit) (set : CommandSet) (stale : List ℕ) (slots : List SlotState) → IsSoundMachine units stale slots →
     AreStill (length slots) slots → AreSavable (record { units = units; set = set; slots = slots })
-all_savable units set stale slots sound still = record { units = sound.most_units; slots = sound.places; tags = by_tag }
+all_savable units set stale slots sound still = record { units = sound.most_units; slots = sound.places; tags = by_tag; few = few_by }
   where
+    few_by : (tag : ℕ) → length (kept_bytes (slot_under slots tag)) ≤ 524288
+    few_by zero = omega arith
+    few_by (suc place) =
+        elim (cases_lt place (length slots)) [
+          | inl within ↦ slot-few (slice_index_or slots place no_slot) (still place within).sound
+          | inr past ↦ let P : SlotState → Type 0 = λ s. length (kept_bytes s) ≤ 524288 in subst P (sym (get_or_past slots place no_slot past)) (omega arith)
+        ]
+
     by_tag : (tag : ℕ) → IsSavable units (slot_under slots tag)
     by_tag zero = refl
     by_tag (suc place) =

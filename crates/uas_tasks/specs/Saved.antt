@@ -164,7 +164,8 @@ settled_slot slot = restored_slot slot (tag_state slot) (kept_bytes slot)
 
 -- THE LAWS
 
--- the state of each tag is one that a tag can have, of at most MAX_UNITS logical units
+-- the state of each tag is one that a tag can have, of at most MAX_UNITS logical units, and what is kept of it is at most a chunk: 128
+-- blocks of 4,096 bytes
 abbrev pub IsSavable : List LogicalUnit → SlotState → Type 0
 IsSavable units slot = is_tag_state units slot.chunk (tag_state slot) (length (kept_bytes slot)) ≡ true
 
@@ -172,6 +173,7 @@ pub record AreSavable (machine : Machine) : Type 0 where
   pub units : length machine.units ≤ MAX_UNITS
   pub slots : length machine.slots ≡ GREATEST_TAG
   pub tags : (tag : ℕ) → IsSavable machine.units (slot_of machine tag)
+  pub few : (tag : ℕ) → length (kept_bytes (slot_of machine tag)) ≤ 524288
 
 -- What was kept of a tag is put on a fresh one: it is the tag again, with the bytes 0 that don't matter.
 abbrev pub TagsAreRestored : Type 0

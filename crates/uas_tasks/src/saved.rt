@@ -1,6 +1,7 @@
 //! What matters of a device at a moment when no request is out, as plain values, and the device that has it again.
 ghost use Rattle.std.specs.Prelude.{◌≡◌, ◌+◌, ◌≤◌, ◌++◌, IfSome, [], false, length, replicate, true};
 ghost use Rattle.host_commands.specs.declared.TheConstants.{MOST_DATA_BYTES};
+ghost use Rattle.uas_profile.specs.declared.TheConstants.{MAX_UNITS};
 ghost use Rattle.uas_tasks.specs.Machine.{slot_of};
 ghost use Rattle.uas_tasks.specs.Saved.{AreSavable, IsRestorable, asking_span, has_request_out, is_free, is_job_of, is_job_on, is_stage, is_tag_state, is_task, is_unit, kept_bytes, may_restore, moving_span, no_span};
 ghost use Rattle.uas_tasks.specs.Saved.{restored_attention, restored_slot, restored_tag, stage_span, tag_state, unit_attention};
@@ -97,6 +98,14 @@ impl Tasks {
         }
         let slot = &self.slots[usize::from(tag) - 1];
         is_free(slot) && is_tag_state(&self.units, slot.chunk(), state, many)
+    }
+
+    /// How many logical units there are.
+    pub fn unit_count(&self) -> usize
+        ensures count { result ≡ length self.now.units }
+        ensures most { result ≤ MAX_UNITS }
+    {
+        self.units.len()
     }
 
     /// The unit attention (SAM) of the logical unit of a number.

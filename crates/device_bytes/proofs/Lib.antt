@@ -1,2 +1,3 @@
 pub mod TasksExact
 pub mod DevicesExact
+pub mod Places

@@ -1,3 +1,4 @@
 pub mod TasksExact
 pub mod DevicesExact
 pub mod Places
+pub mod Loading

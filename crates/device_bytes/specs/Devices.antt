@@ -1,5 +1,5 @@
 -- The form of a device: the attentions of its logical units, and its tags.
-use Rattle.std.specs.Prelude.{◌≡◌, ℕ, zero, suc, ◌<◌, ◌≤◌, ◌==◌, ◌-◌, Bool, true, false, not, ◌&&◌, if◌then◌else◌, List, [], ◌∷◌, length, map, drop, Option, Some, None, is_some, is_ok, IfSome}
+use Rattle.std.specs.Prelude.{◌≡◌, ℕ, zero, suc, ◌<◌, ◌≤◌, ◌==◌, ◌-◌, Bool, true, false, not, ◌&&◌, if◌then◌else◌, List, [], ◌∷◌, length, map, drop, Option, Some, None, is_some, is_ok, IfSome, MatchOption}
 use Rattle.host_commands.specs.declared.UnitAttention.{UnitAttention}
 use Rattle.host_commands.specs.declared.UnitAttention.TheVariants.{PowerOn, Reset}
 use Rattle.uas_tasks.specs.declared.LogicalUnit.{LogicalUnit}
@@ -108,11 +108,6 @@ attention_loaded machine at text =
     then then_read (attention_form.read (drop 2 text)) (λ attention left. (Some (restored_attention machine at (Some attention)), left))
     else (Some machine, text)
 
-abbrev pub attentions_loaded : ℕ → ℕ → Machine → List ℕ → Option Machine × List ℕ
-attentions_loaded zero at machine text = (Some machine, text)
-attentions_loaded (suc many) at machine text =
-    then_read (attention_loaded machine at text) (λ (after : Machine) left. attentions_loaded many (suc at) after left)
-
 -- a tag's value that none can have, or that is written though it is fresh, is refused where it begins
 abbrev pub tag_put : Machine → ℕ → SavedTag → List ℕ → List ℕ → Option Machine × List ℕ
 tag_put machine at tag start left =
@@ -124,13 +119,25 @@ tag_loaded machine at text =
     if has_mark at text then then_read (tag_form.read (drop 2 text)) (λ (tag : SavedTag) left. tag_put machine at tag (drop 2 text) left)
     else (Some machine, text)
 
-abbrev pub tags_loaded : ℕ → ℕ → Machine → List ℕ → Option Machine × List ℕ
-tags_loaded zero at machine text = (Some machine, text)
-tags_loaded (suc many) at machine text = then_read (tag_loaded machine at text) (λ (after : Machine) left. tags_loaded many (suc at) after left)
+-- what a call tells of that, and leaves: None where nothing was loaded, and the device is of no use
+abbrev pub Loads : Option Machine × List ℕ → Option (Unit {0}) → Machine → List ℕ → Type 0
+Loads told result after left = (left ≡ told.1) × MatchOption told.0 (result ≡ None) (λ machine. (result ≡ Some tt) × (after ≡ machine))
+
+-- so many places, from one on, each by a step
+unfoldable pub places_loaded : (Machine → ℕ → List ℕ → Option Machine × List ℕ) → ℕ → ℕ → Machine → List ℕ → Option Machine × List ℕ
+places_loaded step zero at machine text = (Some machine, text)
+places_loaded step (suc many) at machine text =
+    then_read (step machine at text) (λ (after : Machine) left. places_loaded step many (suc at) after left)
+
+abbrev pub attentions_loaded : Machine → List ℕ → Option Machine × List ℕ
+attentions_loaded machine text = places_loaded attention_loaded (length machine.units) 0 machine text
+
+abbrev pub tags_loaded : Machine → List ℕ → Option Machine × List ℕ
+tags_loaded machine text = places_loaded tag_loaded 240 0 machine text
 
 -- behind each list the mark that it has ended
-abbrev pub device_loaded : Machine → List ℕ → Option Machine × List ℕ
+unfoldable pub device_loaded : Machine → List ℕ → Option Machine × List ℕ
 device_loaded machine text =
-    then_read (attentions_loaded (length machine.units) 0 machine text) (λ (one : Machine) second.
+    then_read (attentions_loaded machine text) (λ (one : Machine) second.
     then_read (end_read one second) (λ (two : Machine) third.
-    then_read (tags_loaded 240 0 two third) (λ (all : Machine) last. end_read all last)))
+    then_read (tags_loaded two third) (λ (all : Machine) last. end_read all last)))

@@ -15,4 +15,4 @@
 mod tags;
 mod tasks;
 
-//pub use tags::{load, save};
+pub use tags::{load, save};

@@ -6,8 +6,8 @@ ghost use Rattle.uas_tasks.specs.Saved.{AreSavable};
 ghost use Rattle.machine_bytes.specs.Forms.{counted};
 ghost use Rattle.machine_bytes.specs.Places.{written};
 ghost use Rattle.machine_bytes.specs.Sparse.{end_mark, end_read, has_mark, place_write_if};
-ghost use Rattle.device_bytes.specs.Devices.{IsNumbered, MOST_CHUNK, attention_form, attention_loaded, attentions_form, attentions_of, device_form, is_fresh_tag};
-ghost use Rattle.device_bytes.specs.Devices.{saved_device, saved_tag, state_form, tag_form, tag_loaded, tag_put, tags_form, unit_place};
+ghost use Rattle.device_bytes.specs.Devices.{IsNumbered, Loads, MOST_CHUNK, attention_form, attention_loaded, attentions_form, attentions_loaded, attentions_of, device_form, device_loaded, is_fresh_tag};
+ghost use Rattle.device_bytes.specs.Devices.{saved_device, saved_tag, state_form, tag_form, tag_loaded, tag_put, tags_form, tags_loaded, unit_place};
 
 use crate::tasks::{read_task, write_task};
 use host_commands::UnitAttention;
@@ -44,7 +44,12 @@ fn read_attention(reader: &mut Reader) -> Option<UnitAttention>
 }
 
 /// Writes the attention of the logical unit of a number, where it has one.
-fn write_unit(place: Place, cells: &mut [u8], number: u16, attention: Option<UnitAttention>) -> Place
+fn write_unit(
+    place: Place,
+    cells: &mut [u8],
+    number: u16,
+    attention: Option<UnitAttention>,
+) -> Place
     ensures { (cells.new, result) ≡ place_write_if (unit_place.is_fresh attention) unit_place.form (cells.old, place) number attention }
 {
     match attention {
@@ -181,9 +186,7 @@ fn read_bytes<'a>(reader: &mut Reader<'a>) -> Option<&'a [u8]>
 
 /// Reads the attention of the logical unit of a number, where it stands there.
 fn load_attention(reader: &mut Reader, tasks: &mut Tasks, at: u16) -> Option<()>
-    ensures left { reader.new ≡ (attention_loaded tasks.old at reader.old).1 }
-    ensures loaded { MatchOption (attention_loaded tasks.old at reader.old).0 (result ≡ None)
-        (λ after. (result ≡ Some tt) × (tasks.new ≡ after)) }
+    ensures { Loads (attention_loaded tasks.old at reader.old) result tasks.new reader.new }
 {
     if take_mark(reader, at) {
         let attention = read_attention(reader)?;
@@ -195,9 +198,7 @@ fn load_attention(reader: &mut Reader, tasks: &mut Tasks, at: u16) -> Option<()>
 /// Reads what matters of the tag at a place, where it stands there.
 fn load_tag(reader: &mut Reader, tasks: &mut Tasks, at: u16) -> Option<()>
     requires { at < 240 }
-    ensures left { reader.new ≡ (tag_loaded tasks.old at reader.old).1 }
-    ensures loaded { MatchOption (tag_loaded tasks.old at reader.old).0 (result ≡ None)
-        (λ after. (result ≡ Some tt) × (tasks.new ≡ after)) }
+    ensures { Loads (tag_loaded tasks.old at reader.old) result tasks.new reader.new }
 {
     if !take_mark(reader, at) {
         return Some(());
@@ -219,4 +220,34 @@ fn put_tag(tasks: &mut Tasks, at: u16, state: TagState, bytes: &[u8]) -> bool
     ensures { MatchOption (tag_put tasks.old at (state, bytes.now) [] []).0 (result ≡ false) (λ after. (result ≡ true) × (tasks.new ≡ after)) }
 {
     !is_fresh_tag(&state, bytes) && tasks.restore_tag(at + 1, state, bytes).is_ok()
+}
+
+fn load_attentions(reader: &mut Reader, tasks: &mut Tasks) -> Option<()>
+    ensures { Loads (attentions_loaded tasks.old reader.old) result tasks.new reader.new }
+{
+    let count = tasks.unit_count() as u16;
+    for at in 0..count {
+        load_attention(reader, tasks, at)?;
+    }
+    Some(())
+}
+
+fn load_tags(reader: &mut Reader, tasks: &mut Tasks) -> Option<()>
+    ensures { Loads (tags_loaded tasks.old reader.old) result tasks.new reader.new }
+{
+    for at in 0..TAGS {
+        load_tag(reader, tasks, at)?;
+    }
+    Some(())
+}
+
+/// Reads what matters of a device into a fresh one of the same logical units and chunks: no tag has a task yet. `None` where there is no such
+/// device; the reader stands where what has no meaning begins then, and the device is of no use.
+pub fn load(reader: &mut Reader, tasks: &mut Tasks) -> Option<()>
+    ensures { Loads (device_loaded tasks.old reader.old) result tasks.new reader.new }
+{
+    load_attentions(reader, tasks)?;
+    read_end(reader)?;
+    load_tags(reader, tasks)?;
+    read_end(reader)
 }

@@ -2,3 +2,5 @@ pub mod TasksExact
 pub mod DevicesExact
 pub mod Places
 pub mod Loading
+pub mod Loaded
+pub mod DeviceLaws

@@ -1,5 +1,5 @@
 -- The form of a device: the attentions of its logical units, and its tags.
-use Rattle.std.specs.Prelude.{◌≡◌, ℕ, zero, suc, ◌<◌, ◌≤◌, ◌==◌, ◌-◌, Bool, true, false, not, ◌&&◌, if◌then◌else◌, List, [], ◌∷◌, length, map, drop, Option, Some, None, is_some, is_ok, IfSome, MatchOption}
+use Rattle.std.specs.Prelude.{◌≡◌, ℕ, zero, suc, ◌<◌, ◌≤◌, ◌==◌, ◌-◌, Bool, true, false, not, ◌&&◌, if◌then◌else◌, List, [], ◌∷◌, length, map, drop, Option, Some, None, is_some, is_ok, IfSome, MatchOption, All, replicate, ◌++◌}
 use Rattle.host_commands.specs.declared.UnitAttention.{UnitAttention}
 use Rattle.host_commands.specs.declared.UnitAttention.TheVariants.{PowerOn, Reset}
 use Rattle.uas_tasks.specs.declared.LogicalUnit.{LogicalUnit}
@@ -7,8 +7,8 @@ use Rattle.uas_tasks.specs.declared.saved.TagState.{TagState}
 use Rattle.uas_tasks.specs.declared.Task.{Task}
 use Rattle.uas_tasks.specs.declared.Task.TheVariants.{Giving, Blocks, Ended, Held}
 use Rattle.uas_tasks.specs.Machine.{Machine}
-use Rattle.uas_tasks.specs.Saved.{is_tag_state, kept_bytes, restored_attention, restored_tag, tag_state}
-use Rattle.uas_tasks.specs.Slots.{SlotState}
+use Rattle.uas_tasks.specs.Saved.{is_tag_state, kept_bytes, restored_attention, restored_slot, restored_tag, settled_slot, tag_state}
+use Rattle.uas_tasks.specs.Slots.{SlotState, fresh_slot}
 use Rattle.machine_bytes.specs.Forms.{Form, checked, counted, mapped, named, number, of_some, optional, pair, then_read}
 use Rattle.machine_bytes.specs.Sparse.{PlaceForm, end_mark, end_read, has_mark, sparse}
 use Rattle.device_bytes.specs.Tasks.{task_form}
@@ -141,3 +141,53 @@ device_loaded machine text =
     then_read (attentions_loaded machine text) (λ (one : Machine) second.
     then_read (end_read one second) (λ (two : Machine) third.
     then_read (tags_loaded two third) (λ (all : Machine) last. end_read all last)))
+
+-- WHAT A FRESH DEVICE IS MADE INTO
+
+abbrev pub restored_units : List LogicalUnit → List (Option UnitAttention) → List LogicalUnit
+restored_units [] attentions = []
+restored_units (unit ∷ units) [] = unit ∷ units
+restored_units (unit ∷ units) (attention ∷ attentions) = record unit { attention = attention } ∷ restored_units units attentions
+
+abbrev pub restored_slots : List SlotState → List SavedTag → List SlotState
+restored_slots [] tags = []
+restored_slots (slot ∷ slots) [] = slot ∷ slots
+restored_slots (slot ∷ slots) (tag ∷ tags) = restored_slot slot tag.0 tag.1 ∷ restored_slots slots tags
+
+abbrev pub restored_device : Machine → SavedDevice → Machine
+restored_device machine saved =
+    record machine { units = restored_units machine.units saved.0; slots = restored_slots machine.slots saved.1 }
+
+-- a device without an attention and without a task, each buffer of so many bytes
+pub record IsNew (chunk room : ℕ) (machine : Machine) : Type 0 where
+  pub units : All (λ (unit : LogicalUnit). unit.attention ≡ None) machine.units
+  pub slots : machine.slots ≡ replicate 240 (fresh_slot chunk room)
+
+-- LAWS
+
+abbrev pub restored_from : Machine → Option SavedDevice × List ℕ → Option Machine × List ℕ
+restored_from machine told = then_read told (λ (saved : SavedDevice) left. (Some (restored_device machine saved), left))
+
+-- What is loaded into a new device is what its form reads: the value, and where none is, the bytes that have no meaning.
+abbrev pub LoadedIsRead : Type 0
+LoadedIsRead =
+    (chunk room : ℕ) (machine : Machine) (text : List ℕ) → IsNew chunk room machine
+    → device_loaded machine text ≡ restored_from machine ((device_form machine.units chunk).read text)
+
+-- each tag's bytes that don't matter are 0
+abbrev pub settled_device : Machine → Machine
+settled_device machine = record machine { slots = map settled_slot machine.slots }
+
+-- a device that was made like a new one: the same logical units but for attentions, and chunks and buffers of the same size
+pub record IsMadeLike (chunk room : ℕ) (machine new : Machine) : Type 0 where
+  pub set : machine.set ≡ new.set
+  pub units : map (λ (unit : LogicalUnit). unit.shape) machine.units ≡ map (λ (unit : LogicalUnit). unit.shape) new.units
+  pub chunks : All (λ (slot : SlotState). slot.chunk ≡ chunk) machine.slots
+  pub rooms : All (λ (slot : SlotState). length slot.bytes ≡ room) machine.slots
+
+-- The bytes of a device, loaded into a new one that it was made like, are that device again, whatever follows them.
+abbrev pub SavedIsLoaded : Type 0
+SavedIsLoaded =
+    (chunk room : ℕ) (machine new : Machine) (rest : List ℕ) → IsNew chunk room new → IsMadeLike chunk room machine new
+    → length new.units < 65535 → (device_form new.units chunk).Has (saved_device machine)
+    → device_loaded new ((device_form new.units chunk).bytes (saved_device machine) ++ rest) ≡ (Some (settled_device machine), rest)

@@ -41,7 +41,7 @@ empty : (bytes : List ℕ) → (length bytes == 0) ≡ true → bytes ≡ []
 empty [] is = refl
 empty (byte ∷ bytes) is = let none = eqb-true (length (byte ∷ bytes)) 0 is in absurd (omega (arith, none))
 
-tag-fresh : (tag : SavedTag) → is_fresh_tag tag ≡ true → tag ≡ fresh_tag
+pub tag-fresh : (tag : SavedTag) → is_fresh_tag tag ≡ true → tag ≡ fresh_tag
 tag-fresh tag is =
     let parts = and_parts _ _ is in
     let state = and_parts _ _ parts.0 in

@@ -144,8 +144,14 @@ module _ (units : List LogicalUnit) (set : CommandSet) (chunk room : ℕ) (test 
       (made units set (front ++ fresh_slot chunk room ∷ rest), Err (record {}))
   tag_restored front rest at tag is few =
       let one : is_tag (suc at) ≡ true = and_from _ _ (lt-ltb 0 (suc at) (omega arith)) (le-leb (suc at) 240 (omega arith)) in
-      rw (one, is, index_front front (fresh_slot chunk room) no_slot rest, tests tag, set_front front (fresh_slot chunk room)
-        (restored_slot (fresh_slot chunk room) tag.0 tag.1) rest) refl
+      rw (
+        one,
+        is,
+        index_front front (fresh_slot chunk room) no_slot rest,
+        tests tag,
+        set_front front (fresh_slot chunk room)
+            (restored_slot (fresh_slot chunk room) tag.0 tag.1) rest,
+      ) refl
 
   abbrev with_tag : List SlotState → List SlotState → SavedTag → Machine
   with_tag front rest tag = made units set (front ++ restored_slot (fresh_slot chunk room) tag.0 tag.1 ∷ rest)
@@ -200,12 +206,18 @@ module _ (units : List LogicalUnit) (set : CommandSet) (chunk room : ℕ) (test 
       again x left =
           places_loaded tag_loaded many (suc at) (made units set ((front ++ restored_slot (fresh_slot chunk room) x.0 x.1 ∷ []) ++ replicate many (fresh_slot chunk room))) left
           ≡ then_read (places_read (changed_form place_form) (replicate many fresh_tag) (suc at) left)
-          (λ (xs : List SavedTag) behind. (Some (made units set ((front ++ restored_slot (fresh_slot chunk room) x.0 x.1 ∷ [])
-          ++ restored_slots (replicate many (fresh_slot chunk room)) xs)), behind))
+          (λ (xs : List SavedTag) behind. (
+            Some (made units set ((front ++ restored_slot (fresh_slot chunk room) x.0 x.1 ∷ [])
+                ++ restored_slots (replicate many (fresh_slot chunk room)) xs)),
+            behind,
+          ))
 
       by_rest : (x : SavedTag) (told : Option (List SavedTag) × List ℕ) →
-          then_read told (λ (xs : List SavedTag) left. (Some (made units set ((front ++ restored_slot (fresh_slot chunk room) x.0 x.1 ∷ [])
-          ++ restored_slots (replicate many (fresh_slot chunk room)) xs)), left))
+          then_read told (λ (xs : List SavedTag) left. (
+            Some (made units set ((front ++ restored_slot (fresh_slot chunk room) x.0 x.1 ∷ [])
+                ++ restored_slots (replicate many (fresh_slot chunk room)) xs)),
+            left,
+          ))
           ≡ then_read (then_read told (λ (xs : List SavedTag) behind. (Some (x ∷ xs), behind)))
           (λ (xs : List SavedTag) left. (Some (made units set (front ++ restored_slots (replicate (suc many) (fresh_slot chunk room)) xs)), left))
       by_rest x (None, left) = refl

@@ -9,6 +9,9 @@ use Rattle.uas_tasks.specs.declared.Task.TheVariants.{Giving, Blocks, Ended, Hel
 use Rattle.uas_tasks.specs.Machine.{Machine}
 use Rattle.uas_tasks.specs.Saved.{is_tag_state, kept_bytes, restored_attention, restored_slot, restored_tag, settled_slot, tag_state}
 use Rattle.uas_tasks.specs.Slots.{SlotState, fresh_slot}
+use Rattle.uas_tasks.specs.Soundness.{EachFits, lengths_of}
+use Rattle.byte_numbers.specs.Bytes.{AreBytes}
+use Rattle.machine_bytes.specs.Exact.{IsExact}
 use Rattle.machine_bytes.specs.Forms.{Form, checked, counted, mapped, named, number, of_some, optional, pair, then_read}
 use Rattle.machine_bytes.specs.Sparse.{PlaceForm, end_mark, end_read, has_mark, sparse}
 use Rattle.device_bytes.specs.Tasks.{task_form}
@@ -191,3 +194,14 @@ SavedIsLoaded =
     (chunk room : ℕ) (machine new : Machine) (rest : List ℕ) → IsNew chunk room new → IsMadeLike chunk room machine new
     → length new.units < 65535 → (device_form new.units chunk).Has (saved_device machine)
     → device_loaded new ((device_form new.units chunk).bytes (saved_device machine) ++ rest) ≡ (Some (settled_device machine), rest)
+
+-- And the bytes of a device that was loaded are those that it was loaded from.
+abbrev pub LoadedIsSaved : Type 0
+LoadedIsSaved =
+    (chunk room : ℕ) (machine after : Machine) (text left : List ℕ) → IsNew chunk room machine → EachFits chunk room (lengths_of machine.units)
+    → length machine.units < 65535 → AreBytes text → device_loaded machine text ≡ (Some after, left)
+    → text ≡ (device_form machine.units chunk).bytes (saved_device after) ++ left
+
+-- Each device has one text, and each text that is read is the one of its device.
+abbrev pub FormIsExact : Type 0
+FormIsExact = (units : List LogicalUnit) (chunk : ℕ) → length units < 65535 → IsExact (device_form units chunk)

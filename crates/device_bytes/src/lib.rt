@@ -12,7 +12,9 @@
 //! It stands on `uas_tasks` and `machine_bytes`. No call takes memory.
 #![tactic(auto)]
 
+mod laws;
 mod tags;
 mod tasks;
 
+pub use laws::{form_is_exact, what_is_loaded};
 pub use tags::{load, save};

@@ -5,7 +5,7 @@ ghost use Rattle.byteorder.specs.Endian.{big_bytes};
 ghost use Rattle.uas_tasks.specs.Saved.{AreSavable};
 ghost use Rattle.machine_bytes.specs.Forms.{counted};
 ghost use Rattle.machine_bytes.specs.Places.{written};
-ghost use Rattle.machine_bytes.specs.Sparse.{end_mark, end_read, has_mark, place_write_if};
+ghost use Rattle.machine_bytes.specs.Sparse.{PlaceHasIf, end_mark, end_read, has_mark, place_write_if};
 ghost use Rattle.device_bytes.specs.Devices.{IsNumbered, Loads, MOST_CHUNK, attention_form, attention_loaded, attentions_form, attentions_loaded, attentions_of, device_form, device_loaded, is_fresh_tag};
 ghost use Rattle.device_bytes.specs.Devices.{saved_device, saved_tag, state_form, tag_form, tag_loaded, tag_put, tags_form, tags_loaded, unit_place};
 
@@ -26,7 +26,8 @@ const MOST_CHUNK: u32 = 524_288;
 const _: () = prove!(TAGS == 240 && END == 65535 && MOST_CHUNK == 524_288);
 
 fn write_attention(place: Place, cells: &mut [u8], attention: UnitAttention) -> Place
-    ensures { (cells.new, result) ≡ attention_form.write (cells.old, place) attention }
+    ensures cells { (cells.new, result) ≡ attention_form.write (cells.old, place) attention }
+    ensures has { attention_form.Has attention }
 {
     match attention {
         UnitAttention::PowerOn => place.kind(cells, 0),
@@ -50,7 +51,8 @@ fn write_unit(
     number: u16,
     attention: Option<UnitAttention>,
 ) -> Place
-    ensures { (cells.new, result) ≡ place_write_if (unit_place.is_fresh attention) unit_place.form (cells.old, place) number attention }
+    ensures cells { (cells.new, result) ≡ place_write_if (unit_place.is_fresh attention) unit_place.form (cells.old, place) number attention }
+    ensures has { PlaceHasIf (unit_place.is_fresh attention) unit_place.form attention }
 {
     match attention {
         Some(attention) => {
@@ -63,7 +65,8 @@ fn write_unit(
 
 fn write_state(place: Place, cells: &mut [u8], state: &TagState) -> Place
     requires { IfSome state.now.task IsNumbered }
-    ensures { (cells.new, result) ≡ state_form.write (cells.old, place) state.now }
+    ensures cells { (cells.new, result) ≡ state_form.write (cells.old, place) state.now }
+    ensures has { state_form.Has state.now }
 {
     let place = match &state.task {
         Some(task) => {
@@ -97,7 +100,8 @@ fn is_fresh_tag(state: &TagState, bytes: &[u8]) -> bool
 fn write_tag(place: Place, cells: &mut [u8], at: u16, state: &TagState, bytes: &[u8]) -> Place
     requires numbered { IfSome state.now.task IsNumbered }
     requires few { length bytes.now ≤ MOST_CHUNK }
-    ensures { (cells.new, result) ≡ place_write_if (is_fresh_tag (state.now, bytes.now)) tag_form (cells.old, place) at (state.now, bytes.now) }
+    ensures cells { (cells.new, result) ≡ place_write_if (is_fresh_tag (state.now, bytes.now)) tag_form (cells.old, place) at (state.now, bytes.now) }
+    ensures has { PlaceHasIf (is_fresh_tag (state.now, bytes.now)) tag_form (state.now, bytes.now) }
 {
     if is_fresh_tag(state, bytes) {
         return place;

@@ -9,7 +9,8 @@ use scsi_cmd::Sense;
 use uas_tasks::{DeviceAnswer, Job, JobKind, Stage, Task};
 
 fn write_kind(place: Place, cells: &mut [u8], kind: JobKind) -> Place
-    ensures { (cells.new, result) ≡ kind_form.write (cells.old, place) kind }
+    ensures cells { (cells.new, result) ≡ kind_form.write (cells.old, place) kind }
+    ensures has { kind_form.Has kind }
 {
     match kind {
         JobKind::Reads => place.kind(cells, 0),
@@ -52,7 +53,8 @@ fn read_kind(reader: &mut Reader) -> Option<JobKind>
 }
 
 fn write_job(place: Place, cells: &mut [u8], job: &Job) -> Place
-    ensures { (cells.new, result) ≡ job_form.write (cells.old, place) job.now }
+    ensures cells { (cells.new, result) ≡ job_form.write (cells.old, place) job.now }
+    ensures has { job_form.Has job.now }
 {
     let place = write_kind(place, cells, job.kind);
     let place = place.u16(cells, job.block_bytes);
@@ -79,7 +81,8 @@ fn read_job(reader: &mut Reader) -> Option<Job>
 }
 
 fn write_stage(place: Place, cells: &mut [u8], stage: Stage) -> Place
-    ensures { (cells.new, result) ≡ stage_form.write (cells.old, place) stage }
+    ensures cells { (cells.new, result) ≡ stage_form.write (cells.old, place) stage }
+    ensures has { stage_form.Has stage }
 {
     match stage {
         Stage::Asking => place.kind(cells, 0),
@@ -102,7 +105,8 @@ fn read_stage(reader: &mut Reader) -> Option<Stage>
 }
 
 fn write_sense(place: Place, cells: &mut [u8], sense: Sense) -> Place
-    ensures { (cells.new, result) ≡ sense_form.write (cells.old, place) sense }
+    ensures cells { (cells.new, result) ≡ sense_form.write (cells.old, place) sense }
+    ensures has { sense_form.Has sense }
 {
     let place = place.u8(cells, sense.key);
     let place = place.u8(cells, sense.asc);
@@ -119,7 +123,8 @@ fn read_sense(reader: &mut Reader) -> Option<Sense>
 }
 
 fn write_answer(place: Place, cells: &mut [u8], answer: DeviceAnswer) -> Place
-    ensures { (cells.new, result) ≡ answer_form.write (cells.old, place) answer }
+    ensures cells { (cells.new, result) ≡ answer_form.write (cells.old, place) answer }
+    ensures has { answer_form.Has answer }
 {
     match answer {
         DeviceAnswer::Status(Answer::Good) => place.kind(cells, 0),
@@ -149,7 +154,8 @@ fn read_answer(reader: &mut Reader) -> Option<DeviceAnswer>
 
 fn write_unit(place: Place, cells: &mut [u8], unit: Option<usize>) -> Place
     requires { IfSome unit (λ number. number < 256) }
-    ensures { (cells.new, result) ≡ unit_form.write (cells.old, place) unit }
+    ensures cells { (cells.new, result) ≡ unit_form.write (cells.old, place) unit }
+    ensures has { unit_form.Has unit }
 {
     match unit {
         None => place.kind(cells, 0),
@@ -171,7 +177,8 @@ fn read_unit(reader: &mut Reader) -> Option<Option<usize>>
 /// Writes a task.
 pub(crate) fn write_task(place: Place, cells: &mut [u8], task: &Task) -> Place
     requires { IsNumbered task.now }
-    ensures { (cells.new, result) ≡ task_form.write (cells.old, place) task.now }
+    ensures cells { (cells.new, result) ≡ task_form.write (cells.old, place) task.now }
+    ensures has { task_form.Has task.now }
 {
     match task {
         Task::Giving { unit, at } => {

@@ -13,5 +13,5 @@ loop-number-preserved c =
     let x = c.unit_attention.result in
     let within : at < length xs = omega (arith, c.loop-number-test.true, c.unit_count-number-end.ensures.count, length-map units (λ unit. unit.attention)) in
     let is = c.unit_attention.ensures ∙ attention_read units at x within in
-    ap (λ w. places_write unit_place w (at + 1) (drop (at + 1) xs)) c.write_unit-place.ensures
+    ap (λ w. places_write unit_place w (at + 1) (drop (at + 1) xs)) c.write_unit-place.ensures.cells
     ∙ sym (places_more unit_place (c.loop-number.cells, c.loop-number.place) xs at x within is) ∙ c.loop-number.invariant

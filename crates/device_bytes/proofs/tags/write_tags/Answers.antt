@@ -17,7 +17,7 @@ loop-at-preserved c = λ chunk.
     let within : at < length xs = omega (arith, c.loop-at-test.true, c.requires.slots, length-map slots saved_tag) in
     let same : x ≡ saved_tag (slot_under slots (at + 1)) = cc (c.tag_state-state.ensures, c.kept_bytes.ensures) in
     let is = same ∙ tag_read slots at x within in
-    let wrote = c.write_tag-place.ensures
+    let wrote = c.write_tag-place.ensures.cells
     ∙ checked_write (is_sound_tag c.args.tasks.now.units chunk) tag_form (is_fresh_tag x) (c.loop-at.cells, c.loop-at.place) at x in
     ap (λ w. places_write p w (at + 1) (drop (at + 1) xs)) wrote
     ∙ sym (places_more p (c.loop-at.cells, c.loop-at.place) xs at x within is) ∙ c.loop-at.invariant chunk

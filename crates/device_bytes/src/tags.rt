@@ -1,8 +1,9 @@
 //! A device: the attentions of its logical units, and its tags.
-ghost use Rattle.std.specs.Prelude.{◌≡◌, ℕ, ◌≤◌, ◌<◌, if◌then◌else◌, [], IfSome, MatchOption, None, Some, true, false, drop, length, map};
+ghost use Rattle.std.specs.Prelude.{◌≡◌, ℕ, ◌≤◌, ◌<◌, if◌then◌else◌, [], All, IfSome, MatchOption, None, Some, true, false, drop, length, map};
 ghost use Rattle.std.specs.Option.{option_copied};
 ghost use Rattle.byteorder.specs.Endian.{big_bytes};
 ghost use Rattle.uas_tasks.specs.Saved.{AreSavable};
+ghost use Rattle.uas_tasks.specs.Slots.{SlotState};
 ghost use Rattle.machine_bytes.specs.Forms.{counted};
 ghost use Rattle.machine_bytes.specs.Places.{written};
 ghost use Rattle.machine_bytes.specs.Sparse.{PlaceHasIf, end_mark, end_read, has_mark, place_write_if};
@@ -120,7 +121,8 @@ fn write_end(place: Place, cells: &mut [u8]) -> Place
 }
 
 fn write_attentions(first: Place, cells: &mut [u8], tasks: &Tasks) -> Place
-    ensures { (cells.new, result) ≡ (attentions_form (length tasks.now.units)).write (cells.old, first) (attentions_of tasks.now.units) }
+    ensures cells { (cells.new, result) ≡ (attentions_form (length tasks.now.units)).write (cells.old, first) (attentions_of tasks.now.units) }
+    ensures has { (attentions_form (length tasks.now.units)).Has (attentions_of tasks.now.units) }
 {
     let mut place = first;
     for number in 0..tasks.unit_count() {
@@ -131,7 +133,8 @@ fn write_attentions(first: Place, cells: &mut [u8], tasks: &Tasks) -> Place
 
 fn write_tags(first: Place, cells: &mut [u8], tasks: &Tasks) -> Place
     requires { AreSavable tasks.now }
-    ensures { (chunk : ℕ) → (cells.new, result) ≡ (tags_form tasks.now.units chunk).write (cells.old, first) (map saved_tag tasks.now.slots) }
+    ensures cells { (chunk : ℕ) → (cells.new, result) ≡ (tags_form tasks.now.units chunk).write (cells.old, first) (map saved_tag tasks.now.slots) }
+    ensures has { (chunk : ℕ) → All (λ (slot : SlotState). slot.chunk ≡ chunk) tasks.now.slots → (tags_form tasks.now.units chunk).Has (map saved_tag tasks.now.slots) }
 {
     let mut place = first;
     for at in 0..TAGS {
@@ -144,7 +147,8 @@ fn write_tags(first: Place, cells: &mut [u8], tasks: &Tasks) -> Place
 /// Writes what matters of a device, no request of which is out.
 pub fn save(place: Place, cells: &mut [u8], tasks: &Tasks) -> Place
     requires { AreSavable tasks.now }
-    ensures { (chunk : ℕ) → (cells.new, result) ≡ (device_form tasks.now.units chunk).write (cells.old, place) (saved_device tasks.now) }
+    ensures cells { (chunk : ℕ) → (cells.new, result) ≡ (device_form tasks.now.units chunk).write (cells.old, place) (saved_device tasks.now) }
+    ensures has { (chunk : ℕ) → All (λ (slot : SlotState). slot.chunk ≡ chunk) tasks.now.slots → (device_form tasks.now.units chunk).Has (saved_device tasks.now) }
 {
     let place = write_attentions(place, cells, tasks);
     write_tags(place, cells, tasks)

@@ -12,7 +12,7 @@ use Rattle.uas_tasks.specs.declared.Job.{Job}
 use Rattle.uas_tasks.specs.declared.LogicalUnit.{LogicalUnit}
 use Rattle.uas_tasks.specs.declared.saved.TagState.{TagState}
 use Rattle.uas_tasks.specs.declared.Task.{Task}
-use Rattle.uas_tasks.specs.declared.Task.TheVariants.{Giving, Blocks, Ended, Held}
+use Rattle.uas_tasks.specs.declared.Task.TheVariants.{Giving, Blocks, Ended, Failed, Held}
 use Rattle.uas_tasks.specs.Machine.{Machine}
 use Rattle.uas_tasks.specs.Saved.{is_job_of, is_job_on, is_tag_state, is_task, restored_slot, settled_slot}
 use Rattle.uas_tasks.specs.Slots.{SlotState, fresh_slot}
@@ -45,6 +45,7 @@ task_restored : (units : List LogicalUnit) (xs : List (Option UnitAttention)) (c
 task_restored units xs chunk many (Giving unit at) = rw (length-restored units xs) refl
 task_restored units xs chunk many (Blocks unit job stage) = rw (job_restored units xs unit job) refl
 task_restored units xs chunk many (Ended unit answer) = rw (length-restored units xs) refl
+task_restored units xs chunk many (Failed unit failure) = rw (length-restored units xs) refl
 task_restored units xs chunk many (Held unit code) = rw (length-restored units xs) refl
 
 state_restored : (units : List LogicalUnit) (xs : List (Option UnitAttention)) (chunk many : ℕ) (state : TagState) →

@@ -1,3 +1,4 @@
+pub mod FailuresExact
 pub mod TasksExact
 pub mod DevicesExact
 pub mod Places

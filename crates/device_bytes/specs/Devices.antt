@@ -5,7 +5,7 @@ use Rattle.host_commands.specs.declared.UnitAttention.TheVariants.{PowerOn, Rese
 use Rattle.uas_tasks.specs.declared.LogicalUnit.{LogicalUnit}
 use Rattle.uas_tasks.specs.declared.saved.TagState.{TagState}
 use Rattle.uas_tasks.specs.declared.Task.{Task}
-use Rattle.uas_tasks.specs.declared.Task.TheVariants.{Giving, Blocks, Ended, Held}
+use Rattle.uas_tasks.specs.declared.Task.TheVariants.{Giving, Blocks, Ended, Failed, Held}
 use Rattle.uas_tasks.specs.Machine.{Machine}
 use Rattle.uas_tasks.specs.Saved.{is_tag_state, kept_bytes, restored_attention, restored_slot, restored_tag, settled_slot, tag_state}
 use Rattle.uas_tasks.specs.Slots.{SlotState, fresh_slot}
@@ -102,6 +102,7 @@ IsNumbered (Giving unit at) = IfSome unit (λ number. number < 256)
 IsNumbered (Blocks unit job stage) = unit < 256
 IsNumbered (Ended unit answer) = IfSome unit (λ number. number < 256)
 IsNumbered (Held unit code) = unit < 256
+IsNumbered (Failed unit failure) = unit < 256
 
 -- WHAT IS LOADED INTO A FRESH DEVICE: a part after the other
 

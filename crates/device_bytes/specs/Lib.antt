@@ -1,3 +1,4 @@
 -- The forms of a device without blocks at a moment when no request is out.
+pub mod Failures
 pub mod Tasks
 pub mod Devices

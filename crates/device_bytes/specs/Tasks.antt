@@ -4,17 +4,20 @@ use Rattle.scsi_cmd.specs.declared.Sense.{Sense}
 use Rattle.device_server.specs.declared.Answer.TheVariants.{Good, Check}
 use Rattle.uas_target.specs.declared.DeviceAnswer.{DeviceAnswer}
 use Rattle.uas_target.specs.declared.DeviceAnswer.TheVariants.{Status, Response}
+use Rattle.uas_tasks.specs.declared.Failure.{Failure}
+use Rattle.uas_tasks.specs.declared.Failure.TheVariants.{Busy}
 use Rattle.uas_tasks.specs.declared.Job.{Job}
 use Rattle.uas_tasks.specs.declared.JobKind.{JobKind}
-use Rattle.uas_tasks.specs.declared.JobKind.TheVariants.{Reads, Writes, Compares, Verifies, Synchronizes, WritesAndVerifies}
+use Rattle.uas_tasks.specs.declared.JobKind.TheVariants.{Reads, ReadsBeforeBad, Writes, Compares, Verifies, Synchronizes, WritesAndVerifies}
 use Rattle.uas_tasks.specs.declared.Stage.{Stage}
 use Rattle.uas_tasks.specs.declared.Stage.TheVariants.{Asking, Waiting, Moving}
 use Rattle.uas_tasks.specs.declared.Task.{Task}
-use Rattle.uas_tasks.specs.declared.Task.TheVariants.{Giving, Blocks, Ended, Held}
+use Rattle.uas_tasks.specs.declared.Task.TheVariants.{Giving, Blocks, Ended, Failed, Held}
 use Rattle.machine_bytes.specs.Forms.{Form, flag, mapped, nothing, number, optional, pair, tagged}
+use Rattle.device_bytes.specs.Failures.{failure_form, sense_form}
 
 -- what a command does with its blocks: 0 Reads, 1 Writes and whether through, 2 Compares, 3 Verifies, 4 Synchronizes, 5 WritesAndVerifies,
--- whether it compares and whether the chunk is written
+-- whether it compares and whether the chunk is written, 6 ReadsBeforeBad
 abbrev pub kind_number : JobKind → ℕ
 kind_number Reads = 0
 kind_number (Writes through) = 1
@@ -22,6 +25,7 @@ kind_number Compares = 2
 kind_number Verifies = 3
 kind_number Synchronizes = 4
 kind_number (WritesAndVerifies compares has_written) = 5
+kind_number ReadsBeforeBad = 6
 
 abbrev pub writes_of : Bool → JobKind
 writes_of through = Writes through
@@ -33,6 +37,7 @@ through_of Compares = false
 through_of Verifies = false
 through_of Synchronizes = false
 through_of (WritesAndVerifies compares has_written) = false
+through_of ReadsBeforeBad = false
 
 abbrev pub verifies_of : Bool × Bool → JobKind
 verifies_of flags = WritesAndVerifies flags.0 flags.1
@@ -44,6 +49,7 @@ flags_of Compares = (false, false)
 flags_of Verifies = (false, false)
 flags_of Synchronizes = (false, false)
 flags_of (WritesAndVerifies compares has_written) = (compares, has_written)
+flags_of ReadsBeforeBad = (false, false)
 
 abbrev pub kind_part : ℕ → Form JobKind
 kind_part zero = nothing Reads
@@ -51,10 +57,11 @@ kind_part (suc zero) = mapped writes_of through_of flag
 kind_part (suc (suc zero)) = nothing Compares
 kind_part (suc (suc (suc zero))) = nothing Verifies
 kind_part (suc (suc (suc (suc zero)))) = nothing Synchronizes
-kind_part (suc (suc (suc (suc (suc k))))) = mapped verifies_of flags_of (pair flag flag)
+kind_part (suc (suc (suc (suc (suc zero))))) = mapped verifies_of flags_of (pair flag flag)
+kind_part (suc (suc (suc (suc (suc (suc k)))))) = nothing ReadsBeforeBad
 
 abbrev pub kind_form : Form JobKind
-kind_form = tagged 6 kind_number kind_part
+kind_form = tagged 7 kind_number kind_part
 
 -- its blocks: kind, bytes of a block (2), first block (8), how many (8), how many are done (8)
 abbrev pub job_form : Form Job
@@ -87,16 +94,6 @@ stage_part (suc (suc k)) = mapped moving_of at_of (number 8)
 
 abbrev pub stage_form : Form Stage
 stage_form = tagged 3 stage_number stage_part
-
--- sense data: key, ASC, ASCQ
-abbrev pub sense_form : Form Sense
-sense_form = mapped to from (pair (number 1) (pair (number 1) (number 1)))
-  where
-    to : ℕ × (ℕ × ℕ) → Sense
-    to s = record { key = s.0; asc = s.1.0; ascq = s.1.1 }
-
-    from : Sense → ℕ × (ℕ × ℕ)
-    from s = (s.key, (s.asc, s.ascq))
 
 -- an answer: 0 GOOD, 1 CHECK CONDITION and its sense, 2 a response code
 abbrev pub answer_number : DeviceAnswer → ℕ
@@ -131,7 +128,7 @@ abbrev pub answer_form : Form DeviceAnswer
 answer_form = tagged 3 answer_number answer_part
 
 -- a task: 0 Giving, its logical unit's number and how many bytes were given (8); 1 Blocks, the number, the job and the stage; 2 Ended, the
--- number and the answer; 3 Held, the number and the response code
+-- number and the answer; 3 Held, the number and the response code; 4 Failed, the number and the failure
 abbrev pub unit_form : Form (Option ℕ)
 unit_form = optional (number 1)
 
@@ -140,6 +137,7 @@ task_number (Giving unit at) = 0
 task_number (Blocks unit job stage) = 1
 task_number (Ended unit answer) = 2
 task_number (Held unit code) = 3
+task_number (Failed unit failure) = 4
 
 abbrev pub no_job : Job
 no_job = record { kind = Reads; block_bytes = 0; lba = 0; count = 0; done = 0 }
@@ -152,6 +150,7 @@ given_of (Giving unit at) = (unit, at)
 given_of (Blocks unit job stage) = (None, 0)
 given_of (Ended unit answer) = (None, 0)
 given_of (Held unit code) = (None, 0)
+given_of (Failed unit failure) = (None, 0)
 
 abbrev pub blocks_of : ℕ × (Job × Stage) → Task
 blocks_of parts = Blocks parts.0 parts.1.0 parts.1.1
@@ -161,6 +160,7 @@ work_of (Giving unit at) = (0, (no_job, Asking))
 work_of (Blocks unit job stage) = (unit, (job, stage))
 work_of (Ended unit answer) = (0, (no_job, Asking))
 work_of (Held unit code) = (0, (no_job, Asking))
+work_of (Failed unit failure) = (0, (no_job, Asking))
 
 abbrev pub ended_of : Option ℕ × DeviceAnswer → Task
 ended_of parts = Ended parts.0 parts.1
@@ -170,6 +170,7 @@ end_of (Giving unit at) = (None, Status Good)
 end_of (Blocks unit job stage) = (None, Status Good)
 end_of (Ended unit answer) = (unit, answer)
 end_of (Held unit code) = (None, Status Good)
+end_of (Failed unit failure) = (None, Status Good)
 
 abbrev pub held_of : ℕ × ℕ → Task
 held_of parts = Held parts.0 parts.1
@@ -179,12 +180,24 @@ hold_of (Giving unit at) = (0, 0)
 hold_of (Blocks unit job stage) = (0, 0)
 hold_of (Ended unit answer) = (0, 0)
 hold_of (Held unit code) = (unit, code)
+hold_of (Failed unit failure) = (0, 0)
+
+abbrev pub failed_of : ℕ × Failure → Task
+failed_of parts = Failed parts.0 parts.1
+
+abbrev pub fault_of : Task → ℕ × Failure
+fault_of (Giving unit at) = (0, Busy)
+fault_of (Blocks unit job stage) = (0, Busy)
+fault_of (Ended unit answer) = (0, Busy)
+fault_of (Held unit code) = (0, Busy)
+fault_of (Failed unit failure) = (unit, failure)
 
 abbrev pub task_part : ℕ → Form Task
 task_part zero = mapped giving_of given_of (pair unit_form (number 8))
 task_part (suc zero) = mapped blocks_of work_of (pair (number 1) (pair job_form stage_form))
 task_part (suc (suc zero)) = mapped ended_of end_of (pair unit_form answer_form)
-task_part (suc (suc (suc k))) = mapped held_of hold_of (pair (number 1) (number 1))
+task_part (suc (suc (suc zero))) = mapped held_of hold_of (pair (number 1) (number 1))
+task_part (suc (suc (suc (suc k)))) = mapped failed_of fault_of (pair (number 1) failure_form)
 
 abbrev pub task_form : Form Task
-task_form = tagged 4 task_number task_part
+task_form = tagged 5 task_number task_part

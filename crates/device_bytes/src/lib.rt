@@ -12,6 +12,7 @@
 //! It stands on `uas_tasks` and `machine_bytes`. No call takes memory.
 #![tactic(auto)]
 
+mod failures;
 mod laws;
 mod tags;
 mod tasks;

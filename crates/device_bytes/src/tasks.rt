@@ -1,11 +1,11 @@
 //! A task: its command's blocks, its stage, its answer.
 ghost use Rattle.std.specs.Prelude.{◌≡◌, ◌<◌, IfSome};
-ghost use Rattle.device_bytes.specs.Tasks.{answer_form, job_form, kind_form, sense_form, stage_form, task_form, unit_form};
+ghost use Rattle.device_bytes.specs.Tasks.{answer_form, job_form, kind_form, stage_form, task_form, unit_form};
 ghost use Rattle.device_bytes.specs.Devices.{IsNumbered};
 
+use crate::failures::{read_failure, read_sense, write_failure, write_sense};
 use device_server::Answer;
 use machine_bytes::{Place, Reader};
-use scsi_cmd::Sense;
 use uas_tasks::{DeviceAnswer, Job, JobKind, Stage, Task};
 
 fn write_kind(place: Place, cells: &mut [u8], kind: JobKind) -> Place
@@ -26,13 +26,14 @@ fn write_kind(place: Place, cells: &mut [u8], kind: JobKind) -> Place
             let place = place.flag(cells, compares);
             place.flag(cells, has_written)
         }
+        JobKind::ReadsBeforeBad => place.kind(cells, 6),
     }
 }
 
 fn read_kind(reader: &mut Reader) -> Option<JobKind>
     ensures { (result, reader.new) ≡ kind_form.read reader.old }
 {
-    match reader.below(6)? {
+    match reader.below(7)? {
         0 => Some(JobKind::Reads),
         1 => {
             let through = reader.flag()?;
@@ -41,7 +42,7 @@ fn read_kind(reader: &mut Reader) -> Option<JobKind>
         2 => Some(JobKind::Compares),
         3 => Some(JobKind::Verifies),
         4 => Some(JobKind::Synchronizes),
-        _ => {
+        5 => {
             let compares = reader.flag()?;
             let has_written = reader.flag()?;
             Some(JobKind::WritesAndVerifies {
@@ -49,6 +50,7 @@ fn read_kind(reader: &mut Reader) -> Option<JobKind>
                 has_written,
             })
         }
+        _ => Some(JobKind::ReadsBeforeBad),
     }
 }
 
@@ -102,24 +104,6 @@ fn read_stage(reader: &mut Reader) -> Option<Stage>
             Some(Stage::Moving { at })
         }
     }
-}
-
-fn write_sense(place: Place, cells: &mut [u8], sense: Sense) -> Place
-    ensures cells { (cells.new, result) ≡ sense_form.write (cells.old, place) sense }
-    ensures has { sense_form.Has sense }
-{
-    let place = place.u8(cells, sense.key);
-    let place = place.u8(cells, sense.asc);
-    place.u8(cells, sense.ascq)
-}
-
-fn read_sense(reader: &mut Reader) -> Option<Sense>
-    ensures { (result, reader.new) ≡ sense_form.read reader.old }
-{
-    let key = reader.u8()?;
-    let asc = reader.u8()?;
-    let ascq = reader.u8()?;
-    Some(Sense { key, asc, ascq })
 }
 
 fn write_answer(place: Place, cells: &mut [u8], answer: DeviceAnswer) -> Place
@@ -200,6 +184,10 @@ pub(crate) fn write_task(place: Place, cells: &mut [u8], task: &Task) -> Place
             let place = place.kind(cells, 3).u8(cells, *unit as u8);
             place.u8(cells, *code)
         }
+        Task::Failed { unit, failure } => {
+            let place = place.kind(cells, 4).u8(cells, *unit as u8);
+            write_failure(place, cells, *failure)
+        }
     }
 }
 
@@ -207,7 +195,7 @@ pub(crate) fn write_task(place: Place, cells: &mut [u8], task: &Task) -> Place
 pub(crate) fn read_task(reader: &mut Reader) -> Option<Task>
     ensures { (result, reader.new) ≡ task_form.read reader.old }
 {
-    match reader.below(4)? {
+    match reader.below(5)? {
         0 => {
             let unit = read_unit(reader)?;
             let at = reader.u64()? as usize;
@@ -224,10 +212,15 @@ pub(crate) fn read_task(reader: &mut Reader) -> Option<Task>
             let answer = read_answer(reader)?;
             Some(Task::Ended { unit, answer })
         }
-        _ => {
+        3 => {
             let unit = usize::from(reader.u8()?);
             let code = reader.u8()?;
             Some(Task::Held { unit, code })
+        }
+        _ => {
+            let unit = usize::from(reader.u8()?);
+            let failure = read_failure(reader)?;
+            Some(Task::Failed { unit, failure })
         }
     }
 }

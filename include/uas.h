@@ -162,6 +162,15 @@ enum uas_fault {
     UAS_XHCI_WRAPS = 161,   /* a region that goes past the last address */
     UAS_XHCI_OVERLAP = 162, /* an address, or a byte of the caller's memory, is in two regions */
     UAS_XHCI_NULL = 163,    /* a region whose bytes are a null pointer */
+    UAS_XHCI_OUT = 164,     /* a request is out */
+    UAS_XHCI_ROOM = 165,    /* less room than a saved controller takes */
+    UAS_XHCI_SHORT = 166,   /* fewer bytes than any saved controller has */
+    UAS_XHCI_MAGIC = 167,   /* bytes that are no saved controller */
+    UAS_XHCI_VERSION = 168, /* a saved controller of a later version */
+    UAS_XHCI_LENGTH = 169,  /* another length than a saved controller says */
+    UAS_XHCI_SUM = 170,     /* a saved controller whose checksum is another's */
+    UAS_XHCI_SHAPE = 171,   /* a saved controller of other logical units, or of another set, maximum or chunk */
+    UAS_XHCI_VALUE = 172,   /* a saved controller with a value that none has */
     /* the driver for any controller (uas_block.h) */
     UAS_BLOCK_CALL = 176,       /* no such call or kind of request, or too little room */
     UAS_BLOCK_OPTIONS = 177,    /* options that can't be asked */

@@ -90,7 +90,9 @@ enum {
     UAS_XHCI_CALL_ANSWERED = 10,
     UAS_XHCI_CALL_STALE = 11,
     UAS_XHCI_CALL_HOST_ERROR = 12,
-    UAS_XHCI_CALL_OFFER = 13
+    UAS_XHCI_CALL_OFFER = 13,
+    UAS_XHCI_CALL_SAVE = 14,
+    UAS_XHCI_CALL_LOAD = 15
 };
 
 /* What goes in and comes out beside the bytes, where a call has it. */
@@ -103,13 +105,13 @@ struct uas_xhci_door {
     uint8_t outcome; /* in of ANSWERED: UAS_DONE and its like */
     uint16_t reserved;
     uint64_t offset; /* in of READ, WRITE */
-    uint64_t value;  /* in of WRITE, PLUG, FRAME, OFFER; out of READ */
+    uint64_t value;  /* in of WRITE, PLUG, FRAME, OFFER; out of READ, SAVE, LOAD */
     uint64_t number, unit, block, count; /* out of REQUEST; `number` in of DATA, ANSWERED, STALE, OFFER; out of STALE */
 };
 UAS_XHCI_ASSERT(sizeof(struct uas_xhci_door) == 56 && offsetof(struct uas_xhci_door, offset) == 8);
 
 /* Any call of the controller but its steps; those below are easier to use. Where a call has no bytes, `length` may be 0.
- * Faults: UAS_TASKS_CALL, UAS_TASKS_NOT_OUT, UAS_TASKS_LENGTH, UAS_UNITS, UAS_TASKS_SERIAL. */
+ * Faults: UAS_TASKS_CALL, UAS_TASKS_NOT_OUT, UAS_TASKS_LENGTH, UAS_UNITS, UAS_TASKS_SERIAL; of SAVE and LOAD those of uas_xhci_save and uas_xhci_load. */
 uint8_t uas_xhci_call(uas_xhci *xhci, struct uas_xhci_door *door, uint8_t *bytes, size_t length);
 
 /* ---- Registers (5.3 to 5.6) ---- */
@@ -193,6 +195,25 @@ void uas_xhci_plug(uas_xhci *xhci, bool attached);
 
 /* A reset of the whole function, as HCRST does it (5.4.1): registers, slot, rings, ports and the disk's tasks. */
 void uas_xhci_reset(uas_xhci *xhci);
+
+/* ---- Saving ---- */
+
+/* Writes all that is kept of the controller and its disk, but neither the guest's memory nor blocks, into `bytes`, of which `room` are there.
+ * Before it no more steps are taken, and each request is answered. *length is how many bytes that takes, also with UAS_XHCI_ROOM; what `bytes`
+ * have then says nothing.
+ * Faults: UAS_XHCI_OUT (a request is out), UAS_XHCI_ROOM (fewer bytes than it takes). */
+uint8_t uas_xhci_save(const uas_xhci *xhci, uint8_t *bytes, size_t room, size_t *length);
+
+/* Makes a controller as uas_xhci_new does, and as it was when these bytes were saved; all tags' bytes that don't matter any more are 0.
+ * Faults: those of uas_xhci_new; the first of the bytes', UAS_XHCI_SHORT (fewer than any has), UAS_XHCI_MAGIC (no saved controller),
+ * UAS_XHCI_VERSION (a later one's), UAS_XHCI_LENGTH (another than they say), UAS_XHCI_SUM (they were changed), UAS_XHCI_SHAPE (other logical units,
+ * or another set, `most` or `chunk`), UAS_XHCI_VALUE (what no controller has); UAS_NO_MEMORY. */
+uint8_t uas_xhci_load(const struct uas_tasks_unit *units, size_t count, uint8_t set, uint16_t most, uint16_t chunk, const uint8_t *bytes, size_t length,
+                      uas_xhci **xhci);
+
+/* The same of the logical units of uas_xhci_new_disks, whose names are those that are told from now on. */
+uint8_t uas_xhci_load_disks(const struct uas_disk *disks, size_t disk_bytes, uint8_t set, uint16_t most, uint16_t chunk, const uint8_t *bytes,
+                            size_t length, uas_xhci **xhci);
 
 /* ---- Blocks ---- */
 

@@ -150,6 +150,44 @@ void uas_xhci_reset(uas_xhci *xhci)
     call(xhci, &door, NULL, 0);
 }
 
+uint8_t uas_xhci_save(const uas_xhci *xhci, uint8_t *bytes, size_t room, size_t *length)
+{
+    uint8_t none = 0;
+    struct uas_xhci_door door = { .call = UAS_XHCI_CALL_SAVE };
+    uint8_t fault = uas_xhci_call((uas_xhci *)(uintptr_t)xhci, &door, room > 0 ? bytes : &none, room);
+    if (fault == UAS_OK || fault == UAS_XHCI_ROOM)
+        *length = (size_t)door.value;
+    return fault;
+}
+
+/* A controller that was just made, as it was saved; it is ended where that is refused. */
+static uint8_t load_into(uas_xhci *made, const uint8_t *bytes, size_t length, uas_xhci **xhci)
+{
+    struct uas_xhci_door door = { .call = UAS_XHCI_CALL_LOAD };
+    uint8_t fault = call(made, &door, bytes, length);
+    if (fault == UAS_OK)
+        *xhci = made;
+    else
+        uas_xhci_free(made);
+    return fault;
+}
+
+uint8_t uas_xhci_load(const struct uas_tasks_unit *units, size_t count, uint8_t set, uint16_t most, uint16_t chunk, const uint8_t *bytes, size_t length,
+                      uas_xhci **xhci)
+{
+    uas_xhci *made;
+    uint8_t fault = uas_xhci_new(units, count, set, most, chunk, &made);
+    return fault != UAS_OK ? fault : load_into(made, bytes, length, xhci);
+}
+
+uint8_t uas_xhci_load_disks(const struct uas_disk *disks, size_t disk_bytes, uint8_t set, uint16_t most, uint16_t chunk, const uint8_t *bytes,
+                            size_t length, uas_xhci **xhci)
+{
+    uas_xhci *made;
+    uint8_t fault = uas_xhci_new_disks(disks, disk_bytes, set, most, chunk, &made);
+    return fault != UAS_OK ? fault : load_into(made, bytes, length, xhci);
+}
+
 bool uas_xhci_next_request(uas_xhci *xhci, struct uas_request *request)
 {
     struct uas_xhci_door door = { .call = UAS_XHCI_CALL_REQUEST };

@@ -91,12 +91,12 @@ fn read_detail(reader: &mut Reader) -> Option<Detail>
     }
 }
 
-fn write_sense_data(place: Place, cells: &mut [u8], data: SenseData) -> Place
-    ensures cells { (cells.new, result) ≡ sense_data_form.write (cells.old, place) data }
-    ensures has { sense_data_form.Has data }
+fn write_sense_data(place: Place, cells: &mut [u8], told: SenseData) -> Place
+    ensures cells { (cells.new, result) ≡ sense_data_form.write (cells.old, place) told }
+    ensures has { sense_data_form.Has told }
 {
-    let place = write_sense(place, cells, data.sense);
-    write_detail(place, cells, data.detail)
+    let place = write_sense(place, cells, told.sense);
+    write_detail(place, cells, told.detail)
 }
 
 fn read_sense_data(reader: &mut Reader) -> Option<SenseData>
@@ -113,7 +113,7 @@ pub(crate) fn write_failure(place: Place, cells: &mut [u8], failure: Failure) ->
     ensures has { failure_form.Has failure }
 {
     match failure {
-        Failure::Sensed(data) => write_sense_data(place.kind(cells, 0), cells, data),
+        Failure::Sensed(told) => write_sense_data(place.kind(cells, 0), cells, told),
         Failure::Busy => place.kind(cells, 1),
     }
 }
@@ -124,8 +124,8 @@ pub(crate) fn read_failure(reader: &mut Reader) -> Option<Failure>
 {
     match reader.below(2)? {
         0 => {
-            let data = read_sense_data(reader)?;
-            Some(Failure::Sensed(data))
+            let told = read_sense_data(reader)?;
+            Some(Failure::Sensed(told))
         }
         _ => Some(Failure::Busy),
     }

@@ -4,3 +4,4 @@ pub mod Places
 pub mod Loading
 pub mod Loaded
 pub mod DeviceLaws
+pub mod LikeLaws

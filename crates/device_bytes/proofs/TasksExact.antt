@@ -1,13 +1,11 @@
 -- The form of a task is exact.
-use Rattle.std.proofs.Common.{◌≡◌, ℕ, zero, suc, ◌<◌, Bool, refl, sym, ap, ◌∙◌, arith}
-use Rattle.scsi_cmd.specs.declared.Sense.{Sense}
+use Rattle.std.proofs.Common.{◌≡◌, ℕ, zero, suc, ◌<◌, refl, sym, ap, arith}
 use Rattle.uas_target.specs.declared.DeviceAnswer.{DeviceAnswer}
-use Rattle.uas_tasks.specs.declared.Job.{Job}
 use Rattle.uas_tasks.specs.declared.JobKind.{JobKind}
 use Rattle.uas_tasks.specs.declared.Stage.{Stage}
 use Rattle.uas_tasks.specs.declared.Task.{Task}
 use Rattle.machine_bytes.specs.Exact.{IsExact}
-use Rattle.machine_bytes.specs.Forms.{Form, flag, number, pair}
+use Rattle.machine_bytes.specs.Forms.{flag, number, pair}
 use Rattle.machine_bytes.proofs.Exact.{flag-exact, mapped-exact, nothing-exact, number-exact, optional-exact, pair-exact, tagged-exact}
 use Rattle.device_bytes.specs.Tasks.{answer_form, answer_number, answer_part, at_of, blocks_of, check_of, code_of, end_of, ended_of, flags_of, given_of, giving_of, held_of, hold_of, job_form}
 use Rattle.device_bytes.specs.Tasks.{kind_form, kind_number, kind_part, moving_of, response_of, sense_form, sense_of, stage_form, stage_number, stage_part, task_form, task_number, task_part, through_of}

@@ -1,7 +1,7 @@
 -- The laws of what is saved and loaded. Cited by them.
-use Rattle.std.proofs.Common.{◌≡◌, ℕ, zero, suc, ◌+◌, ◌<◌, ◌≤◌, Bool, true, false, ◌&&◌, cond, List, [], ◌∷◌, ◌++◌, length, map, drop, replicate, All, Option, Some, None}
+use Rattle.std.proofs.Common.{◌≡◌, ℕ, zero, suc, ◌≤◌, Bool, true, false, cond, List, [], ◌∷◌, ◌++◌, length, map, drop, replicate, All, Option, Some, None}
 use Rattle.std.proofs.Common.{refl, arith, ap, sym, ◌∙◌, subst}
-use Rattle.std.specs.Prelude.{◌==◌, slice_get}
+use Rattle.std.specs.Prelude.{◌==◌}
 use Rattle.std.specs.Option.{option_map_or}
 use Rattle.std.proofs.lemmas.List.{length-map, length-replicate}
 use Rattle.std.proofs.lemmas.List.Elements.{All-head, All-tail}
@@ -14,14 +14,14 @@ use Rattle.uas_tasks.specs.declared.saved.TagState.{TagState}
 use Rattle.uas_tasks.specs.declared.Task.{Task}
 use Rattle.uas_tasks.specs.declared.Task.TheVariants.{Giving, Blocks, Ended, Failed, Held}
 use Rattle.uas_tasks.specs.Machine.{Machine}
-use Rattle.uas_tasks.specs.Saved.{is_job_of, is_job_on, is_tag_state, is_task, restored_slot, settled_slot}
+use Rattle.uas_tasks.specs.Saved.{is_job_of, is_tag_state, is_task, restored_slot, settled_slot}
 use Rattle.uas_tasks.specs.Slots.{SlotState, fresh_slot}
 use Rattle.uas_tasks.specs.Soundness.{EachFits, lengths_of}
 use Rattle.uas_tasks.proofs.Kept.{restored_kept}
 use Rattle.machine_bytes.proofs.Exact.{same_value, then_some}
 use Rattle.machine_bytes.specs.Forms.{then_read}
-use Rattle.machine_bytes.specs.Sparse.{PlaceHasIf, PlacesHave, changed_form, end_mark, end_read, has_mark, places_read, sparse}
-use Rattle.device_bytes.specs.Devices.{IsMadeLike, IsNew, LoadedIsRead, LoadedIsSaved, SavedDevice, SavedIsLoaded, SavedTag, attention_loaded, attentions_form, attentions_of, device_form, device_loaded, fresh_tag, is_fresh_tag}
+use Rattle.machine_bytes.specs.Sparse.{PlaceHasIf, PlacesHave, changed_form, end_mark, end_read, has_mark, places_read}
+use Rattle.device_bytes.specs.Devices.{IsMadeLike, IsNew, LoadedIsRead, LoadedIsSaved, SavedDevice, SavedIsLoaded, SavedTag, attention_loaded, attentions_of, device_form, device_loaded, fresh_tag, is_fresh_tag}
 use Rattle.device_bytes.specs.Devices.{is_sound_tag, places_loaded, restored_device, restored_from, restored_slots, restored_units, saved_device, saved_tag, settled_device, tag_loaded, tag_place, unit_place}
 use Rattle.device_bytes.proofs.DevicesExact.{device-exact, tag-fresh}
 use Rattle.device_bytes.proofs.Loaded.{attentions_as, made, tags_as}
@@ -48,7 +48,7 @@ task_restored units xs chunk many (Ended unit answer) = rw (length-restored unit
 task_restored units xs chunk many (Failed unit failure) = rw (length-restored units xs) refl
 task_restored units xs chunk many (Held unit code) = rw (length-restored units xs) refl
 
-state_restored : (units : List LogicalUnit) (xs : List (Option UnitAttention)) (chunk many : ℕ) (state : TagState) →
+pub state_restored : (units : List LogicalUnit) (xs : List (Option UnitAttention)) (chunk many : ℕ) (state : TagState) →
     is_tag_state (restored_units units xs) chunk state many ≡ is_tag_state units chunk state many
 state_restored units xs chunk many state =
     elim state.task as (λ task. option_map_or (is_task (restored_units units xs) chunk many) task (many == 0) ≡ option_map_or (is_task units chunk many) task (many == 0)) [
@@ -138,7 +138,7 @@ loaded_read chunk room machine text new =
 
 -- WHAT WAS SAVED IS LOADED
 
-same_units : (units others : List LogicalUnit) → map (λ (unit : LogicalUnit). unit.shape) units ≡ map (λ (unit : LogicalUnit). unit.shape) others →
+pub same_units : (units others : List LogicalUnit) → map (λ (unit : LogicalUnit). unit.shape) units ≡ map (λ (unit : LogicalUnit). unit.shape) others →
     restored_units others (attentions_of units) ≡ units
 same_units [] [] is = refl
 same_units [] (other ∷ others) is = let it : ⊥ = cc in absurd it

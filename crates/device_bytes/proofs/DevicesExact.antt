@@ -1,13 +1,11 @@
 -- The form of a device is exact.
-use Rattle.std.proofs.Common.{◌≡◌, ℕ, zero, suc, ◌<◌, Bool, true, false, ◌&&◌, List, [], ◌∷◌, length, Option, None, Some, refl, sym, ap, ◌∙◌, arith}
+use Rattle.std.proofs.Common.{◌≡◌, ℕ, zero, suc, ◌<◌, Bool, true, false, List, [], ◌∷◌, length, Option, None, Some, refl, arith}
 use Rattle.std.specs.Prelude.{◌==◌, is_some, not}
 use Rattle.std.proofs.lemmas.Bool.{and_parts, eqb-true}
-use Rattle.host_commands.specs.declared.UnitAttention.{UnitAttention}
 use Rattle.uas_tasks.specs.declared.LogicalUnit.{LogicalUnit}
-use Rattle.uas_tasks.specs.declared.saved.TagState.{TagState}
 use Rattle.uas_tasks.specs.declared.Task.{Task}
 use Rattle.machine_bytes.specs.Exact.{IsExact}
-use Rattle.machine_bytes.specs.Forms.{Form, checked, counted}
+use Rattle.machine_bytes.specs.Forms.{counted}
 use Rattle.machine_bytes.proofs.Exact.{checked-exact, counted-exact, mapped-exact, named-exact, number-exact, of_some-exact, optional-exact, pair-exact}
 use Rattle.machine_bytes.proofs.SparseExact.{sparse-exact}
 use Rattle.device_bytes.specs.Devices.{MOST_CHUNK, SavedTag, attention_at, attention_form, attention_number, attentions_form, device_form, fresh_tag, is_fresh_tag, is_sound_tag, state_form, tag_form, tag_place, tags_form, unit_place}

@@ -5,3 +5,4 @@ pub mod Places
 pub mod Loading
 pub mod Loaded
 pub mod DeviceLaws
+pub mod LikeLaws

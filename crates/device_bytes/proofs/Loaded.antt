@@ -1,25 +1,21 @@
 -- What is loaded into a new device is what its form reads. Cited by the law.
-use Rattle.std.proofs.Common.{◌≡◌, ℕ, zero, suc, ◌+◌, ◌<◌, ◌≤◌, Bool, true, false, ◌&&◌, cond, List, [], ◌∷◌, ◌++◌, length, map, drop, replicate, All, Option, Some, None, Result, Ok, Err}
-use Rattle.std.proofs.Common.{refl, arith, ap, sym, ◌∙◌, subst, add-one, append_assoc, length-append}
-use Rattle.std.specs.Prelude.{is_ok, is_some, not, slice_get, slice_index_or, slice_set}
+use Rattle.std.proofs.Common.{◌≡◌, ℕ, zero, suc, ◌+◌, ◌<◌, ◌≤◌, Bool, true, false, ◌&&◌, cond, List, [], ◌∷◌, ◌++◌, length, drop, replicate, All, Option, Some, None, Result, Ok, Err}
+use Rattle.std.proofs.Common.{refl, arith, ap, sym, ◌∙◌, append_assoc, length-append}
+use Rattle.std.specs.Prelude.{is_ok, not, slice_get, slice_index_or, slice_set}
 use Rattle.std.proofs.lemmas.Bool.{and_from, le-leb, lt-ltb}
 use Rattle.std.proofs.lemmas.List.{length-replicate}
 use Rattle.std.proofs.lemmas.List.Elements.{All-head, All-tail}
 use Rattle.host_commands.specs.declared.CommandSet.{CommandSet}
 use Rattle.host_commands.specs.declared.UnitAttention.{UnitAttention}
-use Rattle.uas_tasks.specs.declared.Job.{Job}
 use Rattle.uas_tasks.specs.declared.LogicalUnit.{LogicalUnit}
-use Rattle.uas_tasks.specs.declared.saved.TagState.{TagState}
 use Rattle.uas_tasks.specs.declared.saved.Unsound.{Unsound}
-use Rattle.uas_tasks.specs.declared.Task.{Task}
-use Rattle.uas_tasks.specs.declared.Task.TheVariants.{Giving, Blocks, Ended, Held}
-use Rattle.uas_tasks.specs.Machine.{Machine, no_slot, slot_of}
-use Rattle.uas_tasks.specs.Saved.{is_job_of, is_tag_state, is_task, restored_attention, restored_slot, restored_tag}
+use Rattle.uas_tasks.specs.Machine.{Machine, no_slot}
+use Rattle.uas_tasks.specs.Saved.{is_tag_state, restored_attention, restored_slot, restored_tag}
 use Rattle.uas_tasks.specs.Slots.{SlotState, fresh_slot, is_tag}
 use Rattle.machine_bytes.specs.Forms.{Form, checked, then_read}
-use Rattle.machine_bytes.specs.Sparse.{PlaceForm, changed_form, end_mark, end_read, has_mark, place_read, places_read}
-use Rattle.device_bytes.specs.Devices.{IsNew, LoadedIsRead, SavedTag, attention_form, attention_loaded, attentions_loaded, device_form, device_loaded, fresh_tag, is_fresh_tag, is_sound_tag}
-use Rattle.device_bytes.specs.Devices.{places_loaded, restored_from, restored_slots, restored_units, tag_form, tag_loaded, tag_place, tag_put, tags_loaded, unit_place}
+use Rattle.machine_bytes.specs.Sparse.{PlaceForm, changed_form, has_mark, place_read, places_read}
+use Rattle.device_bytes.specs.Devices.{SavedTag, attention_form, attention_loaded, fresh_tag, is_fresh_tag}
+use Rattle.device_bytes.specs.Devices.{places_loaded, restored_slots, restored_units, tag_form, tag_loaded, tag_put, unit_place}
 
 abbrev pub made : List LogicalUnit → CommandSet → List SlotState → Machine
 made units set slots = record { units = units; set = set; slots = slots }

@@ -1,6 +1,6 @@
 -- What is loaded place by place, and part by part. Cited by the answers of what loads.
-use Rattle.std.proofs.Common.{◌≡◌, ℕ, zero, suc, ◌+◌, ◌-◌, ◌<◌, ◌≤◌, Bool, true, false, cond, drop, List, Option, Some, None, MatchOption}
-use Rattle.std.proofs.Common.{refl, arith, ap, sym, ◌∙◌, subst, add-one}
+use Rattle.std.proofs.Common.{◌≡◌, ℕ, suc, ◌+◌, ◌-◌, ◌<◌, ◌≤◌, Bool, true, false, cond, drop, List, Option, Some, None}
+use Rattle.std.proofs.Common.{refl, arith, ap, sym, ◌∙◌, add-one}
 use Rattle.uas_tasks.specs.Machine.{Machine}
 use Rattle.machine_bytes.specs.Forms.{then_read}
 use Rattle.machine_bytes.specs.Sparse.{end_mark, end_read, has_mark}

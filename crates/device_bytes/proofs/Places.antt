@@ -1,7 +1,7 @@
 -- Logical units and tags place by place. Cited by what writes and reads them.
 use Rattle.std.proofs.Common.{◌≡◌, ℕ, zero, suc, ◌+◌, ◌<◌, ◌≤◌, Bool, true, false, ◌&&◌, cond, List, [], ◌∷◌, length, map, drop, All, Option, Some, None, Result, Ok, Err}
 use Rattle.std.proofs.Common.{refl, arith, ap, sym, ◌∙◌, subst, inl, inr, add-one, drop-cons, MatchOption}
-use Rattle.std.specs.Prelude.{is_ok, not, option_and_then, slice_get, slice_index_or}
+use Rattle.std.specs.Prelude.{is_ok, option_and_then, slice_get, slice_index_or}
 use Rattle.std.proofs.lemmas.Bool.{cases_lt}
 use Rattle.std.proofs.lemmas.List.{get_or_default, length-map}
 use Rattle.host_commands.specs.declared.CommandSet.{CommandSet}

@@ -1,12 +1,11 @@
 -- The form of a task is exact.
-use Rattle.std.proofs.Common.{◌≡◌, ℕ, zero, suc, ◌<◌, Bool, refl, sym, ap, ◌∙◌, arith}
+use Rattle.std.proofs.Common.{◌≡◌, ℕ, zero, suc, ◌<◌, refl, sym, ap, arith}
 use Rattle.uas_target.specs.declared.DeviceAnswer.{DeviceAnswer}
-use Rattle.uas_tasks.specs.declared.Job.{Job}
 use Rattle.uas_tasks.specs.declared.JobKind.{JobKind}
 use Rattle.uas_tasks.specs.declared.Stage.{Stage}
 use Rattle.uas_tasks.specs.declared.Task.{Task}
 use Rattle.machine_bytes.specs.Exact.{IsExact}
-use Rattle.machine_bytes.specs.Forms.{Form, flag, number, pair}
+use Rattle.machine_bytes.specs.Forms.{flag, number, pair}
 use Rattle.machine_bytes.proofs.Exact.{flag-exact, mapped-exact, nothing-exact, number-exact, optional-exact, pair-exact, tagged-exact}
 use Rattle.device_bytes.specs.Failures.{failure_form, sense_form}
 use Rattle.device_bytes.proofs.FailuresExact.{failure-exact, sense-exact}

@@ -1,19 +1,19 @@
 -- The form of a device: the attentions of its logical units, and its tags.
-use Rattle.std.specs.Prelude.{◌≡◌, ℕ, zero, suc, ◌<◌, ◌≤◌, ◌==◌, ◌-◌, Bool, true, false, not, ◌&&◌, if◌then◌else◌, List, [], ◌∷◌, length, map, drop, Option, Some, None, is_some, is_ok, IfSome, MatchOption, All, replicate, ◌++◌}
+use Rattle.std.specs.Prelude.{◌≡◌, ℕ, zero, suc, ◌<◌, ◌==◌, ◌*◌, Bool, not, ◌&&◌, if◌then◌else◌, List, [], ◌∷◌, length, map, drop, Option, Some, None, is_some, is_ok, IfSome, MatchOption, All, replicate, ◌++◌}
 use Rattle.host_commands.specs.declared.UnitAttention.{UnitAttention}
 use Rattle.host_commands.specs.declared.UnitAttention.TheVariants.{PowerOn, Reset}
 use Rattle.uas_tasks.specs.declared.LogicalUnit.{LogicalUnit}
 use Rattle.uas_tasks.specs.declared.saved.TagState.{TagState}
 use Rattle.uas_tasks.specs.declared.Task.{Task}
 use Rattle.uas_tasks.specs.declared.Task.TheVariants.{Giving, Blocks, Ended, Failed, Held}
-use Rattle.uas_tasks.specs.Machine.{Machine}
+use Rattle.uas_tasks.specs.Machine.{Machine, greatest_block, opening, quiet}
 use Rattle.uas_tasks.specs.Saved.{is_tag_state, kept_bytes, restored_attention, restored_slot, restored_tag, settled_slot, tag_state}
 use Rattle.uas_tasks.specs.Slots.{SlotState, fresh_slot}
-use Rattle.uas_tasks.specs.Soundness.{EachFits, lengths_of}
+use Rattle.uas_tasks.specs.Soundness.{AreSized, EachFits, lengths_of, shapes_of}
 use Rattle.byte_numbers.specs.Bytes.{AreBytes}
 use Rattle.machine_bytes.specs.Exact.{IsExact}
 use Rattle.machine_bytes.specs.Forms.{Form, checked, counted, mapped, named, number, of_some, optional, pair, then_read}
-use Rattle.machine_bytes.specs.Sparse.{PlaceForm, end_mark, end_read, has_mark, sparse}
+use Rattle.machine_bytes.specs.Sparse.{PlaceForm, end_read, has_mark, sparse}
 use Rattle.device_bytes.specs.Tasks.{task_form}
 
 -- ATTENTIONS, of the logical units that have one: 0 PowerOn, 1 Reset
@@ -206,3 +206,16 @@ LoadedIsSaved =
 -- Each device has one text, and each text that is read is the one of its device.
 abbrev pub FormIsExact : Type 0
 FormIsExact = (units : List LogicalUnit) (chunk : ℕ) → length units < 65535 → IsExact (device_form units chunk)
+
+-- a new device of the same logical units and chunks as this one
+abbrev pub new_like : Machine → ℕ → Machine
+new_like machine chunk =
+    let units = map quiet (shapes_of machine.units) in
+    opening units machine.set chunk (chunk * greatest_block units)
+
+-- So a device's bytes, loaded into a new one like it, are that device, the bytes that don't matter being 0.
+abbrev pub DeviceIsLoaded : Type 0
+DeviceIsLoaded =
+    (chunk : ℕ) (machine : Machine) (rest : List ℕ) → AreSized chunk machine.units machine.slots → length machine.units < 65535
+    → (device_form machine.units chunk).Has (saved_device machine)
+    → device_loaded (new_like machine chunk) ((device_form machine.units chunk).bytes (saved_device machine) ++ rest) ≡ (Some (settled_device machine), rest)

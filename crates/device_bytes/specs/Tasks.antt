@@ -1,5 +1,5 @@
 -- The form of a task: of its command's blocks, its stage, its answer. A kind is one byte.
-use Rattle.std.specs.Prelude.{ℕ, zero, suc, Bool, false, Option, None, Some}
+use Rattle.std.specs.Prelude.{ℕ, zero, suc, Bool, false, Option, None}
 use Rattle.scsi_cmd.specs.declared.Sense.{Sense}
 use Rattle.device_server.specs.declared.Answer.TheVariants.{Good, Check}
 use Rattle.uas_target.specs.declared.DeviceAnswer.{DeviceAnswer}

@@ -1,4 +1,4 @@
-use Rattle.std.proofs.Common.{◌≡◌, ℕ, List, None, Some, Option, refl, ◌∙◌}
+use Rattle.std.proofs.Common.{◌≡◌, ℕ, List, None, Option, ◌∙◌}
 use Rattle.uas_tasks.specs.Machine.{Machine}
 use Rattle.machine_bytes.specs.Forms.{then_read}
 use Rattle.machine_bytes.specs.Sparse.{end_read}

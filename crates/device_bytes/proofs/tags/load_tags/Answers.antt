@@ -1,5 +1,5 @@
 use Rattle.std.proofs.Common.{◌≡◌, None, Some, arith, ◌∙◌}
-use Rattle.device_bytes.specs.Devices.{Loads, places_loaded, tag_loaded}
+use Rattle.device_bytes.specs.Devices.{tag_loaded}
 use Rattle.device_bytes.proofs.Loading.{places_all, places_more, places_none}
 use Rattle.device_bytes.proofs.tags.load_tags.Goals as goal
 

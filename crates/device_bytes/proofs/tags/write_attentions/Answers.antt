@@ -1,4 +1,4 @@
-use Rattle.std.proofs.Common.{◌≡◌, ◌<◌, length, arith, sym, ap, ◌∙◌, ◌+◌, drop}
+use Rattle.std.proofs.Common.{◌<◌, length, arith, sym, ap, ◌∙◌, ◌+◌, drop}
 use Rattle.std.proofs.lemmas.List.{length-map}
 use Rattle.machine_bytes.specs.Sparse.{places_write}
 use Rattle.device_bytes.specs.Devices.{attentions_of, unit_place}

@@ -49,6 +49,7 @@ mod management;
 mod moves;
 mod receiver;
 mod saved;
+mod shapes;
 mod slot;
 mod stale;
 mod starts;

@@ -1,6 +1,6 @@
 -- Slots of a list: the one of a tag, what was read there, and what stays true as one is written. Cited by the answers of every
 -- call of a device.
-use Rattle.std.proofs.Common.{◌≡◌, ℕ, zero, suc, ◌+◌, ◌-◌, ◌*◌, ◌<◌, ◌≤◌, Bool, true, false, cond, List, [], ◌∷◌, ◌++◌, length, map, replicate, take, drop, All}
+use Rattle.std.proofs.Common.{◌≡◌, ℕ, zero, suc, ◌+◌, ◌-◌, ◌*◌, ◌<◌, ◌≤◌, Bool, true, false, cond, ◌||◌, List, [], ◌∷◌, ◌++◌, length, map, replicate, take, drop, All}
 use Rattle.std.proofs.Common.{Option, Some, None, refl, arith, ap, sym, ◌∙◌, subst, inl, inr, length-set, mul-zero, add-one, drop-cons}
 use Rattle.std.specs.Prelude.{count_by, is_some, slice_get, slice_index_or, slice_set, ◌==◌}
 use Rattle.std.specs.List.{list_any}
@@ -17,7 +17,7 @@ use Rattle.uas_tasks.specs.declared.LogicalUnit.{LogicalUnit}
 use Rattle.uas_tasks.specs.declared.slot.Out.{Out}
 use Rattle.uas_tasks.specs.Machine.{attentive, greatest_block, is_long, is_long_block, no_slot, number_of, out_on, powered, slot_under, stale_from, with_slot_under}
 use Rattle.uas_tasks.specs.Slots.{SlotState, fresh_slot}
-use Rattle.uas_tasks.specs.Soundness.{AreCounted, EachFits, HasRoom, IsSoundMachine, IsWithin, IsWritten, lengths_of, shapes_of}
+use Rattle.uas_tasks.specs.Soundness.{AreCounted, AreSized, EachFits, HasRoom, IsSoundMachine, IsWithin, IsWritten, lengths_of, shapes_of}
 use Rattle.uas_tasks.specs.Stale.{is_stale, stale_unit}
 use Rattle.uas_tasks.proofs.Counts.{AreCounted-kept, Keeps}
 
@@ -81,6 +81,17 @@ pub within_at : (units : List LogicalUnit) (stale : List ℕ) (slots : List Slot
 within_at units stale slots place read sound within is =
     subst (IsWithin (shapes_of units)) (sym is) (All-get_or (IsWithin (shapes_of units)) slots place read within sound.within)
 
+sized_written : (size : ℕ) (units : List LogicalUnit) (slots : List SlotState) (place : ℕ) (read now : SlotState) → place < length slots →
+    read ≡ slice_index_or slots place read → now.chunk ≡ read.chunk → length now.bytes ≡ length read.bytes → AreSized size units slots →
+    AreSized size units (slice_set slots place now)
+sized_written size units slots place read now within is chunk len sized =
+    let one : read.chunk ≡ size = ap (λ (s : SlotState). s.chunk) is ∙ sized.chunks place read within in
+    let two : length read.bytes ≡ size * greatest_block units = ap (λ (s : SlotState). length s.bytes) is ∙ sized.buffers place read within in
+    record {
+      chunks = All-set (λ (s : SlotState). s.chunk ≡ size) slots place now (chunk ∙ one) sized.chunks;
+      buffers = All-set (λ (s : SlotState). length s.bytes ≡ size * greatest_block units) slots place now (len ∙ two) sized.buffers;
+    }
+
 -- where a slot is written that keeps its chunk and its buffer's length, and the stale requests are counted then
 pub IsSoundMachine-written : (units : List LogicalUnit) (stale after : List ℕ) (slots : List SlotState) (place : ℕ) (read now : SlotState) →
     IsSoundMachine units stale slots → place < length slots → read ≡ slice_index_or slots place read → now.chunk ≡ read.chunk →
@@ -95,6 +106,7 @@ IsSoundMachine-written units stale after slots place read now sound within is ch
       many = many ∙ sound.many;
       within = All-set (IsWithin (shapes_of units)) slots place now (keeps (within_at units stale slots place read sound within is)) sound.within;
       counts = counted;
+      sized = (sound.sized.0, sized_written sound.sized.0 units slots place read now within is chunk len sound.sized.1);
     }
 
 -- and where the same is stale
@@ -113,6 +125,18 @@ lengths_of-shapes : (units : List LogicalUnit) → lengths_of units ≡ map (λ 
 lengths_of-shapes [] = refl
 lengths_of-shapes (unit ∷ units) = ap (λ rest. unit.shape.block_length ∷ rest) (lengths_of-shapes units)
 
+-- the longest blocks are those of the shapes
+long_shapes : (units : List LogicalUnit) → list_any is_long units ≡ list_any (λ (shape : Shape). is_long_block shape.block_length) (shapes_of units)
+long_shapes [] = refl
+long_shapes (unit ∷ units) = ap (λ rest. is_long unit || rest) (long_shapes units)
+
+pub greatest_same : (units after : List LogicalUnit) → shapes_of after ≡ shapes_of units → greatest_block after ≡ greatest_block units
+greatest_same units after same =
+    let long : list_any is_long after ≡ list_any is_long units =
+    long_shapes after ∙ ap (list_any (λ (shape : Shape). is_long_block shape.block_length)) same ∙ sym (long_shapes units)
+    in
+    ap (λ b. cond b 4096 512) long
+
 -- where the logical units keep their shapes
 pub IsSoundMachine-units : (units after : List LogicalUnit) (stale : List ℕ) (slots : List SlotState) → IsSoundMachine units stale slots →
     shapes_of after ≡ shapes_of units → IsSoundMachine after stale slots
@@ -125,6 +149,7 @@ IsSoundMachine-units units after stale slots sound same =
       many = sound.many ∙ sym many;
       within = rw same sound.within;
       counts = sound.counts;
+      sized = (sound.sized.0, record { chunks = sound.sized.1.chunks; buffers = rw (greatest_same units after same) sound.sized.1.buffers });
     }
 
 -- the shape of one that was read
@@ -182,6 +207,16 @@ IsSoundMachine-map units stale after slots f sound chunk bytes keeps many counte
   many = many ∙ sound.many;
   within = All-mapped (IsWithin (shapes_of units)) f slots keeps sound.within;
   counts = counted;
+  sized = (
+    sound.sized.0,
+    record {
+      chunks = All-map (λ (s : SlotState). s.chunk ≡ sound.sized.0) f slots
+          (All-weaker (λ (s : SlotState). s.chunk ≡ sound.sized.0) (λ (s : SlotState). (f s).chunk ≡ sound.sized.0) (λ s it. chunk s ∙ it) slots sound.sized.1.chunks);
+      buffers = All-map (λ (s : SlotState). length s.bytes ≡ sound.sized.0 * greatest_block units) f slots
+          (All-weaker (λ (s : SlotState). length s.bytes ≡ sound.sized.0 * greatest_block units)
+          (λ (s : SlotState). length (f s).bytes ≡ sound.sized.0 * greatest_block units) (λ s it. ap length (bytes s) ∙ it) slots sound.sized.1.buffers);
+    },
+  );
 }
 
 -- attentions are nothing to shapes
@@ -264,6 +299,13 @@ opening_sound units chunk room most is =
       many = length_replicate (length units) 0;
       within = All-replicate (IsWithin (shapes_of units)) GREATEST_TAG (fresh_slot chunk room) (record { task = tt; written = tt });
       counts = fresh_counted (length units) GREATEST_TAG chunk room;
+      sized = (
+        chunk,
+        record {
+          chunks = All-replicate (λ (s : SlotState). s.chunk ≡ chunk) GREATEST_TAG (fresh_slot chunk room) refl;
+          buffers = All-replicate (λ (s : SlotState). length s.bytes ≡ chunk * greatest_block units) GREATEST_TAG (fresh_slot chunk room) long;
+        },
+      );
     }
 
 pub replicate-more : {T : Type 0} (n : ℕ) (x : T) → replicate n x ++ x ∷ [] ≡ replicate (n + 1) x

@@ -1,6 +1,6 @@
 -- What matters of a device at a moment when no request is out, and the device that has it again: bytes that don't matter are 0 there.
 use Rattle.std.specs.Prelude.{◌≡◌, ℕ, ◌+◌, ◌-◌, ◌<◌, ◌≤◌, ◌==◌, nat_lt, nat_le, Bool, true, false, not, ◌&&◌, ◌||◌, if◌then◌else◌, List, [], ◌++◌, length, take, drop, replicate, slice_get}
-use Rattle.std.specs.Prelude.{Option, None, is_some, option_and_then, Result, Ok, Err}
+use Rattle.std.specs.Prelude.{Option, None, is_some, option_and_then, option_map, Result, Ok, Err}
 use Rattle.std.specs.List.{list_any}
 use Rattle.std.specs.Option.{option_map_or}
 use Rattle.scsi_cmd.specs.Buffers.{with_bytes_at}
@@ -192,6 +192,9 @@ RestoredAreKept =
 
 abbrev pub unit_attention : Machine → ℕ → Option UnitAttention
 unit_attention machine number = option_and_then (λ unit. unit.attention) (slice_get machine.units number)
+
+abbrev pub unit_shape : Machine → ℕ → Option Shape
+unit_shape machine number = option_map (λ unit. unit.shape) (slice_get machine.units number)
 
 abbrev pub restored_attention : Machine → ℕ → Option UnitAttention → Machine
 restored_attention machine number attention =

@@ -16,6 +16,7 @@ use Rattle.uas_tasks.specs.declared.Task.{Task}
 use Rattle.uas_tasks.specs.declared.Task.TheVariants.{Giving, Blocks, Ended, Held}
 use Rattle.uas_tasks.specs.declared.Wants.{Wants}
 use Rattle.uas_tasks.specs.declared.Wants.TheVariants.{Absent, Asks, Waits, Gives, Takes, Ends}
+use Rattle.uas_tasks.specs.Machine.{greatest_block}
 use Rattle.uas_tasks.specs.Slots.{SlotState, chunk_bytes, is_moved}
 use Rattle.uas_tasks.specs.Stale.{is_stale, writes_out}
 
@@ -151,7 +152,12 @@ abbrev pub counted_down : List ℕ → Option ℕ → List ℕ
 counted_down stale None = stale
 counted_down stale (Some unit) = slice_set stale unit (slice_index_or stale unit 0 - 1)
 
--- at most MAX_UNITS logical units, a slot for each tag, and the count of stale requests of each logical unit
+-- chunks of so many blocks, and a buffer for one of the longest
+pub record AreSized (chunk : ℕ) (units : List LogicalUnit) (slots : List SlotState) : Type 0 where
+  pub chunks : All (λ (slot : SlotState). slot.chunk ≡ chunk) slots
+  pub buffers : All (λ (slot : SlotState). length slot.bytes ≡ chunk * greatest_block units) slots
+
+-- at most MAX_UNITS logical units, a slot of the same size for each tag, and the count of stale requests of each logical unit
 pub record IsSoundMachine (units : List LogicalUnit) (stale : List ℕ) (slots : List SlotState) : Type 0 where
   pub most_units : length units ≤ MAX_UNITS
   pub places : length slots ≡ GREATEST_TAG
@@ -159,3 +165,4 @@ pub record IsSoundMachine (units : List LogicalUnit) (stale : List ℕ) (slots :
   pub many : length stale ≡ length units
   pub within : All (IsWithin (shapes_of units)) slots
   pub counts : AreCounted stale slots
+  pub sized : (chunk : ℕ) × AreSized chunk units slots

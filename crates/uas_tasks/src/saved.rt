@@ -4,16 +4,16 @@ ghost use Rattle.host_commands.specs.declared.TheConstants.{MOST_DATA_BYTES};
 ghost use Rattle.uas_profile.specs.declared.TheConstants.{MAX_UNITS};
 ghost use Rattle.uas_tasks.specs.Machine.{slot_of};
 ghost use Rattle.uas_tasks.specs.Saved.{AreSavable, IsRestorable, asking_span, has_request_out, is_free, is_job_of, is_job_on, is_stage, is_tag_state, is_task, is_unit, kept_bytes, may_restore, moving_span, no_span};
-ghost use Rattle.uas_tasks.specs.Saved.{restored_attention, restored_slot, restored_tag, stage_span, tag_state, unit_attention};
+ghost use Rattle.uas_tasks.specs.Saved.{restored_attention, restored_slot, restored_tag, stage_span, tag_state, unit_attention, unit_shape};
 ghost use Rattle.uas_tasks.specs.Slots.{chunk_bytes, is_moved};
-ghost use Rattle.uas_tasks.specs.Soundness.{IsSoundJob, IsSoundStage};
+ghost use Rattle.uas_tasks.specs.Soundness.{AreSized, IsSoundJob, IsSoundStage};
 
 use crate::jobs::{chunk_bytes, request_bytes};
 use crate::receiver::is_tag;
 use crate::slot::Slot;
 use crate::{Job, JobKind, LogicalUnit, Stage, Task, Tasks};
 use arrayvec::ArrayVec;
-use host_commands::{LogicalUnitShape, MOST_DATA_BYTES, UnitAttention};
+use host_commands::{CommandSet, LogicalUnitShape, MOST_DATA_BYTES, UnitAttention};
 use scsi_cmd::Buffer;
 use thiserror::Error;
 
@@ -98,6 +98,30 @@ impl Tasks {
         }
         let slot = &self.slots[usize::from(tag) - 1];
         is_free(slot) && is_tag_state(&self.units, slot.chunk(), state, many)
+    }
+
+    /// The most blocks of a chunk: as the device was made.
+    pub fn chunk(&self) -> u16
+        ensures { AreSized result self.now.units self.now.slots }
+    {
+        self.slots[0].chunk()
+    }
+
+    /// The commands that it knows.
+    pub fn command_set(&self) -> CommandSet
+        ensures { result ≡ self.now.set }
+    {
+        self.set
+    }
+
+    /// What the commands of the logical unit of a number see.
+    pub fn unit_shape(&self, number: usize) -> Option<LogicalUnitShape>
+        ensures { result ≡ unit_shape self.now number }
+    {
+        match self.units.get(number) {
+            Some(unit) => Some(unit.shape),
+            None => None,
+        }
     }
 
     /// How many logical units there are.

@@ -5,7 +5,7 @@ use Rattle.bulk_only.specs.Status.{status_byte}
 use Rattle.guest_bulk.specs.declared.bulk.BulkStage.{BulkStage}
 use Rattle.machine_bytes.specs.Exact.{IsExact}
 use Rattle.machine_bytes.proofs.Exact.{counted-exact, flag-exact, mapped-exact, named-exact, nothing-exact, number-exact, optional-exact, pair-exact, tagged-exact}
-use Rattle.controller_bytes.specs.Bulk.{bulk_form, command_form, csw_status_at, done_form, done_number, done_part, kept_form, stage_form, stage_number, stage_part, told_form}
+use Rattle.controller_bytes.specs.Bulk.{bulk_form, command_form, csw_status_at, done_form, done_number, done_part, stage_form, stage_number, stage_part, told_form}
 
 done-exact : IsExact done_form
 done-exact = tagged-exact 3 done_number done_part part kinds

@@ -1,10 +1,10 @@
 -- The forms of consumers are exact.
-use Rattle.std.proofs.Common.{◌≡◌, ℕ, zero, suc, ◌<◌, refl, sym, ap, ◌∙◌, arith}
+use Rattle.std.proofs.Common.{◌≡◌, ℕ, zero, suc, ◌<◌, refl, sym, ap, arith}
 use Rattle.guest_pipes.specs.declared.progress.Ending.{Ending}
 use Rattle.guest_pipes.specs.declared.progress.Ending.TheVariants.{Told}
 use Rattle.guest_pipes.specs.Progress.{code_of}
 use Rattle.machine_bytes.specs.Exact.{IsExact}
-use Rattle.machine_bytes.specs.Forms.{Form, number}
+use Rattle.machine_bytes.specs.Forms.{number}
 use Rattle.machine_bytes.proofs.Exact.{flag-exact, mapped-exact, named-exact, nothing-exact, number-exact, pair-exact, tagged-exact}
 use Rattle.controller_bytes.specs.Consumers.{consumer_form, ending_form, ending_number, ending_part, progress_form, state_at, state_form, state_number}
 

@@ -1,5 +1,5 @@
 -- The form of endpoint 0 is exact.
-use Rattle.std.proofs.Common.{◌≡◌, ℕ, zero, suc, ◌<◌, Bool, refl, sym, ap, arith}
+use Rattle.std.proofs.Common.{◌≡◌, ℕ, zero, suc, ◌<◌, refl, sym, ap, arith}
 use Rattle.machine_bytes.specs.Exact.{IsExact}
 use Rattle.machine_bytes.proofs.Exact.{bytes_of-exact, counted-exact, flag-exact, mapped-exact, named-exact, nothing-exact, number-exact, pair-exact, tagged-exact}
 use Rattle.usb_disk.specs.declared.Settings.{Settings}

@@ -1,5 +1,5 @@
 -- The form of a pipe is exact.
-use Rattle.std.proofs.Common.{◌≡◌, ℕ, ◌==◌, ◌&&◌, Bool, true, false, List, [], ◌∷◌, refl, sym, ap, ◌∙◌, arith}
+use Rattle.std.proofs.Common.{◌≡◌, ◌==◌, Bool, true, false, List, [], ◌∷◌, refl, ap, arith}
 use Rattle.std.specs.Prelude.{not}
 use Rattle.std.proofs.lemmas.Bool.{and_parts, eqb-true, false≢true}
 use Rattle.guest_pipes.specs.declared.pipe.saved.PipeHead.{PipeHead}
@@ -11,7 +11,7 @@ use Rattle.machine_bytes.specs.Exact.{IsExact}
 use Rattle.machine_bytes.specs.Forms.{pair}
 use Rattle.machine_bytes.proofs.Exact.{checked-exact, flag-exact, mapped-exact, number-exact, pair-exact}
 use Rattle.machine_bytes.proofs.SparseExact.{sparse-exact}
-use Rattle.controller_bytes.specs.Pipes.{Ring, doorbells_of, head_form, head_of, is_fresh, is_quiet, pipe_form, pipe_in, progresses_of, quiet_ring, ring_form, ring_place, rings_form, rings_of}
+use Rattle.controller_bytes.specs.Pipes.{Ring, doorbells_of, head_form, head_of, is_fresh, is_quiet, pipe_form, pipe_in, progresses_of, quiet_ring, ring_place, rings_form, rings_of}
 use Rattle.controller_bytes.proofs.ConsumersExact.{progress-exact, state-exact}
 
 head-exact : IsExact head_form

@@ -1,6 +1,5 @@
 -- The form of Bulk-Only Transport.
-use Rattle.std.specs.Prelude.{ℕ, zero, suc, Bool, true, false, List, [], Option}
-use Rattle.arrayvec.specs.ArrayVec.{ArrayVec}
+use Rattle.std.specs.Prelude.{ℕ, zero, suc, Bool, false, List, Option}
 use Rattle.bulk_only.specs.declared.cases.Done.{Done}
 use Rattle.bulk_only.specs.declared.cases.Done.TheVariants.{Nothing, In, Out}
 use Rattle.bulk_only.specs.declared.status.Csw.{Csw}

@@ -1,5 +1,5 @@
 -- The transport as it was read, as what it is of.
-use Rattle.std.specs.Prelude.{ℕ, ◌≤◌, length}
+use Rattle.std.specs.Prelude.{◌≤◌, length}
 use Rattle.guest_bulk.specs.declared.bulk.Bulk.{Bulk}
 use Rattle.controller_bytes.specs.declared.bulk.BulkText.{BulkText}
 

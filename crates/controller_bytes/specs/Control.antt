@@ -1,6 +1,5 @@
 -- The form of endpoint 0 and of the disk's answers there.
-use Rattle.std.specs.Prelude.{ℕ, zero, suc, Bool, true, false, List, []}
-use Rattle.arrayvec.specs.ArrayVec.{ArrayVec}
+use Rattle.std.specs.Prelude.{ℕ, zero, suc, Bool, false, List, []}
 use Rattle.guest_pipes.specs.declared.consumer.Consumer.{Consumer}
 use Rattle.machine_bytes.specs.Forms.{Form, bytes_of, counted, flag, mapped, named, nothing, number, pair, tagged}
 use Rattle.usb_disk.specs.declared.Alternate.{Alternate}

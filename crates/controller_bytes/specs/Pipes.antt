@@ -1,10 +1,7 @@
 -- The form of a pipe with streams or without.
-use Rattle.std.specs.Prelude.{ℕ, ◌==◌, ◌*◌, nat_le, Bool, true, false, not, ◌&&◌, List, [], ◌∷◌, map}
-use Rattle.std.specs.List.{zip}
+use Rattle.std.specs.Prelude.{ℕ, ◌==◌, nat_le, Bool, false, not, ◌&&◌, List, [], ◌∷◌}
 use Rattle.guest_pipes.specs.declared.consumer.EndpointState.{EndpointState}
 use Rattle.guest_pipes.specs.declared.pipe.saved.PipeHead.{PipeHead}
-use Rattle.guest_pipes.specs.declared.progress.Ending.{Ending}
-use Rattle.guest_pipes.specs.declared.progress.Ending.TheVariants.{Runs, Told, Owed}
 use Rattle.guest_pipes.specs.declared.progress.Progress.{Progress}
 use Rattle.guest_pipes.specs.Pipe.{PipeState}
 use Rattle.guest_pipes.specs.Progress.{fresh, runs}

@@ -1,5 +1,5 @@
 -- The pipes as they were read, as what they are of.
-use Rattle.std.specs.Prelude.{ℕ, ◌≤◌, length}
+use Rattle.std.specs.Prelude.{◌≤◌, length}
 use Rattle.controller_bytes.specs.declared.transfers.PipesText.{PipesText}
 use Rattle.controller_bytes.specs.Texts.{pipe_of}
 use Rattle.controller_bytes.specs.Transfers.{PipesState}

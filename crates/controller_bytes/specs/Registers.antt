@@ -1,5 +1,5 @@
 -- The form of the registers: words as a guest reads them, each flag in its bit, and what no register shows (xHCI 1.2, 5.3 to 5.5).
-use Rattle.std.specs.Prelude.{ℕ, zero, suc, ◌+◌, ◌*◌, ◌==◌, nat_lt, Bool, not, true, false, if◌then◌else◌}
+use Rattle.std.specs.Prelude.{ℕ, ◌+◌, ◌*◌, ◌==◌, nat_lt, Bool, not, true, false, if◌then◌else◌}
 use Rattle.machine_bytes.specs.Forms.{Form, checked, coded, flag, mapped, number, pair}
 use Rattle.xhci_registers.specs.declared.CommandRing.{CommandRing}
 use Rattle.xhci_registers.specs.declared.Interrupter.{Interrupter}

@@ -1,7 +1,6 @@
 -- The form of what is kept of a tag beside the device.
-use Rattle.std.specs.Prelude.{ℕ, ◌==◌, nat_le, Bool, not, ◌&&◌, List, [], length}
+use Rattle.std.specs.Prelude.{ℕ, ◌==◌, nat_le, Bool, not, ◌&&◌, List, length}
 use Rattle.guest_tags.specs.Units.{Outgoing}
-use Rattle.guest_tags.specs.declared.tag.Tag.{Tag}
 use Rattle.guest_transfers.specs.declared.slot.Slot.{Slot}
 use Rattle.guest_transfers.specs.State.{empty_slot}
 use Rattle.machine_bytes.specs.Forms.{Form, checked, counted, flag, mapped, number, pair}

@@ -1,5 +1,5 @@
 -- What was read, as what it is of.
-use Rattle.std.specs.Prelude.{ℕ, ◌≤◌, length}
+use Rattle.std.specs.Prelude.{◌≤◌, length}
 use Rattle.guest_pipes.specs.Pipe.{PipeState}
 use Rattle.guest_tags.specs.Units.{Outgoing}
 use Rattle.guest_transfers.specs.declared.slot.Slot.{Slot}

@@ -35,10 +35,7 @@ fn write_done(place: Place, cells: &mut [u8], done: Done) -> Place
     match done {
         Done::Nothing => place.kind(cells, 0),
         Done::In { given } => place.kind(cells, 1).u64(cells, given),
-        Done::Out { taken, whole } => place
-            .kind(cells, 2)
-            .u64(cells, taken)
-            .u64(cells, whole),
+        Done::Out { taken, whole } => place.kind(cells, 2).u64(cells, taken).u64(cells, whole),
     }
 }
 
@@ -231,7 +228,7 @@ pub fn read_bulk<'a>(reader: &mut Reader<'a>) -> Option<BulkText<'a>>
 /// The transport made of what was read. The error is want of memory.
 pub fn restore_bulk(alloc: Global, text: BulkText) -> Result<Bulk, AllocError>
     requires { FitsBulk text }
-    ensures { IfOk result (λ bulk. bulk ≡ bulk_of text) }
+    ensures { IfOk result (λ bulk. bulk ≡ bulk_of text.entry) }
 {
     let mut chunk = Chunk::new(alloc)?;
     chunk.hold(text.chunk);

@@ -115,12 +115,7 @@ pub fn write_pipe(place: Place, cells: &mut [u8], pipe: &Pipe) -> Place
 }
 
 /// Reads what is kept of a ring, unless another number stands in front.
-fn read_ring(
-    reader: &mut Reader,
-    rung: &mut bool,
-    progress: &mut Progress,
-    at: u16,
-) -> Option<()>
+fn read_ring(reader: &mut Reader, rung: &mut bool, progress: &mut Progress, at: u16) -> Option<()>
     ensures { (option_map (λ _. (rung.new, progress.new)) result, reader.new)
         ≡ place_read (changed_form ring_place) (rung.old, progress.old) at reader.old }
 {

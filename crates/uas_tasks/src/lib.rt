@@ -56,6 +56,7 @@ mod moves;
 mod outcomes;
 mod receiver;
 mod saved;
+mod shapes;
 mod slot;
 mod stale;
 mod starts;

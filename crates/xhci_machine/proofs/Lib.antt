@@ -13,3 +13,4 @@ mod SlotTaken
 mod OrdersTaken
 pub mod Taken
 pub mod TurnsTaken
+pub mod KeptExact

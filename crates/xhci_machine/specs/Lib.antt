@@ -15,3 +15,6 @@ pub mod Worked
 pub mod Lacking
 pub mod Wanted
 pub mod Laws
+pub mod Kept
+pub mod KeptTexts
+pub mod Shapes

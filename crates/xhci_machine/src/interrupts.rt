@@ -39,10 +39,10 @@ impl From<Outside> for RingFault {
 /// was posted since there was room.
 #[derive(Debug, Drop)]
 pub(crate) struct Interrupts {
-    ring: Option<EventRing>,
-    dequeued: bool,
-    cleared_busy: bool,
-    told_full: bool,
+    pub(crate) ring: Option<EventRing>,
+    pub(crate) dequeued: bool,
+    pub(crate) cleared_busy: bool,
+    pub(crate) told_full: bool,
 }
 
 /// The event ring of the segment table's one entry, or None where the table has no entry. Refused with `Outside` where the entry isn't there,

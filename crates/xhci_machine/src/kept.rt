@@ -22,7 +22,7 @@ use xhci_registers::Registers;
 use xhci_slots::Slot;
 
 /// What was read of a controller beside tags and device.
-#[derive(Debug, Drop)]
+#[derive(Drop)]
 pub(crate) struct KeptText<'a> {
     pub registers: Registers,
     pub commands: CommandRing,
@@ -176,7 +176,7 @@ impl Machine {
     ) -> Result<Machine, AllocError>
         requires fits { FitsKept text }
         requires tags { vec_len tags ≡ 241 }
-        ensures { IfOk result (λ machine. machine ≡ machine_of (kept_text_of text) tags.items device) }
+        ensures { IfOk result (λ machine. machine ≡ machine_of (kept_text_of text.entry) tags.items device) }
     {
         Ok(Machine {
             registers: text.registers,

@@ -20,8 +20,7 @@ use Rattle.uas_tasks.specs.Soundness.{EachFits, lengths_of}
 use Rattle.uas_tasks.proofs.Kept.{restored_kept}
 use Rattle.machine_bytes.proofs.Exact.{same_value, then_some}
 use Rattle.machine_bytes.specs.Forms.{then_read}
-use Rattle.machine_bytes.specs.Sparse.{PlaceHasIf, PlacesHave, changed_form, end_mark, end_read, has_mark, places_read}
-use Rattle.machine_bytes.specs.Sparse as sparsely
+use Rattle.machine_bytes.specs.Sparse.{PlaceHasIf, PlacesHave, changed_form, end_mark, end_read, has_mark, made_places, places_read}
 use Rattle.device_bytes.specs.Devices.{IsMadeLike, IsNew, LoadedIsRead, LoadedIsSaved, SavedDevice, SavedIsLoaded, SavedTag, attention_loaded, attentions_of, device_form, device_loaded, fresh_tag, is_fresh_tag}
 use Rattle.device_bytes.specs.Devices.{is_sound_tag, places_loaded, restored_device, restored_from, restored_slots, restored_units, saved_device, saved_tag, settled_device, tag_loaded, tag_place, unit_place}
 use Rattle.device_bytes.proofs.DevicesExact.{device-exact, tag-fresh}
@@ -130,7 +129,7 @@ module _ (chunk room many : ℕ) (few : many ≤ 240) (units : List LogicalUnit)
       ∙ by_attentions (places_read (changed_form unit_place) (replicate (length units) None) 0 text)
 
 pub loaded_read : LoadedIsRead
-unfolding device_loaded places_loaded sparsely.made_places
+unfolding device_loaded made_places
 loaded_read chunk room machine text new =
     let P : List SlotState → Type 0 = λ slots.
     device_loaded (made machine.units machine.set slots) text ≡ restored_from (made machine.units machine.set slots) ((device_form machine.units chunk).read text)

@@ -3,7 +3,6 @@ ghost use Rattle.std.specs.Prelude.{◌≡◌};
 ghost use Rattle.uas_tasks.specs.Machine.{slot_of};
 
 use crate::{LogicalUnit, Tasks};
-use host_commands::CommandSet;
 
 impl Tasks {
     /// The logical units, by number.
@@ -11,13 +10,6 @@ impl Tasks {
         ensures { result.now ≡ self.now.units }
     {
         &self.units
-    }
-
-    /// The commands that it knows.
-    pub fn command_set(&self) -> CommandSet
-        ensures { result ≡ self.now.set }
-    {
-        self.set
     }
 
     /// The most blocks of a chunk.

@@ -14,3 +14,4 @@ mod OrdersTaken
 pub mod Taken
 pub mod TurnsTaken
 pub mod KeptExact
+pub mod Fronts

@@ -50,60 +50,57 @@ states_form = mapped to from (pair state_form (pair state_form (pair state_form 
     from : States → EndpointState × (EndpointState × (EndpointState × (EndpointState × EndpointState)))
     from s = (s.control, (s.command, (s.status, (s.data_out, s.data_in))))
 
--- all but the tags and the device
-pub record KeptState : Type 0 where
+-- the registers, the rings, the slot and the states that were told
+pub record RingsState : Type 0 where
   pub registers : Registers
   pub commands : CommandRing
   pub interrupts : Interrupts
   pub slot : Slot
   pub told : States
+
+abbrev pub rings_form : Form RingsState
+rings_form = mapped to from (pair registers_form (pair commands_form (pair interrupts_form (pair slot_form states_form))))
+  where
+    to : Registers × (CommandRing × (Interrupts × (Slot × States))) → RingsState
+    to k = record { registers = k.0; commands = k.1.0; interrupts = k.1.1.0; slot = k.1.1.1.0; told = k.1.1.1.1 }
+
+    from : RingsState → Registers × (CommandRing × (Interrupts × (Slot × States)))
+    from k = (k.registers, (k.commands, (k.interrupts, (k.slot, k.told))))
+
+-- all but the tags and the device
+pub record KeptState : Type 0 where
+  pub rings : RingsState
   pub control : ControlPipe
   pub pipes : PipesState
   pub bulk : Bulk
 
 -- registers; rings; slot and states told; endpoint 0; pipes 2 to 5; Bulk-Only Transport
 abbrev pub kept_form : Form KeptState
-kept_form = mapped to from
-    (pair registers_form (pair commands_form (pair interrupts_form (pair slot_form (pair states_form (pair control_form (pair pipes_form bulk_form)))))))
+kept_form = mapped to from (pair rings_form (pair control_form (pair pipes_form bulk_form)))
   where
-    to : Registers × (CommandRing × (Interrupts × (Slot × (States × (ControlPipe × (PipesState × Bulk)))))) → KeptState
-    to k = record {
-      registers = k.0;
-      commands = k.1.0;
-      interrupts = k.1.1.0;
-      slot = k.1.1.1.0;
-      told = k.1.1.1.1.0;
-      control = k.1.1.1.1.1.0;
-      pipes = k.1.1.1.1.1.1.0;
-      bulk = k.1.1.1.1.1.1.1;
-    }
+    to : RingsState × (ControlPipe × (PipesState × Bulk)) → KeptState
+    to k = record { rings = k.0; control = k.1.0; pipes = k.1.1.0; bulk = k.1.1.1 }
 
-    from : KeptState → Registers × (CommandRing × (Interrupts × (Slot × (States × (ControlPipe × (PipesState × Bulk))))))
-    from k = (k.registers, (k.commands, (k.interrupts, (k.slot, (k.told, (k.control, (k.pipes, k.bulk)))))))
+    from : KeptState → RingsState × (ControlPipe × (PipesState × Bulk))
+    from k = (k.rings, (k.control, (k.pipes, k.bulk)))
 
 -- what is kept of a machine
+abbrev pub rings_of : Machine → RingsState
+rings_of m = record { registers = m.registers; commands = m.commands; interrupts = m.interrupts; slot = m.slot; told = m.told }
+
 abbrev pub kept_of : Machine → KeptState
-kept_of m = record {
-  registers = m.registers;
-  commands = m.commands;
-  interrupts = m.interrupts;
-  slot = m.slot;
-  told = m.told;
-  control = m.control;
-  pipes = pipes_in m.transfers;
-  bulk = m.bulk;
-}
+kept_of m = record { rings = rings_of m; control = m.control; pipes = pipes_in m.transfers; bulk = m.bulk }
 
 -- and a machine of that, its tags and its device
 abbrev pub machine_of : KeptState → List Tag → GuestTasks → Machine
 machine_of k tags device = record {
-  registers = k.registers;
-  slot = k.slot;
-  commands = k.commands;
-  interrupts = k.interrupts;
+  registers = k.rings.registers;
+  slot = k.rings.slot;
+  commands = k.rings.commands;
+  interrupts = k.rings.interrupts;
   control = k.control;
   transfers = transfers_of k.pipes tags;
   bulk = k.bulk;
   device = device;
-  told = k.told;
+  told = k.rings.told;
 }

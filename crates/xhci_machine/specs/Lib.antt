@@ -18,3 +18,5 @@ pub mod Laws
 pub mod Kept
 pub mod KeptTexts
 pub mod Shapes
+pub mod Saved
+pub mod Loaded

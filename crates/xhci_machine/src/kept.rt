@@ -1,8 +1,8 @@
 //! What is kept of the controller beside tags and device, as bytes, and made of bytes.
 ghost use Rattle.std.specs.Prelude.{◌≡◌, ◌≤◌, IfOk, IfSome, option_map, vec_len};
 ghost use Rattle.machine_bytes.specs.Forms.{number, optional};
-ghost use Rattle.xhci_machine.specs.Kept.{commands_form, interrupts_form, kept_form, kept_of, machine_of, states_form};
-ghost use Rattle.xhci_machine.specs.KeptTexts.{FitsKept, kept_text_of};
+ghost use Rattle.xhci_machine.specs.Kept.{commands_form, interrupts_form, kept_form, kept_of, machine_of, rings_form, rings_of, states_form};
+ghost use Rattle.xhci_machine.specs.KeptTexts.{FitsKept, kept_text_of, rings_text_of};
 
 use crate::Machine;
 use crate::interrupts::Interrupts;
@@ -21,14 +21,20 @@ use xhci_control::ControlPipe;
 use xhci_registers::Registers;
 use xhci_slots::Slot;
 
-/// What was read of a controller beside tags and device.
+/// What was read of registers, rings, slot and states told.
 #[derive(Drop)]
-pub(crate) struct KeptText<'a> {
+pub(crate) struct RingsText {
     pub registers: Registers,
     pub commands: CommandRing,
     pub interrupts: Interrupts,
     pub slot: Slot,
     pub told: States,
+}
+
+/// What was read of a controller beside tags and device.
+#[derive(Drop)]
+pub(crate) struct KeptText<'a> {
+    pub rings: RingsText,
     pub control: ControlPipe,
     pub pipes: PipesText<'a>,
     pub bulk: BulkText<'a>,
@@ -127,25 +133,35 @@ fn read_states(reader: &mut Reader) -> Option<States>
     })
 }
 
-/// Reads what is kept of a controller.
-pub(crate) fn read_kept<'a>(reader: &mut Reader<'a>) -> Option<KeptText<'a>>
-    ensures read { (option_map kept_text_of result, reader.new) ≡ kept_form.read reader.old }
-    ensures fits { IfSome result FitsKept }
+/// Reads registers, rings, slot and states told.
+fn read_rings(reader: &mut Reader) -> Option<RingsText>
+    ensures { (option_map rings_text_of result, reader.new) ≡ rings_form.read reader.old }
 {
     let registers = read_registers(reader)?;
     let commands = read_commands(reader)?;
     let interrupts = read_interrupts(reader)?;
     let slot = read_slot(reader)?;
     let told = read_states(reader)?;
-    let control = read_control(reader)?;
-    let pipes = read_pipes(reader)?;
-    let bulk = read_bulk(reader)?;
-    Some(KeptText {
+    Some(RingsText {
         registers,
         commands,
         interrupts,
         slot,
         told,
+    })
+}
+
+/// Reads what is kept of a controller.
+pub(crate) fn read_kept<'a>(reader: &mut Reader<'a>) -> Option<KeptText<'a>>
+    ensures read { (option_map kept_text_of result, reader.new) ≡ kept_form.read reader.old }
+    ensures fits { IfSome result FitsKept }
+{
+    let rings = read_rings(reader)?;
+    let control = read_control(reader)?;
+    let pipes = read_pipes(reader)?;
+    let bulk = read_bulk(reader)?;
+    Some(KeptText {
+        rings,
         control,
         pipes,
         bulk,
@@ -153,15 +169,21 @@ pub(crate) fn read_kept<'a>(reader: &mut Reader<'a>) -> Option<KeptText<'a>>
 }
 
 impl Machine {
-    /// Writes what is kept of it beside tags and device.
-    pub(crate) fn write_kept(&self, place: Place, cells: &mut [u8]) -> Place
-        ensures { (cells.new, result) ≡ kept_form.write (cells.old, place) (kept_of self.now) }
+    fn write_rings(&self, place: Place, cells: &mut [u8]) -> Place
+        ensures { (cells.new, result) ≡ rings_form.write (cells.old, place) (rings_of self.now) }
     {
         let place = write_registers(place, cells, &self.registers);
         let place = write_commands(place, cells, &self.commands);
         let place = write_interrupts(place, cells, &self.interrupts);
         let place = write_slot(place, cells, &self.slot);
-        let place = write_states(place, cells, self.told);
+        write_states(place, cells, self.told)
+    }
+
+    /// Writes what is kept of it beside tags and device.
+    pub(crate) fn write_kept(&self, place: Place, cells: &mut [u8]) -> Place
+        ensures { (cells.new, result) ≡ kept_form.write (cells.old, place) (kept_of self.now) }
+    {
+        let place = self.write_rings(place, cells);
         let place = write_control(place, cells, &self.control);
         let place = write_pipes(place, cells, &self.transfers);
         write_bulk(place, cells, &self.bulk)
@@ -179,15 +201,15 @@ impl Machine {
         ensures { IfOk result (λ machine. machine ≡ machine_of (kept_text_of text.entry) tags.items device) }
     {
         Ok(Machine {
-            registers: text.registers,
-            slot: text.slot,
-            commands: text.commands,
-            interrupts: text.interrupts,
+            registers: text.rings.registers,
+            slot: text.rings.slot,
+            commands: text.rings.commands,
+            interrupts: text.rings.interrupts,
             control: text.control,
             transfers: restore_pipes(alloc, &text.pipes, tags)?,
             bulk: restore_bulk(alloc, text.bulk)?,
             device,
-            told: text.told,
+            told: text.rings.told,
         })
     }
 }

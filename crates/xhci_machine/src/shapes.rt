@@ -1,7 +1,10 @@
 //! What a machine was made for, in front of its saved state.
 ghost use Rattle.std.specs.Prelude.{◌≡◌, ◌<◌, ◌≤◌, length};
-ghost use Rattle.xhci_machine.specs.Shapes.{most_of, set_number, shape_write, unit_write, units_write};
+ghost use Rattle.xhci_machine.specs.Shapes.{behind_shape, most_of, set_number, shape_text, shape_write, unit_write, units_write};
+ghost use Rattle.machine_bytes.specs.Sparse.{made_places};
+ghost use Rattle.std.specs.Option.{option_copied};
 
+use crate::saved::front;
 use host_commands::CommandSet;
 use machine_bytes::Place;
 use uas_tasks::{LogicalUnit, Tasks};
@@ -56,4 +59,30 @@ pub(crate) fn write_shape(place: Place, cells: &mut [u8], tasks: &Tasks) -> Plac
     let place = place.u16(cells, tasks.chunk_blocks());
     let place = place.u8(cells, count as u8);
     write_units(place, cells, tasks.units())
+}
+
+/// Bytes that are enough for it: a machine has at most 15 logical units.
+const SHAPE_BYTES: usize = 256;
+
+/// Bytes of which none is written.
+#[tactic(auto, unfolding(machine_bytes::specs::Sparse::made_places))]
+fn blank() -> [u8; SHAPE_BYTES]
+    ensures { result ≡ made_places 256 0 }
+{
+    [0; SHAPE_BYTES]
+}
+
+/// What stands behind that in a text, where it stands in front.
+#[tactic(auto, unfolding(crate::specs::Shapes::shape_text))]
+pub(crate) fn behind_shape<'a>(text: &'a [u8], tasks: &Tasks) -> Option<&'a [u8]>
+    ensures { option_copied result ≡ behind_shape tasks.now text.now }
+{
+    let mut room = blank();
+    let place = write_shape(Place::first(), &mut room, tasks);
+    let shape = front(&room, place.at);
+    if text.starts_with(shape) {
+        Some(&text[shape.len()..])
+    } else {
+        None
+    }
 }

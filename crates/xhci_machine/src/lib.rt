@@ -26,7 +26,7 @@
 //!    ring stays there, and the endpoint halts; so does Address Device end. Of a disk that isn't configured that goes for the pipes.
 //! 10. The disk's alternate setting says who serves an endpoint, not its context. In Bulk-Only's the command and status pipes are told with USB
 //!    Transaction Error, and Bulk-Out and Bulk-In have the endpoints of data-out and data-in, without streams; a stream there, and any endpoint
-//!    that the disk has halted, is told with Stall Error.
+//!    that the disk has halted, is told with Stall Error. No TD that has ended is told so: what is left of it is skipped, and tells its end.
 //!
 //! What is promised: every call is safe and total, for any bytes in memory, any register access and any order; no step takes memory
 //! ([`Machine::new`] takes all). A read is `read_of`, and the interrupt's pin `is_asserted`. Of the whole machine, a write is `page_done`, with

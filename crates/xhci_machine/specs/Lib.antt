@@ -14,4 +14,5 @@ pub mod Rounds
 pub mod Worked
 pub mod Lacking
 pub mod Wanted
+pub mod Asking
 pub mod Laws

@@ -39,12 +39,13 @@
 //! What a call of [`Machine::work`] makes of memory and of the whole machine, with which tags are active, is `IsWorked` (specs/Worked): rounds
 //! of turns in their order, each round an equation. [`Machine::wants`] is `wanted` (specs/Wanted): the first range that a turn lacks, in that order
 //! and up to the turn that acts; a turn that lacks nothing isn't refused for want of memory. That a call with a budget of 1 then isn't either,
-//! where turns before change nothing, is tested.
+//! where turns before change nothing, is tested. [`Machine::work_asking`] is both, step by step (`IsAsked`, specs/Asking).
 //!
 //! It stands on `xhci_registers`, `xhci_slots`, `xhci_control`, `guest_transfers` and `guest_tasks`.
 #![tactic(auto)]
 
 mod access;
+mod asking;
 mod bulk;
 mod changes;
 mod command;
@@ -59,6 +60,7 @@ mod turns;
 mod wanting;
 mod work;
 
+pub use asking::one_step_at_most;
 use guest_bulk::Bulk;
 use guest_tasks::GuestTasks;
 use guest_transfers::Transfers;

@@ -176,6 +176,25 @@ uint8_t uas_xhci_wants(uas_xhci *xhci, const struct uas_region *regions, size_t 
  * Faults: UAS_XHCI_MANY, UAS_XHCI_WRAPS, UAS_XHCI_OVERLAP. */
 uint8_t uas_xhci_look(uas_xhci *xhci, struct uas_range *wanted, struct uas_region *regions, size_t count);
 
+/* Both in one, for a caller who translates addresses (as of an IOMMU): steps as uas_xhci_work_noting takes them with a budget of 1 each, up to the
+ * first that may lack memory, whose range *wanted is then, as of uas_xhci_wants; else its length is 0. Where a range is wanted turn->more is 1: lend
+ * it too and call again, or where the guest has no memory there take that step by uas_xhci_work_noting with a budget of 1.
+ * Faults: those of uas_xhci_work. */
+uint8_t uas_xhci_work_asking(uas_xhci *xhci, const struct uas_region *regions, size_t count, struct uas_xhci_turn *turn, struct uas_range *written,
+                             size_t room, struct uas_range *wanted);
+
+/* What goes in and comes out of it. */
+struct uas_xhci_asking {
+    struct uas_xhci_turn turn;
+    struct uas_range wanted; /* out */
+};
+UAS_XHCI_ASSERT(sizeof(struct uas_xhci_asking) == 40 && offsetof(struct uas_xhci_asking, wanted) == 24);
+
+/* The same, which makes that call, with regions as of uas_xhci_take_turn.
+ * Faults: UAS_XHCI_MANY, UAS_XHCI_WRAPS, UAS_XHCI_OVERLAP. */
+uint8_t uas_xhci_take_asking(uas_xhci *xhci, struct uas_xhci_asking *asking, struct uas_region *regions, size_t count, struct uas_range *written,
+                             size_t room);
+
 /* ---- Interrupts (4.17) ---- */
 
 /* The interrupt pin: IMAN.IP, IMAN.IE and USBCMD.INTE together. To be looked at after each register write, each work and uas_xhci_reset. */

@@ -111,6 +111,22 @@ uint8_t uas_xhci_wants(uas_xhci *xhci, const struct uas_region *regions, size_t 
     return fault != UAS_OK ? fault : uas_xhci_look(xhci, wanted, lent.regions, lent.count);
 }
 
+uint8_t uas_xhci_work_asking(uas_xhci *xhci, const struct uas_region *regions, size_t count, struct uas_xhci_turn *turn, struct uas_range *written,
+                             size_t room, struct uas_range *wanted)
+{
+    struct lent lent;
+    struct uas_range none;
+    struct uas_xhci_asking asking = { .turn = *turn };
+    uint8_t fault = lend(&lent, regions, count);
+    if (fault == UAS_OK)
+        fault = uas_xhci_take_asking(xhci, &asking, lent.regions, lent.count, room > 0 ? written : &none, room);
+    if (fault == UAS_OK) {
+        *turn = asking.turn;
+        *wanted = asking.wanted;
+    }
+    return fault;
+}
+
 bool uas_xhci_interrupt(uas_xhci *xhci)
 {
     struct uas_xhci_door door = { .call = UAS_XHCI_CALL_INTERRUPT };

@@ -1,7 +1,7 @@
 /* uas_xhci_work for a caller who lends copies alone. Before each step it asks what that lacks, copies the grains of the guest's memory that this
  * touches, and asks again; behind the step it writes back what the step wrote, or all where that isn't known. What would be more regions than a
  * call takes is copied whole instead; a range of which nothing more is there is left out. With WORK_OVER_COPIES every call of uas_xhci_work is one
- * of copied_work. */
+ * of copied_work, and with WORK_BY_ASKING one of asked_work, which does the same by uas_xhci_work_asking. */
 #ifndef COPIED_WORK_H
 #define COPIED_WORK_H
 
@@ -166,7 +166,7 @@ static void write_back(const struct uas_xhci_turn *turn, const struct uas_range 
 }
 
 /* One step over copies of what it asks for. */
-static uint8_t copied_step(uas_xhci *xhci, uint32_t *steps, bool *more)
+static inline uint8_t copied_step(uas_xhci *xhci, uint32_t *steps, bool *more)
 {
     struct uas_region lent[UAS_XHCI_REGIONS];
     struct uas_range wanted, written[MOST_NOTED];
@@ -189,7 +189,7 @@ static uint8_t copied_step(uas_xhci *xhci, uint32_t *steps, bool *more)
     return UAS_OK;
 }
 
-static uint8_t copied_work(uas_xhci *xhci, const struct uas_region *regions, size_t count, uint32_t budget, uint32_t *steps, bool *more)
+static inline uint8_t copied_work(uas_xhci *xhci, const struct uas_region *regions, size_t count, uint32_t budget, uint32_t *steps, bool *more)
 {
     uint32_t taken = 1;
     make_room(regions, count);
@@ -201,8 +201,57 @@ static uint8_t copied_work(uas_xhci *xhci, const struct uas_region *regions, siz
     return UAS_OK;
 }
 
+/* Goes on with steps up to the first that lacks memory. */
+static inline uint8_t take_asking(uas_xhci *xhci, struct uas_xhci_turn *turn, struct uas_range *wanted)
+{
+    struct uas_region lent[UAS_XHCI_REGIONS];
+    struct uas_range written[MOST_NOTED];
+    lend_runs(lent);
+    uint8_t fault = uas_xhci_work_asking(xhci, lent, run_count, turn, written, note_room, wanted);
+    if (fault == UAS_OK)
+        write_back(turn, written);
+    if (fault == UAS_OK && wanted->length > 0 && turn->more != 1)
+        abort();
+    return fault;
+}
+
+/* A step without what the guest lacks too. */
+static inline uint8_t step_without(uas_xhci *xhci, struct uas_xhci_turn *turn)
+{
+    struct uas_region lent[UAS_XHCI_REGIONS];
+    struct uas_range written[MOST_NOTED];
+    lend_runs(lent);
+    uint8_t fault = uas_xhci_work_noting(xhci, lent, run_count, turn, written, note_room);
+    if (fault == UAS_OK)
+        write_back(turn, written);
+    return fault;
+}
+
+static inline uint8_t asked_work(uas_xhci *xhci, const struct uas_region *regions, size_t count, uint32_t budget, uint32_t *steps, bool *more)
+{
+    make_room(regions, count);
+    run_count = 0;
+    *steps = 0;
+    for (*more = true; *more && *steps < budget;) {
+        struct uas_xhci_turn turn = { .budget = budget - *steps }, without = { .budget = 1 };
+        struct uas_range wanted = { 0, 0 };
+        uint8_t fault = take_asking(xhci, &turn, &wanted);
+        bool is_lacking = fault == UAS_OK && wanted.length > 0 && !copy_range(&wanted);
+        if (is_lacking)
+            fault = step_without(xhci, &without);
+        if (fault != UAS_OK)
+            return fault;
+        *steps += turn.steps + without.steps;
+        *more = is_lacking ? without.more != 0 : turn.more != 0;
+    }
+    return UAS_OK;
+}
+
 #ifdef WORK_OVER_COPIES
 #define uas_xhci_work copied_work
+#endif
+#ifdef WORK_BY_ASKING
+#define uas_xhci_work asked_work
 #endif
 
 #endif

@@ -1,11 +1,12 @@
 /* Two controllers of uas_xhci.h do the same for the same random driver (random_driver.h): one is lent all of its memory, and the other before each
- * step copies of what it asks for and no more (copied_work.h). After each step both have the same memory, registers, requests and answers.
+ * step copies of what it asks for and no more (copied_work.h). After each step, or after some that the other takes up to what it lacks, both have the
+ * same memory, registers, requests and answers.
  *
  *   copied_xhci [DRIVERS [SEED]] */
 #include "copied_work.h"
 #include "random_driver.h"
 
-static uint64_t writes, steps_taken, requests, moves, failures;
+static uint64_t writes, steps_taken, strides, requests, moves, failures;
 static uas_xhci *whole, *twin;
 
 /* The twin's memory, in regions that are like those of the other. */
@@ -26,15 +27,17 @@ static uint64_t read_register(uint64_t offset, uint8_t width)
     return value;
 }
 
-/* A step of each: whether there may be more to do. */
-static bool step(void)
+/* So many steps of each, one at a time of the first: whether there may be more to do. */
+static bool stride(uint32_t budget, bool asks)
 {
-    uint32_t steps = 0, other_steps = 0;
-    bool more, other_more, ran = read_register(0x40, 4) & 1;
+    uint32_t steps = 0, taken = 1, other_steps = 0;
+    bool more = true, other_more, ran = read_register(0x40, 4) & 1;
     for (size_t i = 0; i < lent; i++)
         memcpy(twins[i].bytes, regions[i].bytes, regions[i].length);
-    check(uas_xhci_work(whole, regions, lent, 1, &steps, &more) == UAS_OK, "regions were refused");
-    check(copied_work(twin, twins, lent, 1, &other_steps, &other_more) == UAS_OK, "copies were refused");
+    for (; more && steps < budget; steps += taken)
+        check(uas_xhci_work(whole, regions, lent, 1, &taken, &more) == UAS_OK, "regions were refused");
+    uint8_t fault = asks ? asked_work(twin, twins, lent, budget, &other_steps, &other_more) : copied_work(twin, twins, lent, budget, &other_steps, &other_more);
+    check(fault == UAS_OK, "copies were refused");
     check(steps == other_steps && more == other_more, "one took a step, and the other didn't");
     for (size_t i = 0; i < lent; i++)
         check(memcmp(twins[i].bytes, regions[i].bytes, regions[i].length) == 0, "the memories differ");
@@ -50,7 +53,13 @@ static void work(uint32_t budget)
     static const uint32_t grains[] = { 1, 16, PAGE };
     grain = grains[draw(3)];
     note_room = draw(4) ? MOST_NOTED : draw(3);
-    while (budget-- > 0 && step())
+    bool asks = draw(2) == 0;
+    if (asks && draw(2) == 0 && budget > 0) {
+        strides++;
+        stride(budget, true);
+        return;
+    }
+    while (budget-- > 0 && stride(1, asks))
         ;
 }
 
@@ -173,8 +182,8 @@ int main(int words, char **word)
         uas_xhci_free(whole);
         uas_xhci_free(twin);
     }
-    printf("%llu register writes, %llu steps, %llu events, %llu requests, %llu answers, %llu host errors\n", (unsigned long long)writes,
-           (unsigned long long)steps_taken, (unsigned long long)events, (unsigned long long)requests, (unsigned long long)moves,
+    printf("%llu register writes, %llu steps, some of them in %llu strides, %llu events, %llu requests, %llu answers, %llu host errors\n", (unsigned long long)writes,
+           (unsigned long long)steps_taken, (unsigned long long)strides, (unsigned long long)events, (unsigned long long)requests, (unsigned long long)moves,
            (unsigned long long)failures);
     printf("%llu ranges copied of %llu bytes, %llu that weren't there, all for %llu steps, and written back of %llu\n", (unsigned long long)ranges_copied,
            (unsigned long long)bytes_copied, (unsigned long long)ranges_absent, (unsigned long long)steps_crowded, (unsigned long long)steps_lost);

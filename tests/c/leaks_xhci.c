@@ -32,6 +32,7 @@ static void works(uas_xhci *xhci)
     struct uas_xhci_turn turn = { .budget = 10 };
     struct uas_request request;
     CHECK(uas_xhci_wants(xhci, &all, 1, &lacking) == UAS_OK && lacking.length == 0);
+    CHECK(uas_xhci_work_asking(xhci, NULL, 0, &turn, written, 4, &lacking) == UAS_OK && turn.steps == 0 && turn.more == 1 && lacking.length > 0);
     CHECK(uas_xhci_work_noting(xhci, &all, 1, &turn, written, 4) == UAS_OK && turn.steps == 1 && turn.lost == 0 && turn.noted == 1);
     CHECK(written[0].address == 64 && written[0].length == 16);
     CHECK(!uas_xhci_next_request(xhci, &request));

@@ -52,6 +52,11 @@ static void null_regions(void)
     struct uas_range range;
     uas_xhci_look(xhci, &range, NULL, 0);
 }
+static void null_wanted(void)
+{
+    struct uas_xhci_turn turn = { .budget = 1 };
+    uas_xhci_work_asking(xhci, NULL, 0, &turn, NULL, 0, NULL);
+}
 
 static void null_options(void) { uas_block_new(NULL, &block); }
 static void null_access(void) { uas_block_next(block, 0, NULL); }
@@ -139,6 +144,7 @@ static const struct mistake mistakes[] = {
     { "uas_xhci_work: more is a null pointer\n", null_more },
     { "uas_xhci_call: bytes is a null pointer\n", null_bytes },
     { "uas_xhci_look: regions is a null pointer\n", null_regions },
+    { "uas_xhci_work_asking: wanted is a null pointer\n", null_wanted },
     { "uas_block_new: asked is a null pointer\n", null_options },
     { "uas_block_next: access is a null pointer\n", null_access },
     { "uas_block_put: segments is a null pointer\n", null_segments },

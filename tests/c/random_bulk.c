@@ -103,11 +103,11 @@ static void put_data_tds(int dci, uint32_t length)
 
 /* ---- What a host does in the middle ---- */
 
-/* TDs that were begun are taken off, as a driver does; or those of CBWs and CSWs alone, which a halt would cut. */
-static void leave_begun(bool with_data)
+/* TDs that were begun are taken off, as a driver does. */
+static void leave_begun(void)
 {
     for (int dci = BULK_OUT; dci <= BULK_IN; dci++)
-        if (model.endpoints[dci].front.begun && (with_data || model.endpoints[dci].front.purpose != FOR_DATA))
+        if (model.endpoints[dci].front.begun)
             skip_ring(dci);
 }
 
@@ -118,10 +118,9 @@ static void make_request(void)
     uint32_t kind = model.configured ? below(12) : 11;
     if (kind < 2)
         ask(0x0201, 0, endpoint, 0);
-    else if (kind < 4) {
-        leave_begun(false);
+    else if (kind < 4)
         ask(0x0203, 0, endpoint, 0);
-    } else if (kind < 6)
+    else if (kind < 6)
         ask(0x8200, 0, endpoint, 2);
     else if (kind == 6)
         ask(0xa1fe, 0, 0, 1);
@@ -129,7 +128,7 @@ static void make_request(void)
         ask(0x810a, 0, 0, 1);
     else {
         if (below(2))
-            leave_begun(true);
+            leave_begun();
         if (kind < 10)
             ask(0x21ff, 0, 0, 0);
         else if (kind == 10)
@@ -151,7 +150,7 @@ static void tell_port(uint32_t changes)
 static void reset_the_port(void)
 {
     if (below(2))
-        leave_begun(true);
+        leave_begun();
     set(PORTSC2, 4, 0x210);
     bulk_port_reset(&model);
     tell_port(0x200000);
@@ -160,7 +159,8 @@ static void reset_the_port(void)
 /* The disk is pulled, or its port disabled, and after some steps it is there again. */
 static void fall_silent(bool pulled)
 {
-    leave_begun(pulled && below(2));
+    if (below(2))
+        leave_begun();
     if (pulled) {
         uas_xhci_plug(xhci, false);
         bulk_port_reset(&model);
@@ -261,7 +261,7 @@ static bool ends(void)
         answer();
     else if (model.phase == MOVES_DATA && below(8) == 0) {
         if (below(2))
-            leave_begun(true);
+            leave_begun();
         ask(0x21ff, 0, 0, 0);
     } else if (model.phase == MOVES_DATA)
         put_data_tds(model.cbw.in ? BULK_IN : BULK_OUT, model.cbw.length - model.moved);
@@ -275,6 +275,26 @@ static bool ends(void)
     return false;
 }
 
+/* A TD whose last TRB comes once its bytes were taken, and the endpoint isn't served by then, or both are reset. */
+static void put_open_td(int dci, uint64_t at, uint32_t length)
+{
+    if (room_of(dci) < 8)
+        return;
+    put(&pipes[dci], place_of(at, length), length, TRB_NORMAL << 10 | draw_flags() | BIT_CHAIN);
+    ring_both(dci);
+    step_all();
+    take_events(false);
+    uint32_t kind = model.configured ? below(10) : 9;
+    if (kind < 6)
+        ask(0x0203, 0, dci == BULK_OUT ? 0x02 : 0x82, 0);
+    else if (kind < 7)
+        ask(0x21ff, 0, 0, 0);
+    else if (kind < 8)
+        fall_silent(below(2));
+    put(&pipes[dci], DATA, below(20), (below(3) ? TRB_NO_OP : below(2) ? TRB_EVENT_DATA : TRB_NORMAL) << 10 | draw_flags());
+    ring_both(dci);
+}
+
 static void one_input(void)
 {
     uint8_t bytes[64];
@@ -283,10 +303,14 @@ static void one_input(void)
     uint64_t at = CBWS + 64 * below(16);
     store(at, bytes, sizeof bytes);
     for (uint32_t begun = 0, which = below(3); begun < 3; begun++, which = (which + (plan.in ? 2 : 1)) % 3) {
-        if (which == 0)
+        if (which == 0 && below(30) == 0)
+            put_open_td(BULK_OUT, at, below(3) ? length : 0);
+        else if (which == 0)
             put_td(BULK_OUT, at, length);
         else if (which == 1 && below(8))
             put_data_tds(plan.in ? BULK_IN : BULK_OUT, plan.length);
+        else if (which == 2 && below(30) == 0)
+            put_open_td(BULK_IN, 0, below(2) ? CSW_BYTES : below(40));
         else if (which == 2 && below(8))
             put_csw_td();
         if (below(8))

@@ -1,11 +1,16 @@
 /* A second implementation of Bulk-Only Transport (BOT) as a controller over a caller's memory serves it: command block wrappers (CBW), data, status
  * wrappers (CSW), the thirteen cases, kept sense data, halts of the disk. Its device is a uas_tasks of the same logical units, which is handed the
- * Command information unit of tag 1 that a CBW becomes. What the pipes tell of TDs is in second_bulk_turns.h. */
+ * Command information unit of tag 1 that a CBW becomes. What the pipes tell of TDs is in second_bulk_turns.h.
+ *
+ * Where the standards say nothing it does as the library: a chunk is taken from the device whole, so the next one is asked for before its bytes are
+ * moved; the case, and sense data to keep, come once a TD is there for them; No Op, Event Data and Link TRBs are taken while TDs wait and at a halted
+ * pipe, and TRBs of length 0 on the data's pipe; a TD that is longer ends, or is dropped, while a request is out; where a buffer isn't there nothing was
+ * moved; what ends tasks forgets sense data, and a reset doesn't; a reset forgets the CBW whose TD was begun; a TD that was begun with data goes on with
+ * those of the next command, or is none of it. */
 #ifndef UAS_TESTS_SECOND_BULK_H
 #define UAS_TESTS_SECOND_BULK_H
 
 #include "second_cbw.h"
-#include "second_bulk_open.h"
 
 enum { BULK_OUT = 4, BULK_IN = 5, BULK_ENDPOINTS = 6, CSW_BYTES = 13, BULK_PIECE = 4096, BULK_GATHERED = 1024, BULK_REQUESTS = 64 };
 enum bulk_phase { AWAITS_CBW, MOVES_DATA, SENDS_CSW };
@@ -318,6 +323,8 @@ static inline void bulk_reset(struct second_bulk *bulk)
     bulk->phase = AWAITS_CBW;
     bulk->broken = bulk->own = false;
     bulk->gathered_bytes = 0;
+    if (bulk->endpoints[BULK_OUT].front.purpose == FOR_CBW)
+        bulk->endpoints[BULK_OUT].front.purpose = FOR_NOTHING; /* what comes behind it begins anew */
     if (bulk->endpoints[BULK_IN].front.purpose == FOR_CSW)
         bulk->endpoints[BULK_IN].front.purpose = FOR_DATA; /* no other CSW goes into that TD */
 }

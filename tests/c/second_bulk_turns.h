@@ -94,11 +94,7 @@ static inline bool bulk_out_turn(struct second_bulk *bulk)
     enum bulk_found found = bulk_look(bulk, BULK_OUT, &trb);
     if (found != FOUND_TRB)
         return found == FOUND_ACTED;
-    bool gathers = front->purpose == FOR_CBW && front->ended == 0 && (!BULK_EMPTY_IS_NONE || bulk->gathered_bytes > 0);
-    if (BULK_HALT_FIRST && unserved != 0 && bulk_type(&trb) == TRB_NORMAL && bulk_length(&trb) <= TRB_MOST_BYTES) {
-        bulk_halt(bulk, BULK_OUT, &trb, unserved);
-        return true;
-    }
+    bool gathers = front->purpose == FOR_CBW && front->ended == 0;
     if (bulk_take_other(bulk, BULK_OUT, &trb))
         ;
     else if (unserved != 0) {
@@ -200,9 +196,7 @@ static inline bool bulk_in_turn(struct second_bulk *bulk)
         return found == FOUND_ACTED;
     bool ends = (bulk_type(&trb) == TRB_NO_OP || bulk_type(&trb) == TRB_EVENT_DATA) && !(trb.control & BIT_CHAIN);
     bool sends = bulk->phase == SENDS_CSW && front->purpose == FOR_CSW && front->ended == 0;
-    if (BULK_HALT_FIRST && unserved != 0 && bulk_type(&trb) == TRB_NORMAL && bulk_length(&trb) <= TRB_MOST_BYTES)
-        bulk_halt(bulk, BULK_IN, &trb, unserved);
-    else if (sends && ends && unserved == 0 && bulk->sent > 0 && bulk->sent < CSW_BYTES)
+    if (sends && ends && bulk->sent > 0 && bulk->sent < CSW_BYTES)
         bulk_babble(bulk, &trb);
     else if (bulk_take_other(bulk, BULK_IN, &trb)) {
         if (sends && ends && bulk->sent == CSW_BYTES)

@@ -73,15 +73,21 @@ module _ {D : Type 0} where
   after_there w (Some done) some = refl
 
 module _ {D : Type 0} (kind : Kind D) where
-  pub in_there : (w : BulkWorld D) (home : Home) → in_wanted kind w home ≡ None → is_some (bulk_after w (in_stepped kind w home)).1 ≡ true
-  in_there w home none = after_there w (in_stepped kind w home) (step_there w home (in_part kind w) (in_at kind w) none)
+  pub in_there : (fault : Option ℕ) (w : BulkWorld D) (home : Home) → in_wanted kind fault w home ≡ None
+      → is_some (bulk_after w (in_stepped kind fault w home)).1 ≡ true
+  in_there fault w home none = after_there w (in_stepped kind fault w home) (step_there w home (in_part kind fault w) (in_at kind fault w) none)
 
-  pub out_there : (w : BulkWorld D) (home : Home) → out_wanted kind w home ≡ None → is_some (bulk_after w (out_stepped kind w home)).1 ≡ true
-  out_there w home none = after_there w (out_stepped kind w home) (step_there w home (out_part kind w) (out_at kind w) none)
+  pub out_there : (fault : Option ℕ) (w : BulkWorld D) (home : Home) → out_wanted kind fault w home ≡ None
+      → is_some (bulk_after w (out_stepped kind fault w home)).1 ≡ true
+  out_there fault w home none = after_there w (out_stepped kind fault w home) (step_there w home (out_part kind fault w) (out_at kind fault w) none)
 
-  pub in_lacks : (w : BulkWorld D) (home : Home) → LacksIt w.ring.memory (in_wanted kind w home)
-  in_lacks w home = step_lacks w home (in_part kind w)
-      (λ front. moved_lacks w.ring.memory w.ring.consumer (coming_by kind w.bulk.stage w.ring.consumer.progress.fed w.bulk w.device) (moving w.ring.consumer front))
+  in_lacking : (fault : Option ℕ) (w : BulkWorld D) (front : Front) → LacksIt w.ring.memory (in_part kind fault w front)
+  in_lacking (Some code) w front = tt
+  in_lacking None w front =
+      moved_lacks w.ring.memory w.ring.consumer (coming_by kind w.bulk.stage w.ring.consumer.progress.fed w.bulk w.device) (moving w.ring.consumer front)
+
+  pub in_lacks : (fault : Option ℕ) (w : BulkWorld D) (home : Home) → LacksIt w.ring.memory (in_wanted kind fault w home)
+  in_lacks fault w home = step_lacks w home (in_part kind fault w) (λ front. in_lacking fault w front)
 
   part_lacking : (stage : BulkStage) (w : BulkWorld D) (buffer : Option Buffer) → LacksIt w.ring.memory (out_part_by kind stage w buffer)
   part_lacking Awaits w None = tt
@@ -103,5 +109,9 @@ module _ {D : Type 0} (kind : Kind D) where
       by_way false = tt
   part_lacking (Tells csw sent) w (Some buffer) = tt
 
-  pub out_lacks : (w : BulkWorld D) (home : Home) → LacksIt w.ring.memory (out_wanted kind w home)
-  out_lacks w home = step_lacks w home (out_part kind w) (λ front. part_lacking w.bulk.stage w (moving w.ring.consumer front))
+  out_lacking : (fault : Option ℕ) (w : BulkWorld D) (front : Front) → LacksIt w.ring.memory (out_part kind fault w front)
+  out_lacking (Some code) w front = tt
+  out_lacking None w front = part_lacking w.bulk.stage w (moving w.ring.consumer front)
+
+  pub out_lacks : (fault : Option ℕ) (w : BulkWorld D) (home : Home) → LacksIt w.ring.memory (out_wanted kind fault w home)
+  out_lacks fault w home = step_lacks w home (out_part kind fault w) (λ front. out_lacking fault w front)

@@ -33,7 +33,7 @@ with_ring w ring = record w { ring = ring }
 
 -- nothing of a command is left, and this comes next
 abbrev pub at_stage : Bulk → BulkStage → Bulk
-at_stage bulk stage = record bulk { stage = stage; chunk = []; taken = [] }
+at_stage bulk stage = record bulk { stage = stage; chunk = []; taken = []; gathers = false }
 
 -- the reset FFh: a CBW is awaited
 abbrev pub bulk_reset : Bulk → Bulk
@@ -52,7 +52,7 @@ reset_due (Tells csw sent) = false
 
 -- the dequeue pointer of Bulk-Out was set: what came of a CBW is forgotten
 abbrev pub out_forgotten : Bulk → BulkStage → Bulk
-out_forgotten bulk Awaits = record bulk { taken = [] }
+out_forgotten bulk Awaits = record bulk { taken = []; gathers = false }
 out_forgotten bulk Faulty = bulk
 out_forgotten bulk (Moves command) = bulk
 out_forgotten bulk (Tells csw sent) = bulk
@@ -117,12 +117,12 @@ module _ {D : Type 0} (kind : Kind D) where
   unfoldable pub kept_begun : BulkWorld D → KeptSense → Cbw → BulkWorld D
   kept_begun w kept cbw =
       let sense = sense_for kept cbw in
-      record w { bulk = record { stage = Moves (command_of cbw (did.In (list_length sense)) true); chunk = sense; taken = []; kept = None } }
+      record w { bulk = record { stage = Moves (command_of cbw (did.In (list_length sense)) true); chunk = sense; taken = []; gathers = false; kept = None } }
 
   -- the device receives the command
   unfoldable pub task_begun : BulkWorld D → Cbw → BulkWorld D
   task_begun w cbw = record w {
-    bulk = record { stage = Moves (command_of cbw did.Nothing false); chunk = []; taken = []; kept = None };
+    bulk = record { stage = Moves (command_of cbw did.Nothing false); chunk = []; taken = []; gathers = false; kept = None };
     device = (kind.received w.device (unit_of cbw)).0;
   }
 
@@ -147,12 +147,12 @@ module _ {D : Type 0} (kind : Kind D) where
 
   -- the buffer isn't there: no CBW comes of the TD
   unfoldable pub cbw_lost : BulkWorld D → Front → Buffer → BulkWorld D
-  cbw_lost w front buffer = record w { ring = failed w.ring front buffer.length buffer.flags; bulk = record w.bulk { taken = [] } }
+  cbw_lost w front buffer = record w { ring = failed w.ring front buffer.length buffer.flags; bulk = record w.bulk { taken = []; gathers = false } }
 
   unfoldable pub cbw_gathered : BulkWorld D → List ℕ → Front → Buffer → BulkWorld D
   cbw_gathered w bytes front buffer = record w {
     ring = filled (with_progress w.ring (tallied w.ring.consumer.progress buffer.length)) front buffer.flags;
-    bulk = record w.bulk { taken = w.bulk.taken ++ bytes };
+    bulk = record w.bulk { taken = w.bulk.taken ++ bytes; gathers = true };
   }
 
   -- how many bytes of a TRB are gathered: up to 1,024 of a TD, which is no CBW then

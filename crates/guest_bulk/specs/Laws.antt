@@ -1,6 +1,14 @@
--- What holds of every command: which bytes move between its CBW and its CSW.
-use Rattle.std.specs.Prelude.{◌≡◌, ℕ, ◌+◌}
+-- What holds of every command: which bytes move between its CBW and its CSW, which TDs are CBWs, and what an endpoint does that isn't served.
+use Rattle.std.specs.Prelude.{◌≡◌, ℕ, ◌+◌, ◌-◌, false, true, [], Some, None}
 use Rattle.guest_memory.specs.declared.rings.context.Front.{Front}
+use Rattle.guest_memory.specs.declared.rings.context.Home.{Home}
+use Rattle.guest_memory.specs.declared.rings.trb.Flags.{Flags}
+use Rattle.guest_memory.specs.declared.rings.trb.PipeTrb.{PipeTrb}
+use Rattle.guest_memory.specs.declared.rings.trb.PipeTrb.TheVariants.{NoOp, EventData}
+use Rattle.guest_pipes.specs.declared.acted.Acted.TheVariants.{Worked}
+use Rattle.guest_pipes.specs.Gate.{took_other}
+use Rattle.guest_pipes.specs.Progress.{runs}
+use Rattle.guest_pipes.specs.Unserved.{stuck}
 use Rattle.guest_tags.specs.declared.buffer.Buffer.{Buffer}
 use Rattle.guest_tags.specs.Devices.{Kind}
 use Rattle.guest_bulk.specs.declared.bulk.BulkCommand.{BulkCommand}
@@ -8,9 +16,10 @@ use Rattle.guest_bulk.specs.declared.bulk.BulkStage.{BulkStage}
 use Rattle.guest_bulk.specs.declared.bulk.BulkStage.TheVariants.{Awaits, Faulty, Moves, Tells}
 use Rattle.guest_bulk.specs.declared.bulk.Halting.{Halting}
 use Rattle.guest_bulk.specs.declared.bulk.Halting.TheVariants.{Nothing, BulkIn, BulkOut, Both}
-use Rattle.guest_bulk.specs.Commands.{BulkWorld, with_moved}
+use Rattle.guest_bulk.specs.Commands.{BulkWorld, at_stage, with_moved, with_ring}
 use Rattle.guest_bulk.specs.Incoming.{in_beside, in_broken, in_count, in_ran, in_staged}
-use Rattle.guest_bulk.specs.Outgoing.{out_beside, out_broken, out_count, out_ran, out_staged}
+use Rattle.guest_bulk.specs.Outgoing.{ends_cbw, out_beside, out_broken, out_count, out_last, out_ran, out_staged, worked}
+use Rattle.guest_bulk.specs.Steps.{in_bytes, in_stepped, in_took, out_bytes, out_stepped, out_took}
 
 abbrev pub IsNoHalt : Halting → Type 0
 IsNoHalt Nothing = Unit {0}
@@ -60,3 +69,43 @@ module _ {D : Type 0} (kind : Kind D) where
   OutStillMoves =
       (w : BulkWorld D) (command : BulkCommand) (front : Front) (buffer : Buffer) → w.bulk.stage ≡ Moves command
       → IsNoHalt (out_ran kind w command front buffer).1.halts → IsMoving (out_ran kind w command front buffer).0.bulk.stage
+
+  -- CBWS
+
+  -- a TD of a Normal TRB of 0 bytes that a No Op or an Event Data TRB ends is a CBW of 0 bytes, which is too short: both endpoints halt until
+  -- the reset (BOT 6.6.1)
+  abbrev pub EmptyIsFaulty : Type 0
+  EmptyIsFaulty =
+      (w : BulkWorld D) (front : Front) (trb : PipeTrb) (flags : Flags) → ends_cbw kind w flags ≡ true → w.bulk.taken ≡ []
+      → out_last kind w front trb flags
+      ≡ (record (with_ring w (took_other w.ring front trb)) { bulk = at_stage w.bulk Faulty }, record { acted = Worked; halts = Both; ends = false })
+
+  -- a TD without a Normal TRB is no CBW
+  abbrev pub OthersAreNone : Type 0
+  OthersAreNone =
+      (w : BulkWorld D) (front : Front) (trb : PipeTrb) (flags : Flags) → w.bulk.gathers ≡ false
+      → out_last kind w front trb flags ≡ (with_ring w (took_other w.ring front trb), worked)
+
+  -- AN ENDPOINT THAT ISN'T SERVED
+
+  -- what is left of a TD that has ended is taken as ever: skipped, and it tells its end
+  abbrev pub EndedIsTaken : Type 0
+  EndedIsTaken =
+      (w : BulkWorld D) (home : Home) (code : ℕ) → runs w.ring.consumer.progress.ending ≡ false
+      → (in_stepped kind (Some code) w home ≡ in_stepped kind None w home) × (out_stepped kind (Some code) w home ≡ out_stepped kind None w home)
+
+  -- so is a No Op or an Event Data TRB, which may end a CBW or a CSW
+  abbrev pub LastIsTaken : Type 0
+  LastIsTaken =
+      (w : BulkWorld D) (front : Front) (code parameter : ℕ) (flags : Flags)
+      → (in_took kind (Some code) w front (NoOp flags) ≡ in_took kind None w front (NoOp flags))
+      × (out_took kind (Some code) w front (NoOp flags) ≡ out_took kind None w front (NoOp flags))
+      × (in_took kind (Some code) w front (EventData parameter flags) ≡ in_took kind None w front (EventData parameter flags))
+      × (out_took kind (Some code) w front (EventData parameter flags) ≡ out_took kind None w front (EventData parameter flags))
+
+  -- a Normal TRB of a TD whose bytes move is told with the code and what is left of it, and none of them moves
+  abbrev pub RunningIsStuck : Type 0
+  RunningIsStuck =
+      (w : BulkWorld D) (front : Front) (buffer : Buffer) (code : ℕ) → runs w.ring.consumer.progress.ending ≡ true
+      → (in_bytes kind (Some code) w front buffer ≡ (with_ring w (stuck w.ring front (buffer.length - w.ring.consumer.progress.moved) code), worked))
+      × (out_bytes kind (Some code) w front buffer ≡ (with_ring w (stuck w.ring front (buffer.length - w.ring.consumer.progress.moved) code), worked))

@@ -130,10 +130,10 @@ module _ {D : Type 0} (kind : Kind D) where
   out_staged (Moves command) w front buffer = if takes_bytes command then out_ran w command front buffer else out_beside w front buffer
   out_staged (Tells csw sent) w front buffer = out_beside w front buffer
 
-  -- another TRB may be the last of a CBW
+  -- another TRB may be the last of a CBW: of a TD with a Normal TRB, if only one of 0 bytes
   abbrev pub ends_cbw : BulkWorld D → Flags → Bool
   ends_cbw w flags =
-      is_awaiting w.bulk.stage && not (list_length w.bulk.taken == 0) && runs w.ring.consumer.progress.ending && not flags.chain
+      is_awaiting w.bulk.stage && w.bulk.gathers && runs w.ring.consumer.progress.ending && not flags.chain
 
   abbrev pub out_last : BulkWorld D → Front → PipeTrb → Flags → BulkWorld D × Stepped
   out_last w front trb flags = halting (received_if kind (ends_cbw w flags) (with_ring w (took_other w.ring front trb)))

@@ -63,13 +63,15 @@ module _ {D : Type 0} (kind : Kind D) where
       if gives_bytes command then min (coming_data bulk device command) command.left else coming_beside fed bulk device command
   coming_by (Tells csw sent) fed bulk device = if sent == 0 && fed then 0 else 13 - sent
 
-  abbrev pub in_part : BulkWorld D → Front → Option Range
-  in_part w front = moved_part w.ring.memory w.ring.consumer (coming_by w.bulk.stage w.ring.consumer.progress.fed w.bulk w.device) (moving w.ring.consumer front)
+  -- none where the endpoint isn't served
+  abbrev pub in_part : Option ℕ → BulkWorld D → Front → Option Range
+  in_part (Some code) w front = None
+  in_part None w front = moved_part w.ring.memory w.ring.consumer (coming_by w.bulk.stage w.ring.consumer.progress.fed w.bulk w.device) (moving w.ring.consumer front)
 
-  abbrev pub in_wanted : BulkWorld D → Home → Option Range
-  in_wanted w home =
+  abbrev pub in_wanted : Option ℕ → BulkWorld D → Home → Option Range
+  in_wanted fault w home =
       wanted_through (gate w.ring.memory w.ring.events w.ring.consumer) w.ring.events
-      (wanted_of (looked w.ring.memory home) (look_wanted w.ring.memory home) (in_part w))
+      (wanted_of (looked w.ring.memory home) (look_wanted w.ring.memory home) (in_part fault w))
 
   -- BULK-OUT
 
@@ -90,10 +92,11 @@ module _ {D : Type 0} (kind : Kind D) where
       if takes_bytes command then drawn_part w.ring.memory buffer w.ring.consumer.progress.moved (taken_data w.bulk w.device command (buffer.length - w.ring.consumer.progress.moved)) else None
   out_part_by (Tells csw sent) w (Some buffer) = None
 
-  abbrev pub out_part : BulkWorld D → Front → Option Range
-  out_part w front = out_part_by w.bulk.stage w (moving w.ring.consumer front)
+  abbrev pub out_part : Option ℕ → BulkWorld D → Front → Option Range
+  out_part (Some code) w front = None
+  out_part None w front = out_part_by w.bulk.stage w (moving w.ring.consumer front)
 
-  abbrev pub out_wanted : BulkWorld D → Home → Option Range
-  out_wanted w home =
+  abbrev pub out_wanted : Option ℕ → BulkWorld D → Home → Option Range
+  out_wanted fault w home =
       wanted_through (gate w.ring.memory w.ring.events w.ring.consumer) w.ring.events
-      (wanted_of (looked w.ring.memory home) (look_wanted w.ring.memory home) (out_part w))
+      (wanted_of (looked w.ring.memory home) (look_wanted w.ring.memory home) (out_part fault w))

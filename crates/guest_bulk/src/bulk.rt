@@ -1,5 +1,5 @@
 //! What is kept of the transport.
-ghost use Rattle.std.specs.Prelude.{◌≡◌, [], None, IfOk};
+ghost use Rattle.std.specs.Prelude.{◌≡◌, [], false, None, IfOk};
 ghost use Rattle.guest_bulk.specs.Commands.{at_stage, bulk_reset, bulk_restarted, in_forgotten, out_forgotten, reset_due};
 ghost use Rattle.guest_bulk.specs.Verdicts.{has_chunk};
 ghost use Rattle.guest_bulk.specs.declared.bulk.Bulk.{Bulk};
@@ -45,13 +45,14 @@ pub struct KeptSense {
     pub text: ArrayVec<u8, STATUS_BYTES>,
 }
 
-/// The transport: what comes next, the chunk that goes to the host, what is gathered of a CBW or of a chunk to the device, and the sense data of
-/// the last command, where it ended with CHECK CONDITION.
+/// The transport: what comes next, the chunk that goes to the host, what is gathered of a CBW or of a chunk to the device, whether the TD in front
+/// of Bulk-Out has a TRB of a CBW, if only one without bytes, and the sense data of the last command, where it ended with CHECK CONDITION.
 #[derive(Debug, Drop)]
 pub struct Bulk {
     pub stage: BulkStage,
     pub chunk: Chunk,
     pub taken: Gather,
+    pub gathers: bool,
     pub kept: Option<KeptSense>,
 }
 
@@ -76,12 +77,13 @@ pub struct Stepped {
 impl Bulk {
     /// A CBW is awaited. The error is want of memory; no later call takes any.
     pub fn new(alloc: Global) -> Result<Bulk, AllocError>
-        ensures { IfOk result (λ bulk. bulk ≡ record { stage = BulkStage.Awaits; chunk = []; taken = []; kept = None }) }
+        ensures { IfOk result (λ bulk. bulk ≡ record { stage = BulkStage.Awaits; chunk = []; taken = []; gathers = false; kept = None }) }
     {
         Ok(Bulk {
             stage: BulkStage::Awaits,
             chunk: Chunk::new(alloc)?,
             taken: Gather::new(alloc)?,
+            gathers: false,
             kept: None,
         })
     }
@@ -92,7 +94,15 @@ impl Bulk {
     {
         self.stage = stage;
         self.chunk.clear();
+        self.drop_taken();
+    }
+
+    /// Nothing is gathered.
+    pub(crate) fn drop_taken(&mut self)
+        ensures { self.new ≡ record self.old { taken = []; gathers = false } }
+    {
         self.taken.clear();
+        self.gathers = false;
     }
 
     /// The Bulk-Only Mass Storage Reset: a CBW is awaited (BOT 3.1). The caller ends the device's tasks.
@@ -122,7 +132,7 @@ impl Bulk {
         ensures { self.new ≡ out_forgotten self.old self.old.stage }
     {
         match self.stage {
-            BulkStage::Awaits => self.taken.clear(),
+            BulkStage::Awaits => self.drop_taken(),
             BulkStage::Faulty | BulkStage::Moves { .. } | BulkStage::Tells { .. } => (),
         }
     }

@@ -146,7 +146,7 @@ impl Bulk {
             given: sense.len() as u64,
         };
         self.chunk.hold(sense);
-        self.taken.clear();
+        self.drop_taken();
         self.kept = None;
         self.stage = BulkStage::Moves {
             command: BulkCommand::of(cbw, done, true),
@@ -161,7 +161,7 @@ impl Bulk {
     {
         let _ = device.receive(&unit_of(cbw));
         self.chunk.clear();
-        self.taken.clear();
+        self.drop_taken();
         self.kept = None;
         self.stage = BulkStage::Moves {
             command: BulkCommand::of(cbw, Done::Nothing, false),
@@ -259,7 +259,7 @@ impl Bulk {
         ensures same_loan { M.loan memory.new ≡ M.loan memory.old }
     {
         consumer.fail(memory, events, front, buffer.length, buffer.flags);
-        self.taken.clear();
+        self.drop_taken();
     }
 
     /// Gathers so many bytes of a Normal TRB, and takes it.
@@ -284,6 +284,7 @@ impl Bulk {
     {
         match draw(memory, &mut self.taken, buffer, 0, count) {
             Ok(()) => {
+                self.gathers = true;
                 consumer.progress = tally(consumer.progress, buffer.length);
                 consumer.fill(memory, events, front, buffer.flags);
                 self.receive_if(device, !buffer.flags.chain)

@@ -307,10 +307,10 @@ impl Bulk {
 
     /// Whether a TRB with these flags, which isn't a Normal one, ends the TD of a CBW.
     fn ends_cbw(&self, consumer: &Consumer, flags: Flags) -> bool
-        ensures { result ≡ (is_awaiting self.now.stage && not (list_length self.now.taken == 0) && runs consumer.now.progress.ending && not flags.chain) }
+        ensures { result ≡ (is_awaiting self.now.stage && self.now.gathers && runs consumer.now.progress.ending && not flags.chain) }
     {
         matches!(self.stage, BulkStage::Awaits)
-            && self.taken.held() != 0
+            && self.gathers
             && consumer.progress.ending.runs()
             && !flags.chain
     }

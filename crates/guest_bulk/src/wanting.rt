@@ -139,19 +139,26 @@ impl Bulk {
         }
     }
 
-    /// The part of the buffer in front of Bulk-In that the next bytes go to, where a byte of it isn't there.
+    /// The part of the buffer in front of Bulk-In that the next bytes go to, where a byte of it isn't there; none where the endpoint
+    /// isn't served.
     fn in_part<M: GuestMemory, D: UasDevice>(
         &self,
         memory: &M,
         events: &EventRing,
         consumer: &Consumer,
         device: &D,
+        fault: Option<u8>,
         front: &Front,
     ) -> Option<Range>
-        ensures { result ≡ in_part D.kind (record { ring = record { memory = M.contents memory.now; events = events.now; consumer = consumer.now }; bulk = self.now; device = D.state device.now }) front.now }
+        ensures { result ≡ in_part D.kind fault (record { ring = record { memory = M.contents memory.now; events = events.now; consumer = consumer.now }; bulk = self.now; device = D.state device.now }) front.now }
     {
-        let coming = self.coming_in(consumer.progress.fed, device);
-        moved_part(memory, consumer, coming, moving(consumer, front))
+        match fault {
+            Some(_) => None,
+            None => {
+                let coming = self.coming_in(consumer.progress.fed, device);
+                moved_part(memory, consumer, coming, moving(consumer, front))
+            }
+        }
     }
 
     /// The first range that [`Bulk::step_in`] reads or writes of which a byte isn't there. Where the device is to give its next chunk, room for
@@ -162,16 +169,17 @@ impl Bulk {
         events: &EventRing,
         consumer: &Consumer,
         device: &D,
+        fault: Option<u8>,
         home: Home,
     ) -> Option<Range>
-        ensures { result ≡ in_wanted D.kind (record { ring = record { memory = M.contents memory.now; events = events.now; consumer = consumer.now }; bulk = self.now; device = D.state device.now }) home }
+        ensures { result ≡ in_wanted D.kind fault (record { ring = record { memory = M.contents memory.now; events = events.now; consumer = consumer.now }; bulk = self.now; device = D.state device.now }) home }
     {
         match consumer.gate(memory, events) {
             Err(Outside) => Some(place_range(events)),
             Ok(Some(_)) => None,
             Ok(None) => match look(memory, home) {
                 Err(Outside) => look_wants(memory, home),
-                Ok(front) => self.in_part(memory, events, consumer, device, &front),
+                Ok(front) => self.in_part(memory, events, consumer, device, fault, &front),
             },
         }
     }
@@ -221,6 +229,24 @@ impl Bulk {
         }
     }
 
+    /// The part of the buffer in front of Bulk-Out that is read, where a byte of it isn't there; none where the endpoint isn't served.
+    fn out_part<M: GuestMemory, D: UasDevice>(
+        &self,
+        memory: &M,
+        events: &EventRing,
+        consumer: &Consumer,
+        device: &D,
+        fault: Option<u8>,
+        front: &Front,
+    ) -> Option<Range>
+        ensures { result ≡ out_part D.kind fault (record { ring = record { memory = M.contents memory.now; events = events.now; consumer = consumer.now }; bulk = self.now; device = D.state device.now }) front.now }
+    {
+        match fault {
+            Some(_) => None,
+            None => { self.out_part_of(memory, events, consumer, device, moving(consumer, front)) }
+        }
+    }
+
     /// The first range that [`Bulk::step_out`] reads or writes of which a byte isn't there.
     pub fn wants_out<M: GuestMemory, D: UasDevice>(
         &self,
@@ -228,19 +254,17 @@ impl Bulk {
         events: &EventRing,
         consumer: &Consumer,
         device: &D,
+        fault: Option<u8>,
         home: Home,
     ) -> Option<Range>
-        ensures { result ≡ out_wanted D.kind (record { ring = record { memory = M.contents memory.now; events = events.now; consumer = consumer.now }; bulk = self.now; device = D.state device.now }) home }
+        ensures { result ≡ out_wanted D.kind fault (record { ring = record { memory = M.contents memory.now; events = events.now; consumer = consumer.now }; bulk = self.now; device = D.state device.now }) home }
     {
         match consumer.gate(memory, events) {
             Err(Outside) => Some(place_range(events)),
             Ok(Some(_)) => None,
             Ok(None) => match look(memory, home) {
                 Err(Outside) => look_wants(memory, home),
-                Ok(front) => {
-                    let buffer = moving(consumer, &front);
-                    self.out_part_of(memory, events, consumer, device, buffer)
-                }
+                Ok(front) => self.out_part(memory, events, consumer, device, fault, &front),
             },
         }
     }

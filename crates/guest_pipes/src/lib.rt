@@ -12,8 +12,8 @@
 //! - Bytes that are no TRB of a pipe post TRB Error; the consumer stays there and the endpoint is in error.
 //! - A stream context of another type than 1 posts Invalid Stream Type, a stream that isn't there Invalid Stream ID; the endpoint
 //!   halts.
-//! - Where nothing can serve a ring's bytes, as of a pipe without streams, a Normal TRB is told with what is left of it; the consumer
-//!   stays there, and the endpoint halts.
+//! - Where nothing can serve a ring's bytes, as of a pipe without streams, a Normal TRB of a TD that hasn't ended is told with what is left
+//!   of it; the consumer stays there, and the endpoint halts.
 //!
 //! What the standard calls opaque is [`Progress`]: how many bytes of the TRB in front were moved, how its TD goes on, and EDTLA. It
 //! stays over a stop, so that a TD goes on where it was, and is forgotten where the dequeue pointer is set.

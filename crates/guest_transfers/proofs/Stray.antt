@@ -22,7 +22,10 @@ use Rattle.guest_pipes.specs.Gate.{after, gate, is_running, room_gate, through}
 use Rattle.guest_pipes.specs.Orders.{PipeWorld, invalid_kept, invalid_stepped, invalid_told, lone_done, lone_stepped, pipe_ring, stray_stepped}
 use Rattle.guest_pipes.specs.Pipe.{loaded, ring_home}
 use Rattle.guest_pipes.specs.Step.{World, about, in_state}
-use Rattle.guest_pipes.specs.Unserved.{unserved_at, unserved_found, unserved_stepped, unserved_trb}
+use Rattle.guest_pipes.specs.declared.progress.Ending.{Ending}
+use Rattle.guest_pipes.specs.declared.progress.Ending.TheVariants.{Runs, Told, Owed}
+use Rattle.guest_memory.specs.declared.rings.trb.Flags.{Flags}
+use Rattle.guest_pipes.specs.Unserved.{unserved_at, unserved_bytes, unserved_found, unserved_stepped, unserved_trb}
 use Rattle.guest_pipes.specs.Wanted.{wanted_through}
 use Rattle.guest_pipes.specs.WantedLaws.{gate_lacks}
 use Rattle.guest_transfers.specs.declared.control.StreamPipe.{StreamPipe}
@@ -31,7 +34,7 @@ use Rattle.guest_transfers.specs.Orders.{pipe_of, pipe_world, stray_noted, stray
 use Rattle.guest_transfers.specs.Wanted.{invalid_wanted, lone_wanted, stray_wanted}
 use Rattle.guest_transfers.specs.Beside.{beside}
 use Rattle.guest_transfers.proofs.BesideLook.{gate-beside, looked-beside}
-use Rattle.guest_transfers.proofs.BesideRing.{posted-beside, refused-beside, ring_beside, took_other-beside}
+use Rattle.guest_transfers.proofs.BesideRing.{posted-beside, refused-beside, ring_beside, skipped-beside, took_other-beside}
 use Rattle.guest_transfers.proofs.DataSteps.{room_gate-beside, room_lacks}
 
 abbrev pub pipe_beside : PipeWorld → Memory → PipeWorld
@@ -77,11 +80,17 @@ invalid_after w rest none = by_tests (is_running w.pipe.state) w.pipe.invalid no
 abbrev pub done_beside : World × Acted → Memory → World × Acted
 done_beside done rest = (ring_beside done.0 rest, done.1)
 
-trb-beside : (w : World) (rest : Memory) (front : Front) (code : ℕ) (trb : PipeTrb)
-    → ring_beside (unserved_trb w front code trb) rest ≡ unserved_trb (ring_beside w rest) front code trb
-trb-beside w rest front code (Normal pointer length flags) =
+bytes-beside : (ending : Ending) (w : World) (rest : Memory) (front : Front) (code length : ℕ) (flags : Flags)
+    → ring_beside (unserved_bytes ending w front code length flags) rest ≡ unserved_bytes ending (ring_beside w rest) front code length flags
+bytes-beside Runs w rest front code length flags =
     let out : World → World = λ v. in_state v Halted in
     ap out (posted-beside w rest (about w.consumer front.cursor.place _ code) false)
+bytes-beside (Told told) w rest front code length flags = skipped-beside w rest front length flags
+bytes-beside Owed w rest front code length flags = skipped-beside w rest front length flags
+
+trb-beside : (w : World) (rest : Memory) (front : Front) (code : ℕ) (trb : PipeTrb)
+    → ring_beside (unserved_trb w front code trb) rest ≡ unserved_trb (ring_beside w rest) front code trb
+trb-beside w rest front code (Normal pointer length flags) = bytes-beside w.consumer.progress.ending w rest front code length flags
 trb-beside w rest front code (Link pointer toggle flags) = took_other-beside w rest front (Link pointer toggle flags)
 trb-beside w rest front code (NoOp flags) = took_other-beside w rest front (NoOp flags)
 trb-beside w rest front code (EventData parameter flags) = took_other-beside w rest front (EventData parameter flags)

@@ -1,6 +1,6 @@
 -- Each turn's calls on the device.
 use Rattle.std.proofs.Common.{◌≡◌, ℕ, zero, suc, ◌==◌, Bool, true, false, cond, List, [], ◌∷◌, ◌++◌, Option, Some, None, refl, ap, sym, ◌∙◌, inl, inr, arith}
-use Rattle.std.proofs.lemmas.Bool.{ne_eqb}
+use Rattle.std.proofs.lemmas.Bool.{and_parts, ne_eqb}
 use Rattle.std.specs.Prelude.{◌||◌}
 use Rattle.guest_pipes.specs.declared.acted.Acted.{Acted}
 use Rattle.guest_pipes.specs.declared.acted.Acted.TheVariants.{Idle}
@@ -22,7 +22,7 @@ use Rattle.guest_bulk.specs.Steps.{bulk_after, in_stepped, out_stepped}
 use Rattle.uas_profile.specs.declared.Pipe.TheVariants.{Command}
 use Rattle.guest_bulk.specs.Breaks.{in_break, out_break}
 use Rattle.xhci_machine.specs.Bulk.{broken_kept, bulk_breaks, bulk_broken, bulk_home, bulk_kept, bulk_of, bulk_world, device_ended}
-use Rattle.xhci_machine.specs.Bus.{fault_in, is_bulk, pipe_fault, stream_fault}
+use Rattle.xhci_machine.specs.Bus.{fault_in, has_bulk, is_bulk, pipe_fault, stream_fault}
 use Rattle.xhci_machine.specs.Contexts.{is_due}
 use Rattle.xhci_machine.specs.Steps.{commands_stepped}
 use Rattle.xhci_machine.specs.Turns.{World}
@@ -159,9 +159,9 @@ left_made w name (now, Some how) bulk made = (
   joined (tasks_of w) now.device.tasks (device_ended how.ends now.device).tasks made.0 (end_of how.ends) made.1.is (end_made how.ends now.device),
 )
 
-bulk_made : (w : World) (name : StreamPipe) → is_bulk w.machine ≡ true → BulkMade w name (bulk_of w name)
-bulk_made w Status bulk = no_bulk w Status (bulk_of w Status) refl
-bulk_made w DataOut bulk =
+bulk_made : (fault : Option ℕ) (w : World) (name : StreamPipe) → is_bulk w.machine ≡ true → BulkMade w name (bulk_of fault w name)
+bulk_made fault w Status bulk = no_bulk w Status (bulk_of fault w Status) refl
+bulk_made fault w DataOut bulk =
     let start : Machine = tasks_of w in
     let May : Call → Type 0 = IsBulk w DataOut in
     let from = bulk_world w.memory w.events w.machine DataOut in
@@ -180,9 +180,9 @@ bulk_made w DataOut bulk =
         },
       );
     } in
-    left_made w DataOut (bulk_after from (out_stepped tasks_kind from (bulk_home w.machine DataOut))) bulk
-    (bulk_out_kept tasks_kind from (Has start) (Made May start) calls (bulk_home w.machine DataOut) refl)
-bulk_made w DataIn bulk =
+    left_made w DataOut (bulk_after from (out_stepped tasks_kind fault from (bulk_home w.machine DataOut))) bulk
+    (bulk_out_kept tasks_kind from (Has start) (Made May start) calls fault (bulk_home w.machine DataOut) refl)
+bulk_made fault w DataIn bulk =
     let start : Machine = tasks_of w in
     let May : Call → Type 0 = IsBulk w DataIn in
     let from = bulk_world w.memory w.events w.machine DataIn in
@@ -192,8 +192,8 @@ bulk_made w DataIn bulk =
           (Give 1 (chunk_in (wanted start 1)) ∷ [], record { one = (bulk, refl); is = ap (λ m. gave m 1 (chunk_in (wanted m 1))) same });
       sent = λ device same. (Send 1 ∷ [], record { one = (bulk, refl); is = ap (λ m. without_task m 1) same });
     } in
-    left_made w DataIn (bulk_after from (in_stepped tasks_kind from (bulk_home w.machine DataIn))) bulk
-    (bulk_in_kept tasks_kind (Has start) (Made May start) calls from (bulk_home w.machine DataIn) refl)
+    left_made w DataIn (bulk_after from (in_stepped tasks_kind fault from (bulk_home w.machine DataIn))) bulk
+    (bulk_in_kept tasks_kind (Has start) (Made May start) calls fault from (bulk_home w.machine DataIn) refl)
 
 broken_left : (w : World) (name : StreamPipe) (broke : Option (BulkWorld GuestTasks × Stepped)) → is_bulk w.machine ≡ true
     → OfBreak (Has (tasks_of w)) broke → BulkMade w name (broken_kept w broke)
@@ -213,18 +213,21 @@ broken_made w DataIn bulk =
     let from = bulk_world w.memory w.events w.machine DataIn in
     broken_left w DataIn (in_break tasks_kind from) bulk (in_break_kept tasks_kind (Has (tasks_of w)) from.bulk.stage from refl)
 
-stray_by_made : (fault : Option ℕ) (bulk : Bool) (w : World) (name : StreamPipe) → is_bulk w.machine ≡ bulk → BulkMade w name (stray_by fault bulk w name)
-stray_by_made (Some code) bulk w name same = no_bulk w name (stray_by (Some code) bulk w name) refl
+stray_by_made : (fault : Option ℕ) (bulk : Bool) (w : World) (name : StreamPipe) → (bulk ≡ true → is_bulk w.machine ≡ true)
+    → BulkMade w name (stray_by fault bulk w name)
+stray_by_made (Some code) false w name same = no_bulk w name (stray_by (Some code) false w name) refl
 stray_by_made None false w name same = no_bulk w name (stray_by None false w name) refl
+stray_by_made (Some code) true w name same = bulk_made (Some code) w name (same refl)
 stray_by_made None true w name same =
-    either (BulkMade w name) (bulk_breaks w.machine name) (bulk_broken w name) (bulk_of w name) (broken_made w name same) (bulk_made w name same)
+    either (BulkMade w name) (bulk_breaks w.machine name) (bulk_broken w name) (bulk_of None w name) (broken_made w name (same refl)) (bulk_made None w name (same refl))
 
 stray_made : (w : World) (name : StreamPipe) → BulkMade w name (stray_stepped w name)
 unfolding stray_stepped
 stray_made w name =
     let fault = stream_fault w.machine name in
-    of_each (BulkMade w name) w (is_stray w.machine name) (stray_by fault (is_bulk w.machine) w name)
-    (no_bulk w name (w, Some Idle) refl) (no_bulk w name (w, None) refl) (stray_by_made fault (is_bulk w.machine) w name refl)
+    of_each (BulkMade w name) w (is_stray w.machine name) (stray_by fault (has_bulk w.machine name) w name)
+    (no_bulk w name (w, Some Idle) refl) (no_bulk w name (w, None) refl)
+    (stray_by_made fault (has_bulk w.machine name) w name (λ has. (and_parts (is_bulk w.machine) _ has).0))
 
 -- TURNS
 abbrev pub then_step : (World → World × Option Acted) → Turning → Turning

@@ -1,4 +1,5 @@
 -- What C sees of a controller over its memory.
+pub mod Asked
 pub mod CallLaws
 pub mod Looked
 pub mod Made

@@ -54,7 +54,7 @@ fn look(wanted: &mut UasXhciRange, regions: &mut [Lent], kept: &mut KeptXhci) ->
 }
 
 /// A range as C has it: one of no bytes where there is none.
-fn range_of(range: Option<Range>) -> UasXhciRange
+pub(crate) fn range_of(range: Option<Range>) -> UasXhciRange
     ensures { result ≡ range_told range }
 {
     match range {

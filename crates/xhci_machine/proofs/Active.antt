@@ -26,7 +26,7 @@ use Rattle.guest_bulk.specs.Steps.{bulk_after, in_stepped, out_stepped}
 use Rattle.uas_profile.specs.declared.Pipe.TheVariants.{Command}
 use Rattle.guest_bulk.specs.Breaks.{in_break, out_break}
 use Rattle.xhci_machine.specs.Bulk.{broken_kept, bulk_breaks, bulk_broken, bulk_home, bulk_kept, bulk_of, bulk_world, device_ended}
-use Rattle.xhci_machine.specs.Bus.{fault_in, is_bulk, pipe_fault, stream_fault}
+use Rattle.xhci_machine.specs.Bus.{fault_in, has_bulk, pipe_fault, stream_fault}
 use Rattle.xhci_machine.specs.Contexts.{is_due}
 use Rattle.xhci_machine.specs.Ring.{states_of}
 use Rattle.xhci_machine.specs.Laws.{AllTasksAreIdle, IsFailed, IsLeftIdle, IsTaskIdle, come_to}
@@ -140,9 +140,9 @@ module _ (P : GuestTasks → Type 0) (kept : KeptByAll P) where
   left_kept name w (after, None) p = p
   left_kept name w (after, Some how) p = device_kept how.ends after.device p
 
-  bulk_kept_by : (w : World) (name : StreamPipe) → Holds P w → Holds P (bulk_of w name).0
-  bulk_kept_by w Status p = p
-  bulk_kept_by w DataOut p =
+  bulk_kept_by : (fault : Option ℕ) (w : World) (name : StreamPipe) → Holds P w → Holds P (bulk_of fault w name).0
+  bulk_kept_by fault w Status p = p
+  bulk_kept_by fault w DataOut p =
       let from = bulk_world w.memory w.events w.machine DataOut in
       let calls : OutCalls tasks_kind from P P = record {
         stays = λ device p. p;
@@ -150,17 +150,17 @@ module _ (P : GuestTasks → Type 0) (kept : KeptByAll P) where
         received = λ device cbw is p. kept.received device (unit_of cbw) p;
         drawn = λ device buffer bytes cbw is reads p. kept.received device (unit_of cbw) p;
       } in
-      left_kept DataOut w (bulk_after from (out_stepped tasks_kind from (bulk_home w.machine DataOut)))
-      (bulk_out_kept tasks_kind from P P calls (bulk_home w.machine DataOut) p)
-  bulk_kept_by w DataIn p =
+      left_kept DataOut w (bulk_after from (out_stepped tasks_kind fault from (bulk_home w.machine DataOut)))
+      (bulk_out_kept tasks_kind from P P calls fault (bulk_home w.machine DataOut) p)
+  bulk_kept_by fault w DataIn p =
       let from = bulk_world w.memory w.events w.machine DataIn in
       let calls : InCalls tasks_kind P P = record {
         stays = λ device p. p;
         gave = λ device p. kept.gave device 1 p;
         sent = λ device p. kept.sent device 1 p;
       } in
-      left_kept DataIn w (bulk_after from (in_stepped tasks_kind from (bulk_home w.machine DataIn)))
-      (bulk_in_kept tasks_kind P P calls from (bulk_home w.machine DataIn) p)
+      left_kept DataIn w (bulk_after from (in_stepped tasks_kind fault from (bulk_home w.machine DataIn)))
+      (bulk_in_kept tasks_kind P P calls fault from (bulk_home w.machine DataIn) p)
 
   broken_left : (w : World) (broke : Option (BulkWorld GuestTasks × Stepped)) → Holds P w → OfBreak P broke → Holds P (broken_kept w broke).0
   broken_left w None p q = p
@@ -176,18 +176,19 @@ module _ (P : GuestTasks → Type 0) (kept : KeptByAll P) where
       broken_left w (in_break tasks_kind from) p (in_break_kept tasks_kind P from.bulk.stage from p)
 
   stray_by_kept : (fault : Option ℕ) (bulk : Bool) (w : World) (name : StreamPipe) → Holds P w → Holds P (stray_by fault bulk w name).0
-  stray_by_kept (Some code) bulk w name p = p
+  stray_by_kept (Some code) false w name p = p
   stray_by_kept None false w name p = p
+  stray_by_kept (Some code) true w name p = bulk_kept_by (Some code) w name p
   stray_by_kept None true w name p =
-      either (λ (x : World × Option Acted). Holds P x.0) (bulk_breaks w.machine name) (bulk_broken w name) (bulk_of w name)
-      (broken_by w name p) (bulk_kept_by w name p)
+      either (λ (x : World × Option Acted). Holds P x.0) (bulk_breaks w.machine name) (bulk_broken w name) (bulk_of None w name)
+      (broken_by w name p) (bulk_kept_by None w name p)
 
   stray_kept : (w : World) (name : StreamPipe) → Holds P w → Holds P (stray_stepped w name).0
   unfolding stray_stepped
   stray_kept w name p =
       let fault = stream_fault w.machine name in
-      of_each (λ (x : World × Option Acted). Holds P x.0) w (is_stray w.machine name) (stray_by fault (is_bulk w.machine) w name) p p
-      (stray_by_kept fault (is_bulk w.machine) w name p)
+      of_each (λ (x : World × Option Acted). Holds P x.0) w (is_stray w.machine name) (stray_by fault (has_bulk w.machine name) w name) p p
+      (stray_by_kept fault (has_bulk w.machine name) w name p)
 
   data_of_kept : (w : World) (tag : ℕ) → Holds P w → Holds P (data_of w tag).0
   unfolding data_of data_due

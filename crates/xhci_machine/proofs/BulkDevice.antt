@@ -15,7 +15,7 @@ use Rattle.guest_bulk.specs.Breaks.{in_break_at, in_break_by, out_break_at, out_
 use Rattle.guest_bulk.specs.Commands.{BulkWorld, begun_by, begun_if, cbw_count, cbw_drawn, cbw_gathered, cbw_lost, cbw_ran, cbw_taken, is_for, kept_begun, received_if, takes_bytes, gives_bytes, task_begun, unit_of, with_moved}
 use Rattle.guest_bulk.specs.Incoming.{chunk_moved, chunk_poured, in_beside, in_broken, in_by, in_last_by, in_ran, in_staged, moved_if, refilled, refilled_moved, settled_told, told_staged, zeros_moved, zeros_poured}
 use Rattle.guest_bulk.specs.Outgoing.{data_dropped, ends_cbw, handed_if, out_beside, out_broken, out_by, out_drawn, out_filled, out_gathered, out_handed, out_last, out_moved, out_ran, out_staged, out_went, rest_dropped}
-use Rattle.guest_bulk.specs.Steps.{bulk_after, bulk_through, in_acted, in_at, in_normal, in_stepped, in_took, out_acted, out_at, out_normal, out_stepped, out_took}
+use Rattle.guest_bulk.specs.Steps.{bulk_after, bulk_through, in_acted, in_at, in_bytes, in_normal, in_stepped, in_took, out_acted, out_at, out_bytes, out_normal, out_stepped, out_took}
 use Rattle.guest_bulk.specs.Verdicts.{answered, broken_off, csw_ended, csw_full, csw_lost, csw_moved, csw_on, csw_poured, csw_ran, csw_short, csw_some, csw_babbled, csw_went, data_closed, has_chunk, kept_told, settled, settled_by}
 use Rattle.guest_memory.specs.declared.rings.context.Home.{Home}
 use Rattle.guest_memory.specs.declared.rings.context.Front.{Front}
@@ -158,25 +158,29 @@ module _ {D : Type 0} (kind : Kind D) (w : BulkWorld D) (P Q : D → Type 0) (ca
   normal_kept (Told code) front buffer p = calls.stays w.device p
   normal_kept Owed front buffer p = calls.stays w.device p
 
-  out_acted_kept : (found : Found) (front : Front) → P w.device → Behind Q (out_acted kind w front found)
-  out_acted_kept WrongKind front p = calls.stays w.device p
-  out_acted_kept NotYet front p = calls.stays w.device p
-  out_acted_kept (Item (Normal pointer length flags)) front p =
-      normal_kept w.ring.consumer.progress.ending front (record { pointer = pointer; length = length; flags = flags }) p
-  out_acted_kept (Item (Link pointer toggle flags)) front p = calls.stays w.device p
-  out_acted_kept (Item (NoOp flags)) front p = ended_kept (ends_cbw kind w flags) _ refl refl p
-  out_acted_kept (Item (EventData parameter flags)) front p = ended_kept (ends_cbw kind w flags) _ refl refl p
-  out_acted_kept (Item Foreign) front p = calls.stays w.device p
+  bytes_kept : (fault : Option ℕ) (front : Front) (buffer : Buffer) → P w.device → Behind Q (out_bytes kind fault w front buffer)
+  bytes_kept None front buffer p = normal_kept w.ring.consumer.progress.ending front buffer p
+  bytes_kept (Some code) front buffer p = calls.stays w.device p
 
-  pub bulk_out_kept : (home : Home) → P w.device → Q (bulk_after w (out_stepped kind w home)).0.device
-  bulk_out_kept home p = by_gate (gate w.ring.memory w.ring.events w.ring.consumer) (looked w.ring.memory home)
+  out_acted_kept : (fault : Option ℕ) (found : Found) (front : Front) → P w.device → Behind Q (out_acted kind fault w front found)
+  out_acted_kept fault WrongKind front p = calls.stays w.device p
+  out_acted_kept fault NotYet front p = calls.stays w.device p
+  out_acted_kept fault (Item (Normal pointer length flags)) front p =
+      bytes_kept fault front (record { pointer = pointer; length = length; flags = flags }) p
+  out_acted_kept fault (Item (Link pointer toggle flags)) front p = calls.stays w.device p
+  out_acted_kept fault (Item (NoOp flags)) front p = ended_kept (ends_cbw kind w flags) _ refl refl p
+  out_acted_kept fault (Item (EventData parameter flags)) front p = ended_kept (ends_cbw kind w flags) _ refl refl p
+  out_acted_kept fault (Item Foreign) front p = calls.stays w.device p
+
+  pub bulk_out_kept : (fault : Option ℕ) (home : Home) → P w.device → Q (bulk_after w (out_stepped kind fault w home)).0.device
+  bulk_out_kept fault home p = by_gate (gate w.ring.memory w.ring.events w.ring.consumer) (looked w.ring.memory home)
     where
       by_gate : (opens : Option (Option Acted)) (found : Option Front)
-          → Q (bulk_after w (bulk_through w opens (option_map (out_at kind w) found))).0.device
+          → Q (bulk_after w (bulk_through w opens (option_map (out_at kind fault w) found))).0.device
       by_gate None found = calls.stays w.device p
       by_gate (Some (Some acted)) found = calls.stays w.device p
       by_gate (Some None) None = calls.stays w.device p
-      by_gate (Some None) (Some front) = out_acted_kept front.found front p
+      by_gate (Some None) (Some front) = out_acted_kept fault front.found front p
 
 -- THE CSW is no call
 module _ {D : Type 0} (kind : Kind D) (R : D → Type 0) where
@@ -314,25 +318,30 @@ module _ {D : Type 0} (kind : Kind D) (P Q : D → Type 0) (calls : InCalls kind
   last_kept (Tells csw sent) w front trb flags q =
       either (λ (x : BulkWorld D). Q x.device) _ _ _ (csw_ended_kept kind Q _ w csw front trb flags q) q
 
-  in_acted_kept : (found : Found) (w : BulkWorld D) (front : Front) → P w.device → Behind Q (in_acted kind w front found)
-  in_acted_kept WrongKind w front p = calls.stays w.device p
-  in_acted_kept NotYet w front p = calls.stays w.device p
-  in_acted_kept (Item (Normal pointer length flags)) w front p =
-      in_normal_kept w.ring.consumer.progress.ending w front (record { pointer = pointer; length = length; flags = flags }) p
-  in_acted_kept (Item (Link pointer toggle flags)) w front p = calls.stays w.device p
-  in_acted_kept (Item (NoOp flags)) w front p = last_kept w.bulk.stage w front (NoOp flags) flags (calls.stays w.device p)
-  in_acted_kept (Item (EventData parameter flags)) w front p = last_kept w.bulk.stage w front (EventData parameter flags) flags (calls.stays w.device p)
-  in_acted_kept (Item Foreign) w front p = calls.stays w.device p
+  in_bytes_kept : (fault : Option ℕ) (w : BulkWorld D) (front : Front) (buffer : Buffer) → P w.device → Behind Q (in_bytes kind fault w front buffer)
+  in_bytes_kept None w front buffer p = in_normal_kept w.ring.consumer.progress.ending w front buffer p
+  in_bytes_kept (Some code) w front buffer p = calls.stays w.device p
 
-  pub bulk_in_kept : (w : BulkWorld D) (home : Home) → P w.device → Q (bulk_after w (in_stepped kind w home)).0.device
-  bulk_in_kept w home p = by_gate (gate w.ring.memory w.ring.events w.ring.consumer) (looked w.ring.memory home)
+  in_acted_kept : (fault : Option ℕ) (found : Found) (w : BulkWorld D) (front : Front) → P w.device → Behind Q (in_acted kind fault w front found)
+  in_acted_kept fault WrongKind w front p = calls.stays w.device p
+  in_acted_kept fault NotYet w front p = calls.stays w.device p
+  in_acted_kept fault (Item (Normal pointer length flags)) w front p =
+      in_bytes_kept fault w front (record { pointer = pointer; length = length; flags = flags }) p
+  in_acted_kept fault (Item (Link pointer toggle flags)) w front p = calls.stays w.device p
+  in_acted_kept fault (Item (NoOp flags)) w front p = last_kept w.bulk.stage w front (NoOp flags) flags (calls.stays w.device p)
+  in_acted_kept fault (Item (EventData parameter flags)) w front p =
+      last_kept w.bulk.stage w front (EventData parameter flags) flags (calls.stays w.device p)
+  in_acted_kept fault (Item Foreign) w front p = calls.stays w.device p
+
+  pub bulk_in_kept : (fault : Option ℕ) (w : BulkWorld D) (home : Home) → P w.device → Q (bulk_after w (in_stepped kind fault w home)).0.device
+  bulk_in_kept fault w home p = by_gate (gate w.ring.memory w.ring.events w.ring.consumer) (looked w.ring.memory home)
     where
       by_gate : (opens : Option (Option Acted)) (found : Option Front)
-          → Q (bulk_after w (bulk_through w opens (option_map (in_at kind w) found))).0.device
+          → Q (bulk_after w (bulk_through w opens (option_map (in_at kind fault w) found))).0.device
       by_gate None found = calls.stays w.device p
       by_gate (Some (Some acted)) found = calls.stays w.device p
       by_gate (Some None) None = calls.stays w.device p
-      by_gate (Some None) (Some front) = in_acted_kept front.found w front p
+      by_gate (Some None) (Some front) = in_acted_kept fault front.found w front p
 
 -- TO BREAK OFF is no call
 abbrev pub OfBreak : {D : Type 0} → (D → Type 0) → Option (BulkWorld D × Stepped) → Type 0

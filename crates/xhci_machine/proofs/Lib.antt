@@ -2,6 +2,8 @@ pub mod Begun
 pub mod Same
 pub mod Tags
 pub mod Working
+pub mod OneStep
+pub mod Asked
 pub mod Left
 pub mod Nothing
 pub mod Device

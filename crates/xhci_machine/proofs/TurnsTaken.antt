@@ -27,7 +27,7 @@ use Rattle.guest_bulk.specs.Wanted.{in_wanted, out_wanted}
 use Rattle.guest_memory.specs.declared.rings.context.Home.{Home}
 use Rattle.uas_profile.specs.declared.Pipe.TheVariants.{Command}
 use Rattle.xhci_machine.specs.Bulk.{break_on, broken_kept, bulk_breaks, bulk_broken, bulk_home, bulk_kept, bulk_of, bulk_wanted, bulk_world}
-use Rattle.xhci_machine.specs.Bus.{fault_in, is_bulk, pipe_fault, stall_error, stream_fault}
+use Rattle.xhci_machine.specs.Bus.{fault_in, has_bulk, pipe_fault, stall_error, stream_fault}
 use Rattle.xhci_machine.specs.Rounds.{command_by, command_pipe_stepped, control_stepped, control_world, data_due, data_of, has_rung, is_stray, rings_by, ring_on, served, status_due, status_of, stray_by, stray_stepped, transfers_world}
 use Rattle.xhci_machine.specs.Turns.{World}
 use Rattle.xhci_machine.specs.Contexts.{context_wanted, is_due}
@@ -110,17 +110,22 @@ kept_there name w (after, None) is = absurd (false≢true is)
 kept_there name w (after, Some how) is = refl
 
 pub record BulkLaws : Type 0 where
-  pub to_host : (w : BulkWorld GuestTasks) (home : Home) → in_wanted tasks_kind w home ≡ None → is_some (bulk_after w (in_stepped tasks_kind w home)).1 ≡ true
-  pub to_device : (w : BulkWorld GuestTasks) (home : Home) → out_wanted tasks_kind w home ≡ None → is_some (bulk_after w (out_stepped tasks_kind w home)).1 ≡ true
+  pub to_host : (fault : Option ℕ) (w : BulkWorld GuestTasks) (home : Home) → in_wanted tasks_kind fault w home ≡ None
+      → is_some (bulk_after w (in_stepped tasks_kind fault w home)).1 ≡ true
+  pub to_device : (fault : Option ℕ) (w : BulkWorld GuestTasks) (home : Home) → out_wanted tasks_kind fault w home ≡ None
+      → is_some (bulk_after w (out_stepped tasks_kind fault w home)).1 ≡ true
 
-bulk_taken : BulkLaws → (w : World) (name : StreamPipe) → bulk_wanted w.memory w.machine w.events name ≡ None → is_some (bulk_of w name).1 ≡ true
-bulk_taken laws w Status none = refl
-bulk_taken laws w DataOut none =
+bulk_taken : BulkLaws → (fault : Option ℕ) (w : World) (name : StreamPipe) → bulk_wanted fault w.memory w.machine w.events name ≡ None
+    → is_some (bulk_of fault w name).1 ≡ true
+bulk_taken laws fault w Status none = refl
+bulk_taken laws fault w DataOut none =
     let from = bulk_world w.memory w.events w.machine DataOut in
-    kept_there DataOut w (bulk_after from (out_stepped tasks_kind from (bulk_home w.machine DataOut))) (laws.to_device from (bulk_home w.machine DataOut) none)
-bulk_taken laws w DataIn none =
+    let home : Home = bulk_home w.machine DataOut in
+    kept_there DataOut w (bulk_after from (out_stepped tasks_kind fault from home)) (laws.to_device fault from home none)
+bulk_taken laws fault w DataIn none =
     let from = bulk_world w.memory w.events w.machine DataIn in
-    kept_there DataIn w (bulk_after from (in_stepped tasks_kind from (bulk_home w.machine DataIn))) (laws.to_host from (bulk_home w.machine DataIn) none)
+    let home : Home = bulk_home w.machine DataIn in
+    kept_there DataIn w (bulk_after from (in_stepped tasks_kind fault from home)) (laws.to_host fault from home none)
 
 broken_there : (w : World) (name : StreamPipe) → is_some (bulk_broken w name).1 ≡ true
 broken_there w name = by_break (break_on w.memory w.events w.machine name)
@@ -130,43 +135,47 @@ broken_there w name = by_break (break_on w.memory w.events w.machine name)
     by_break (Some done) = refl
 
 -- a ring of theirs that isn't looked at
-bulk_idle : (w : World) (name : StreamPipe) → (is_running (pipe_of w.machine.transfers name).state && rung_on (pipe_of w.machine.transfers name) 0) ≡ false
-    → bulk_wanted w.memory w.machine w.events name ≡ None
-bulk_idle w Status rests = refl
-bulk_idle w DataOut rests = idle_gate w.memory w.events (loaded (pipe_of w.machine.transfers DataOut) 0) _ rests
-bulk_idle w DataIn rests = idle_gate w.memory w.events (loaded (pipe_of w.machine.transfers DataIn) 0) _ rests
+bulk_idle : (fault : Option ℕ) (w : World) (name : StreamPipe)
+    → (is_running (pipe_of w.machine.transfers name).state && rung_on (pipe_of w.machine.transfers name) 0) ≡ false
+    → bulk_wanted fault w.memory w.machine w.events name ≡ None
+bulk_idle fault w Status rests = refl
+bulk_idle fault w DataOut rests = idle_gate w.memory w.events (loaded (pipe_of w.machine.transfers DataOut) 0) _ rests
+bulk_idle fault w DataIn rests = idle_gate w.memory w.events (loaded (pipe_of w.machine.transfers DataIn) 0) _ rests
 
 -- A DOORBELL THAT NO TAG'S TURN SERVES, by what it lacks
 
 abbrev stray_wanted_by : Option ℕ → Bool → World → StreamPipe → Option Range
-stray_wanted_by (Some code) bulk w name = silent_wanted w.memory w.events (pipe_of w.machine.transfers name)
+stray_wanted_by (Some code) false w name = silent_wanted w.memory w.events (pipe_of w.machine.transfers name)
 stray_wanted_by None false w name = stray_wanted w.memory w.events (pipe_of w.machine.transfers name)
-stray_wanted_by None true w name = if bulk_breaks w.machine name then None else bulk_wanted w.memory w.machine w.events name
+stray_wanted_by (Some code) true w name = bulk_wanted (Some code) w.memory w.machine w.events name
+stray_wanted_by None true w name = if bulk_breaks w.machine name then None else bulk_wanted None w.memory w.machine w.events name
 
 -- a look that lacks nothing has nothing of that
 looks_whole : (fault : Option ℕ) (bulk : Bool) (w : World) (name : StreamPipe)
     → lacks_nothing (stray_looked_by fault bulk w.memory w.machine w.events name) ≡ true → stray_wanted_by fault bulk w name ≡ None
-looks_whole (Some code) bulk w name is = acts_whole (silent_wanted w.memory w.events (pipe_of w.machine.transfers name)) is
+looks_whole (Some code) false w name is = acts_whole (silent_wanted w.memory w.events (pipe_of w.machine.transfers name)) is
 looks_whole None false w name is = acts_whole (stray_wanted w.memory w.events (pipe_of w.machine.transfers name)) is
+looks_whole (Some code) true w name is = acts_whole (bulk_wanted (Some code) w.memory w.machine w.events name) is
 looks_whole None true w name is = by_break (bulk_breaks w.machine name) is
   where
     by_break : (breaks : Bool)
-        → lacks_nothing (if breaks then acts None else needs (bulk_wanted w.memory w.machine w.events name)) ≡ true
-        → (if breaks then None else bulk_wanted w.memory w.machine w.events name) ≡ None
+        → lacks_nothing (if breaks then acts None else needs (bulk_wanted None w.memory w.machine w.events name)) ≡ true
+        → (if breaks then None else bulk_wanted None w.memory w.machine w.events name) ≡ None
     by_break true is = refl
-    by_break false is = needs_whole (bulk_wanted w.memory w.machine w.events name) is
+    by_break false is = needs_whole (bulk_wanted None w.memory w.machine w.events name) is
 
 stray_idle : (fault : Option ℕ) (bulk : Bool) (w : World) (name : StreamPipe)
     → rings_by fault bulk w.machine name ≡ false → stray_wanted_by fault bulk w name ≡ None
-stray_idle (Some code) bulk w name rests = not_rung w.memory w.events (pipe_of w.machine.transfers name) rests
+stray_idle (Some code) false w name rests = not_rung w.memory w.events (pipe_of w.machine.transfers name) rests
 stray_idle None false w name rests = not_stray w.memory w.events (pipe_of w.machine.transfers name) rests
+stray_idle (Some code) true w name rests = bulk_idle (Some code) w name rests
 stray_idle None true w name rests = by_break (bulk_breaks w.machine name) rests
   where
     by_break : (breaks : Bool)
         → (breaks || (is_running (pipe_of w.machine.transfers name).state && rung_on (pipe_of w.machine.transfers name) 0)) ≡ false
-        → (if breaks then None else bulk_wanted w.memory w.machine w.events name) ≡ None
+        → (if breaks then None else bulk_wanted None w.memory w.machine w.events name) ≡ None
     by_break true rests = refl
-    by_break false rests = bulk_idle w name rests
+    by_break false rests = bulk_idle None w name rests
 
 pub stray_taken : ((memory : Memory) (events : EventEnd) (t : TransfersState) (name : StreamPipe) → stray_wanted memory events (pipe_of t name) ≡ None
     → is_some (stray_on stall_error memory events t name).1.1.1 ≡ true)
@@ -178,10 +187,10 @@ unfolding stray_looked stray_stepped
 stray_taken law silent_law laws w name is =
     let due : Bool = is_stray w.machine name in
     let fault = stream_fault w.machine name in
-    of_there w due _ (in_context due is) (by_fault fault (is_bulk w.machine) (lacks fault (is_bulk w.machine) due refl is))
+    of_there w due _ (in_context due is) (by_fault fault (has_bulk w.machine name) (lacks fault (has_bulk w.machine name) due refl is))
   where
     in_context : (due : Bool)
-        → lacks_nothing (if due then then_look (needs (context_wanted w.memory w.machine.slot)) (stray_looked_by (stream_fault w.machine name) (is_bulk w.machine) w.memory w.machine w.events name) else Ok tt) ≡ true
+        → lacks_nothing (if due then then_look (needs (context_wanted w.memory w.machine.slot)) (stray_looked_by (stream_fault w.machine name) (has_bulk w.machine name) w.memory w.machine w.events name) else Ok tt) ≡ true
         → due ≡ true → context_wanted w.memory w.machine.slot ≡ None
     in_context true is due = (needs_nothing (context_wanted w.memory w.machine.slot) _ is).0
     in_context false is due = absurd (false≢true due)
@@ -193,14 +202,15 @@ stray_taken law silent_law laws w name is =
     lacks fault bulk true same is = looks_whole fault bulk w name (needs_nothing (context_wanted w.memory w.machine.slot) _ is).1
     lacks fault bulk false same is = stray_idle fault bulk w name same
 
-    by_break : (breaks : Bool) → (if breaks then None else bulk_wanted w.memory w.machine w.events name) ≡ None
-        → is_some (if breaks then bulk_broken w name else bulk_of w name).1 ≡ true
+    by_break : (breaks : Bool) → (if breaks then None else bulk_wanted None w.memory w.machine w.events name) ≡ None
+        → is_some (if breaks then bulk_broken w name else bulk_of None w name).1 ≡ true
     by_break true none = broken_there w name
-    by_break false none = bulk_taken laws w name none
+    by_break false none = bulk_taken laws None w name none
 
     by_fault : (fault : Option ℕ) (bulk : Bool) → stray_wanted_by fault bulk w name ≡ None → is_some (stray_by fault bulk w name).1 ≡ true
-    by_fault (Some code) bulk none = silent_law code w.memory w.events w.machine.transfers name none
+    by_fault (Some code) false none = silent_law code w.memory w.events w.machine.transfers name none
     by_fault None false none = law w.memory w.events w.machine.transfers name none
+    by_fault (Some code) true none = bulk_taken laws (Some code) w name none
     by_fault None true none = by_break (bulk_breaks w.machine name) none
 
 -- A TAG

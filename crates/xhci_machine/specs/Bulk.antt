@@ -1,5 +1,5 @@
 -- A step of Bulk-Out or Bulk-In, in Bulk-Only's alternate setting: of the one ring of the endpoint of data-out, or data-in.
-use Rattle.std.specs.Prelude.{Bool, true, false, if◌then◌else◌, Option, Some, None, is_some}
+use Rattle.std.specs.Prelude.{ℕ, Bool, true, false, if◌then◌else◌, Option, Some, None, is_some}
 use Rattle.guest_bulk.specs.Breaks.{in_break, out_break}
 use Rattle.guest_bulk.specs.declared.bulk.Stepped.{Stepped}
 use Rattle.guest_bulk.specs.Commands.{BulkWorld}
@@ -68,14 +68,15 @@ abbrev pub bulk_kept : StreamPipe → World → BulkWorld GuestTasks × Option S
 bulk_kept name w (after, None) = (with_bulk w after, None)
 bulk_kept name w (after, Some how) = (bulk_done name w after how, Some how.acted)
 
-abbrev pub bulk_of : World → StreamPipe → World × Option Acted
-bulk_of w Status = (w, Some Idle)
-bulk_of w DataOut =
+-- a step of the ring's end; where the endpoint isn't served, TDs whose bytes move are told with a code
+abbrev pub bulk_of : Option ℕ → World → StreamPipe → World × Option Acted
+bulk_of fault w Status = (w, Some Idle)
+bulk_of fault w DataOut =
     bulk_kept DataOut w
-    (bulk_after (bulk_world w.memory w.events w.machine DataOut) (out_stepped tasks_kind (bulk_world w.memory w.events w.machine DataOut) (bulk_home w.machine DataOut)))
-bulk_of w DataIn =
+    (bulk_after (bulk_world w.memory w.events w.machine DataOut) (out_stepped tasks_kind fault (bulk_world w.memory w.events w.machine DataOut) (bulk_home w.machine DataOut)))
+bulk_of fault w DataIn =
     bulk_kept DataIn w
-    (bulk_after (bulk_world w.memory w.events w.machine DataIn) (in_stepped tasks_kind (bulk_world w.memory w.events w.machine DataIn) (bulk_home w.machine DataIn)))
+    (bulk_after (bulk_world w.memory w.events w.machine DataIn) (in_stepped tasks_kind fault (bulk_world w.memory w.events w.machine DataIn) (bulk_home w.machine DataIn)))
 
 -- AT ONCE: the disk halts an endpoint whether a TD is there or not (BOT 6.7, cases 8 and 10), and ends its task
 
@@ -104,14 +105,15 @@ abbrev pub bulk_breaks : Machine → StreamPipe → Bool
 bulk_breaks m name = is_some (break_on (λ a. None) no_events m name)
 
 -- Bulk-Out's turn, or Bulk-In's
-abbrev pub bulk_turned : World → StreamPipe → World × Option Acted
-bulk_turned w name = if bulk_breaks w.machine name then bulk_broken w name else bulk_of w name
+abbrev pub bulk_turned : Option ℕ → World → StreamPipe → World × Option Acted
+bulk_turned (Some code) w name = bulk_of (Some code) w name
+bulk_turned None w name = if bulk_breaks w.machine name then bulk_broken w name else bulk_of None w name
 
 -- the first range that it lacks
-abbrev pub bulk_wanted : Memory → Machine → EventEnd → StreamPipe → Option Range
-bulk_wanted memory m events Status = None
-bulk_wanted memory m events DataOut = out_wanted tasks_kind (bulk_world memory events m DataOut) (bulk_home m DataOut)
-bulk_wanted memory m events DataIn = in_wanted tasks_kind (bulk_world memory events m DataIn) (bulk_home m DataIn)
+abbrev pub bulk_wanted : Option ℕ → Memory → Machine → EventEnd → StreamPipe → Option Range
+bulk_wanted fault memory m events Status = None
+bulk_wanted fault memory m events DataOut = out_wanted tasks_kind fault (bulk_world memory events m DataOut) (bulk_home m DataOut)
+bulk_wanted fault memory m events DataIn = in_wanted tasks_kind fault (bulk_world memory events m DataIn) (bulk_home m DataIn)
 
 -- REQUESTS: hosts of Bulk-Only don't flush, so that their writes go through
 

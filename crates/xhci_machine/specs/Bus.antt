@@ -71,6 +71,11 @@ stalled_if false None = None
 abbrev pub stream_fault : Machine → StreamPipe → Option ℕ
 stream_fault m name = stalled_if (is_bulk m && not ((pipe_of m.transfers name).streams == 0)) (pipe_fault m (pipe_named name))
 
+-- Bulk-Only's transport stands at the end of the ring, also while the endpoint isn't served
+abbrev pub has_bulk : Machine → StreamPipe → Bool
+has_bulk m name =
+    is_bulk m && (has_pipe (alternate_of m.control.disk.settings) (pipe_named name) && (pipe_of m.transfers name).streams == 0)
+
 -- WHAT BULK-ONLY'S TRANSPORT HALTS, AND WHAT IT FORGETS
 
 abbrev pub control_halted : Halting → ControlPipe → ControlPipe

@@ -37,7 +37,7 @@ abbrev pub all_disabled : States
 all_disabled = record { control = Disabled; command = Disabled; status = Disabled; data_out = Disabled; data_in = Disabled }
 
 abbrev pub opening_bulk : Bulk
-opening_bulk = record { stage = Awaits; chunk = []; taken = []; kept = None }
+opening_bulk = record { stage = Awaits; chunk = []; taken = []; gathers = false; kept = None }
 
 -- after a reset, with a disk of UAS alone plugged in
 abbrev pub opened : GuestTasks → Machine

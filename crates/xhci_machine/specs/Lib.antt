@@ -14,6 +14,7 @@ pub mod Rounds
 pub mod Worked
 pub mod Lacking
 pub mod Wanted
+pub mod Asking
 pub mod Laws
 pub mod Kept
 pub mod KeptTexts

@@ -22,7 +22,7 @@ use Rattle.xhci_control.specs.Steps.{ControlWorld, stepped}
 use Rattle.xhci_machine.specs.declared.Machine.{Machine}
 use Rattle.uas_profile.specs.declared.Pipe.TheVariants.{Command}
 use Rattle.xhci_machine.specs.Bulk.{bulk_breaks, bulk_turned, ended_if}
-use Rattle.xhci_machine.specs.Bus.{fault_in, is_bulk, pipe_fault, stall_error, still_halted, stream_fault}
+use Rattle.xhci_machine.specs.Bus.{fault_in, has_bulk, pipe_fault, stall_error, still_halted, stream_fault}
 use Rattle.xhci_machine.specs.Contexts.{is_due, of_endpoint, of_tag}
 use Rattle.xhci_machine.specs.Steps.{commands_stepped}
 use Rattle.xhci_machine.specs.Turns.{World, left_after, noted, port_turned, settled, tells_port}
@@ -86,24 +86,26 @@ with_stray w after = (record { memory = after.0; events = after.1.0; machine = r
 abbrev pub has_rung : PipeState → Bool
 has_rung p = has_stray p || is_some (next_rung p)
 
--- by what its TDs are told with, and whether the disk is in Bulk-Only's setting, where it may halt an endpoint without a doorbell
+-- by what its TDs are told with, and whether it is one of Bulk-Only's transport, where the disk may halt an endpoint without a doorbell
 abbrev pub rings_by : Option ℕ → Bool → Machine → StreamPipe → Bool
-rings_by (Some code) bulk m name = is_running (pipe_of m.transfers name).state && has_rung (pipe_of m.transfers name)
+rings_by (Some code) false m name = is_running (pipe_of m.transfers name).state && has_rung (pipe_of m.transfers name)
+rings_by (Some code) true m name = is_running (pipe_of m.transfers name).state && rung_on (pipe_of m.transfers name) 0
 rings_by None false m name = is_running (pipe_of m.transfers name).state && has_stray (pipe_of m.transfers name)
 rings_by None true m name = bulk_breaks m name || (is_running (pipe_of m.transfers name).state && rung_on (pipe_of m.transfers name) 0)
 
 -- whether its step looks at it
 abbrev pub is_stray : Machine → StreamPipe → Bool
-is_stray m name = rings_by (stream_fault m name) (is_bulk m) m name
+is_stray m name = rings_by (stream_fault m name) (has_bulk m name) m name
 
--- Bulk-Out or Bulk-In in Bulk-Only's setting. UAS has no ring without streams: a TD there is told with Stall Error.
+-- Bulk-Out or Bulk-In in Bulk-Only's setting, whether it is served or not. UAS has no ring without streams: a TD there is told with Stall Error.
 abbrev pub stray_by : Option ℕ → Bool → World → StreamPipe → World × Option Acted
-stray_by (Some code) bulk w name = with_stray w (silent_on code w.memory w.events w.machine.transfers name)
+stray_by (Some code) false w name = with_stray w (silent_on code w.memory w.events w.machine.transfers name)
 stray_by None false w name = with_stray w (stray_on stall_error w.memory w.events w.machine.transfers name)
-stray_by None true w name = bulk_turned w name
+stray_by (Some code) true w name = bulk_turned (Some code) w name
+stray_by None true w name = bulk_turned None w name
 
 unfoldable pub stray_stepped : World → StreamPipe → World × Option Acted
-stray_stepped w name = of_endpoint w (is_stray w.machine name) (stray_by (stream_fault w.machine name) (is_bulk w.machine) w name)
+stray_stepped w name = of_endpoint w (is_stray w.machine name) (stray_by (stream_fault w.machine name) (has_bulk w.machine name) w name)
 
 -- THE PIPES OF THE TASKS
 

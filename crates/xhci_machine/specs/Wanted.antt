@@ -35,7 +35,7 @@ use Rattle.xhci_machine.specs.declared.wanting.End.{End}
 use Rattle.xhci_machine.specs.declared.wanting.End.TheVariants.{Lacks, Acts}
 use Rattle.uas_profile.specs.declared.Pipe.TheVariants.{Command}
 use Rattle.xhci_machine.specs.Bulk.{bulk_breaks, bulk_wanted}
-use Rattle.xhci_machine.specs.Bus.{fault_in, has_no_tags, is_bulk, pipe_fault, stream_fault}
+use Rattle.xhci_machine.specs.Bus.{fault_in, has_bulk, has_no_tags, pipe_fault, stream_fault}
 use Rattle.xhci_machine.specs.Contexts.{context_wanted, is_asleep, is_due}
 use Rattle.xhci_machine.specs.Interrupter.{seen}
 use Rattle.xhci_machine.specs.Lacking.{command_wanted}
@@ -119,14 +119,15 @@ command_pipe_looked memory m events =
 
 -- A doorbell that no tag's turn serves. A step of Bulk-Out or Bulk-In may wait, so the look goes on behind one that lacks nothing.
 abbrev pub stray_looked_by : Option ℕ → Bool → Memory → Machine → EventEnd → StreamPipe → Look
-stray_looked_by (Some code) bulk memory m events name = acts (silent_wanted memory events (pipe_of m.transfers name))
+stray_looked_by (Some code) false memory m events name = acts (silent_wanted memory events (pipe_of m.transfers name))
 stray_looked_by None false memory m events name = acts (stray_wanted memory events (pipe_of m.transfers name))
-stray_looked_by None true memory m events name = if bulk_breaks m name then acts None else needs (bulk_wanted memory m events name)
+stray_looked_by (Some code) true memory m events name = acts (bulk_wanted (Some code) memory m events name)
+stray_looked_by None true memory m events name = if bulk_breaks m name then acts None else needs (bulk_wanted None memory m events name)
 
 unfoldable pub stray_looked : Memory → Machine → EventEnd → StreamPipe → Look
 stray_looked memory m events name =
     if is_stray m name
-    then then_look (needs (context_wanted memory m.slot)) (stray_looked_by (stream_fault m name) (is_bulk m) memory m events name)
+    then then_look (needs (context_wanted memory m.slot)) (stray_looked_by (stream_fault m name) (has_bulk m name) memory m events name)
     else Ok tt
 
 -- A TAG'S TURN

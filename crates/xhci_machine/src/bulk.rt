@@ -5,7 +5,7 @@ ghost use Rattle.guest_memory.specs.rings.Events.{EventEnd};
 ghost use Rattle.std.specs.Result.{result_ok};
 ghost use Rattle.usb_disk.specs.Answers.{alternate_of, has_pipe};
 ghost use Rattle.xhci_machine.specs.Bulk.{asked_in, bulk_breaks, bulk_broken, bulk_home, bulk_of, bulk_turned, bulk_wanted, ended_if};
-ghost use Rattle.xhci_machine.specs.Bus.{bulk_forgotten, halted_by, has_no_tags, is_bulk, pipe_fault, pipe_named, stalled_if, still_halted, stream_fault};
+ghost use Rattle.xhci_machine.specs.Bus.{bulk_forgotten, halted_by, has_bulk, has_no_tags, is_bulk, pipe_fault, pipe_named, stalled_if, still_halted, stream_fault};
 ghost use Rattle.xhci_machine.specs.Wanted.{stray_looked_by};
 
 use crate::Machine;
@@ -105,6 +105,13 @@ impl Machine {
         stalled_if(streams, self.pipe_fault(pipe_named(name)))
     }
 
+    /// Whether Bulk-Only's transport stands at the end of an endpoint's ring, also while that isn't served.
+    pub(crate) fn has_bulk(&self, name: StreamPipe) -> bool
+        ensures { result ≡ has_bulk self.now name }
+    {
+        self.is_bulk() && (self.has_pipe(pipe_named(name)) && self.transfers.pipe(name).is_alone())
+    }
+
     /// The disk halts endpoints.
     fn halt(&mut self, halting: Halting)
         ensures { self.new ≡ halted_by halting self.old }
@@ -157,16 +164,17 @@ impl Machine {
         }
     }
 
-    /// A step of Bulk-Out or Bulk-In. Refused where a byte of the event's place, of the ring's end or of the TRB isn't there, and then nothing
-    /// changes.
+    /// A step of Bulk-Out or Bulk-In, whose TDs are told with this code where the endpoint isn't served. Refused where a byte of the event's
+    /// place, of the ring's end or of the TRB isn't there, and then nothing changes.
     fn step_bulk<M: GuestMemory>(
         &mut self,
         memory: &mut M,
         events: &mut EventRing,
+        fault: Option<u8>,
         name: StreamPipe,
     ) -> Result<Acted, Outside>
         ensures stepped { (record { memory = M.contents memory.new; events = events.new; machine = self.new }, result_ok result)
-            ≡ bulk_of (record { memory = M.contents memory.old; events = events.old; machine = self.old }) name }
+            ≡ bulk_of fault (record { memory = M.contents memory.old; events = events.old; machine = self.old }) name }
         ensures same_loan { M.loan memory.new ≡ M.loan memory.old }
     {
         let home = self.bulk_home(name);
@@ -174,12 +182,10 @@ impl Machine {
         let stepped = match name {
             StreamPipe::Status => return Ok(Acted::Idle),
             StreamPipe::DataOut => {
-                self.bulk
-                    .step_out(memory, events, &mut consumer, &mut self.device, home)?
+                self.bulk.step_out(memory, events, &mut consumer, &mut self.device, fault, home)?
             }
             StreamPipe::DataIn => {
-                self.bulk
-                    .step_in(memory, events, &mut consumer, &mut self.device, home)?
+                self.bulk.step_in(memory, events, &mut consumer, &mut self.device, fault, home)?
             }
         };
         self.transfers.keep_lone(name, &consumer);
@@ -212,21 +218,25 @@ impl Machine {
         }
     }
 
-    /// The turn of Bulk-Out or of Bulk-In.
+    /// The turn of Bulk-Out or of Bulk-In, which isn't served where there is a code for its TDs.
     pub(crate) fn turn_bulk<M: GuestMemory>(
         &mut self,
         memory: &mut M,
         events: &mut EventRing,
+        fault: Option<u8>,
         name: StreamPipe,
     ) -> Result<Acted, Outside>
         ensures stepped { (record { memory = M.contents memory.new; events = events.new; machine = self.new }, result_ok result)
-            ≡ bulk_turned (record { memory = M.contents memory.old; events = events.old; machine = self.old }) name }
+            ≡ bulk_turned fault (record { memory = M.contents memory.old; events = events.old; machine = self.old }) name }
         ensures same_loan { M.loan memory.new ≡ M.loan memory.old }
     {
-        if self.breaks(name) {
-            Ok(self.break_now(name))
-        } else {
-            self.step_bulk(memory, events, name)
+        match fault {
+            Some(_) => self.step_bulk(memory, events, fault, name),
+            None => if self.breaks(name) {
+                Ok(self.break_now(name))
+            } else {
+                self.step_bulk(memory, events, None, name)
+            },
         }
     }
 
@@ -244,9 +254,10 @@ impl Machine {
         &self,
         memory: &M,
         events: &EventRing,
+        fault: Option<u8>,
         name: StreamPipe,
     ) -> Option<Range>
-        ensures { result ≡ bulk_wanted (M.contents memory.now) self.now events.now name }
+        ensures { result ≡ bulk_wanted fault (M.contents memory.now) self.now events.now name }
     {
         let home = self.bulk_home(name);
         let consumer = self.transfers.pipe(name).consumer(0);
@@ -254,11 +265,11 @@ impl Machine {
             StreamPipe::Status => None,
             StreamPipe::DataOut => {
                 self.bulk
-                    .wants_out(memory, events, &consumer, &self.device, home)
+                    .wants_out(memory, events, &consumer, &self.device, fault, home)
             }
             StreamPipe::DataIn => {
                 self.bulk
-                    .wants_in(memory, events, &consumer, &self.device, home)
+                    .wants_in(memory, events, &consumer, &self.device, fault, home)
             }
         }
     }
@@ -270,15 +281,16 @@ impl Machine {
         events: &EventRing,
         name: StreamPipe,
     ) -> Result<(), End>
-        ensures { result ≡ stray_looked_by (stream_fault self.now name) (is_bulk self.now) (M.contents memory.now) self.now events.now name }
+        ensures { result ≡ stray_looked_by (stream_fault self.now name) (has_bulk self.now name) (M.contents memory.now) self.now events.now name }
     {
-        match (self.stream_fault(name), self.is_bulk()) {
-            (Some(_), _) => acts(self.transfers.wants_silent(memory, events, name)),
+        match (self.stream_fault(name), self.has_bulk(name)) {
+            (Some(_), false) => acts(self.transfers.wants_silent(memory, events, name)),
             (None, false) => acts(self.transfers.wants_stray(memory, events, name)),
+            (Some(code), true) => acts(self.wants_bulk(memory, events, Some(code), name)),
             (None, true) => if self.breaks(name) {
                 acts(None)
             } else {
-                needs(self.wants_bulk(memory, events, name))
+                needs(self.wants_bulk(memory, events, None, name))
             },
         }
     }

@@ -26,7 +26,7 @@
 //!    ring stays there, and the endpoint halts; so does Address Device end. Of a disk that isn't configured that goes for the pipes.
 //! 10. The disk's alternate setting says who serves an endpoint, not its context. In Bulk-Only's the command and status pipes are told with USB
 //!    Transaction Error, and Bulk-Out and Bulk-In have the endpoints of data-out and data-in, without streams; a stream there, and any endpoint
-//!    that the disk has halted, is told with Stall Error.
+//!    that the disk has halted, is told with Stall Error. No TD that has ended is told so: what is left of it is skipped, and tells its end.
 //!
 //! What is promised: every call is safe and total, for any bytes in memory, any register access and any order; no step takes memory
 //! ([`Machine::new`] takes all). A read is `read_of`, and the interrupt's pin `is_asserted`. Of the whole machine, a write is `page_done`, with
@@ -39,12 +39,13 @@
 //! What a call of [`Machine::work`] makes of memory and of the whole machine, with which tags are active, is `IsWorked` (specs/Worked): rounds
 //! of turns in their order, each round an equation. [`Machine::wants`] is `wanted` (specs/Wanted): the first range that a turn lacks, in that order
 //! and up to the turn that acts; a turn that lacks nothing isn't refused for want of memory. That a call with a budget of 1 then isn't either,
-//! where turns before change nothing, is tested.
+//! where turns before change nothing, is tested. [`Machine::work_asking`] is both, step by step (`IsAsked`, specs/Asking).
 //!
 //! It stands on `xhci_registers`, `xhci_slots`, `xhci_control`, `guest_transfers` and `guest_tasks`.
 #![tactic(auto)]
 
 mod access;
+mod asking;
 mod bulk;
 mod changes;
 mod command;
@@ -63,6 +64,7 @@ mod turns;
 mod wanting;
 mod work;
 
+pub use asking::one_step_at_most;
 use guest_bulk::Bulk;
 use guest_tasks::GuestTasks;
 use guest_transfers::Transfers;

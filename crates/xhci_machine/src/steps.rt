@@ -91,8 +91,9 @@ impl Machine {
     {
         let pipe = self.transfers.pipe(name);
         let runs = pipe.state().runs();
-        match (self.stream_fault(name), self.is_bulk()) {
-            (Some(_), _) => runs && (pipe.has_stray() || next_rung(pipe).is_some()),
+        match (self.stream_fault(name), self.has_bulk(name)) {
+            (Some(_), false) => runs && (pipe.has_stray() || next_rung(pipe).is_some()),
+            (Some(_), true) => runs && pipe.consumer(0).rung,
             (None, false) => runs && pipe.has_stray(),
             (None, true) => self.breaks(name) || runs && pipe.consumer(0).rung,
         }
@@ -196,10 +197,10 @@ impl Machine {
             return Ok(Acted::Idle);
         }
         self.test_context(memory, events, self.is_stray(name))?;
-        match (self.stream_fault(name), self.is_bulk()) {
-            (Some(code), _) => self.transfers.step_silent(memory, events, name, code),
+        match (self.stream_fault(name), self.has_bulk(name)) {
+            (Some(code), false) => self.transfers.step_silent(memory, events, name, code),
             (None, false) => self.transfers.step_stray(memory, events, name, STALL_ERROR),
-            (None, true) => self.turn_bulk(memory, events, name),
+            (fault, true) => self.turn_bulk(memory, events, fault, name),
         }
     }
 

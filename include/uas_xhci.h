@@ -91,27 +91,26 @@ enum {
     UAS_XHCI_CALL_STALE = 11,
     UAS_XHCI_CALL_HOST_ERROR = 12,
     UAS_XHCI_CALL_OFFER = 13,
-    UAS_XHCI_CALL_SAVE = 14,
-    UAS_XHCI_CALL_LOAD = 15
+    UAS_XHCI_CALL_SAVE = 14
 };
 
 /* What goes in and comes out beside the bytes, where a call has it. */
 struct uas_xhci_door {
     uint8_t call;    /* in: UAS_XHCI_CALL_... */
     uint8_t width;   /* in of READ, WRITE: 1, 2, 4 or 8 */
-    uint8_t good;    /* out of INTERRUPT, MESSAGE, REQUEST, HOST_ERROR: 1 where there is one */
+    uint8_t good;    /* out of INTERRUPT, MESSAGE, REQUEST, HOST_ERROR: 1 where there is one; of SAVE where there was room */
     uint8_t kind;    /* out of REQUEST: UAS_REQUEST_... */
     uint8_t through; /* out of REQUEST: 1 where a write is to be on the medium when it is done */
     uint8_t outcome; /* in of ANSWERED: UAS_DONE and its like */
     uint16_t reserved;
     uint64_t offset; /* in of READ, WRITE */
-    uint64_t value;  /* in of WRITE, PLUG, FRAME, OFFER; out of READ, SAVE, LOAD */
+    uint64_t value;  /* in of WRITE, PLUG, FRAME, OFFER; out of READ, SAVE */
     uint64_t number, unit, block, count; /* out of REQUEST; `number` in of DATA, ANSWERED, STALE, OFFER; out of STALE */
 };
 UAS_XHCI_ASSERT(sizeof(struct uas_xhci_door) == 56 && offsetof(struct uas_xhci_door, offset) == 8);
 
 /* Any call of the controller but its steps; those below are easier to use. Where a call has no bytes, `length` may be 0.
- * Faults: UAS_TASKS_CALL, UAS_TASKS_NOT_OUT, UAS_TASKS_LENGTH, UAS_UNITS, UAS_TASKS_SERIAL; of SAVE and LOAD those of uas_xhci_save and uas_xhci_load. */
+ * Faults: UAS_TASKS_CALL, UAS_TASKS_NOT_OUT, UAS_TASKS_LENGTH, UAS_UNITS, UAS_TASKS_SERIAL; UAS_XHCI_OUT. */
 uint8_t uas_xhci_call(uas_xhci *xhci, struct uas_xhci_door *door, uint8_t *bytes, size_t length);
 
 /* ---- Registers (5.3 to 5.6) ---- */
@@ -230,9 +229,20 @@ uint8_t uas_xhci_save(const uas_xhci *xhci, uint8_t *bytes, size_t room, size_t 
 uint8_t uas_xhci_load(const struct uas_tasks_unit *units, size_t count, uint8_t set, uint16_t most, uint16_t chunk, const uint8_t *bytes, size_t length,
                       uas_xhci **xhci);
 
-/* The same of the logical units of uas_xhci_new_disks, whose names are those that are told from now on. */
+/* The same of the logical units of uas_xhci_new_disks; the names that they tell are those of `disks`. */
 uint8_t uas_xhci_load_disks(const struct uas_disk *disks, size_t disk_bytes, uint8_t set, uint16_t most, uint16_t chunk, const uint8_t *bytes,
                             size_t length, uas_xhci **xhci);
+
+/* What a saved text was answered. */
+struct uas_xhci_loaded {
+    uint64_t at; /* out with UAS_XHCI_VALUE: the first byte that has no meaning */
+};
+UAS_XHCI_ASSERT(sizeof(struct uas_xhci_loaded) == 8);
+
+/* Makes a controller the one that was saved as the bytes of the first of some regions, whose addresses aren't looked at; its logical units, set, `most`
+ * and `chunk` stay. Where it is refused nothing changes.
+ * Faults: those of a text, as uas_xhci_load has them; UAS_NO_MEMORY. */
+uint8_t uas_xhci_take_state(uas_xhci *xhci, struct uas_xhci_loaded *loaded, struct uas_region *text, size_t count);
 
 /* ---- Blocks ---- */
 

@@ -171,16 +171,19 @@ uint8_t uas_xhci_save(const uas_xhci *xhci, uint8_t *bytes, size_t room, size_t 
     uint8_t none = 0;
     struct uas_xhci_door door = { .call = UAS_XHCI_CALL_SAVE };
     uint8_t fault = uas_xhci_call((uas_xhci *)(uintptr_t)xhci, &door, room > 0 ? bytes : &none, room);
-    if (fault == UAS_OK || fault == UAS_XHCI_ROOM)
-        *length = (size_t)door.value;
-    return fault;
+    if (fault != UAS_OK)
+        return fault;
+    *length = (size_t)door.value;
+    return door.good != 0 ? UAS_OK : UAS_XHCI_ROOM;
 }
 
 /* A controller that was just made, as it was saved; it is ended where that is refused. */
 static uint8_t load_into(uas_xhci *made, const uint8_t *bytes, size_t length, uas_xhci **xhci)
 {
-    struct uas_xhci_door door = { .call = UAS_XHCI_CALL_LOAD };
-    uint8_t fault = call(made, &door, bytes, length);
+    uint8_t none = 0;
+    struct uas_xhci_loaded loaded = { 0 };
+    struct uas_region text = { 0, length > 0 ? (uint8_t *)(uintptr_t)bytes : &none, length };
+    uint8_t fault = uas_xhci_take_state(made, &loaded, &text, 1);
     if (fault == UAS_OK)
         *xhci = made;
     else

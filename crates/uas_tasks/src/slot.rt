@@ -91,6 +91,7 @@ impl Slot {
     pub(crate) fn chunk(&self) -> u16
         ensures chunk { result ≡ self.now.chunk }
         ensures some { 1 ≤ result }
+        ensures most { result ≤ 128 }
     {
         self.chunk
     }

@@ -7,7 +7,7 @@ use Rattle.std.proofs.lemmas.Bool.{and_parts, cases_Bool, false≢true}
 use Rattle.std.proofs.lemmas.Option.{none-some, same_Some}
 use Rattle.c_common.specs.Bytes.{yes}
 use Rattle.c_common.specs.Door.{After, with_bytes}
-use Rattle.c_common.specs.declared.faults.TheConstants.{TASKS_CALL, TASKS_LENGTH, TASKS_NOT_OUT, TASKS_SERIAL, UNITS}
+use Rattle.c_common.specs.declared.faults.TheConstants.{TASKS_CALL, TASKS_LENGTH, TASKS_NOT_OUT, TASKS_PLACE, TASKS_SERIAL, UNITS}
 use Rattle.uas_profile.specs.declared.TheConstants.{MAX_UNITS}
 use Rattle.guest_tasks.specs.Active.{asks_on, is_asking}
 use Rattle.uas_tasks.specs.declared.AnswerFault.{AnswerFault}
@@ -18,7 +18,7 @@ use Rattle.uas_tasks.specs.declared.Request.{Request}
 use Rattle.uas_tasks.specs.declared.Request.TheVariants.{Read, Write, Compare, Verify, Sync}
 use Rattle.uas_tasks.specs.declared.slot.Out.{Out}
 use Rattle.uas_tasks.specs.declared.Task.{Task}
-use Rattle.uas_tasks.specs.declared.Task.TheVariants.{Giving, Blocks, Ended, Held}
+use Rattle.uas_tasks.specs.declared.Task.TheVariants.{Giving, Blocks, Ended, Failed, Held}
 use Rattle.uas_tasks.specs.declared.Wants.{Wants}
 use Rattle.uas_tasks.specs.declared.Wants.TheVariants as wants
 use Rattle.uas_tasks.specs.Machine.{Machine as Tasks, next_by, next_of, number_of, slot_of, wanted}
@@ -28,16 +28,21 @@ use Rattle.xhci_machine.specs.declared.Machine.{Machine}
 use Rattle.xhci_machine.specs.Bulk.{asked_in}
 use Rattle.xhci_machine.specs.Bus.{is_bulk}
 use Rattle.c_tasks.specs.Outcomes.{outcome_told}
+use Rattle.xhci_machine.specs.declared.saved.SaveFault.{SaveFault}
+use Rattle.xhci_machine.specs.declared.saved.SaveFault.TheVariants.{RequestOut, Room}
+use Rattle.xhci_machine.specs.Saved.{save_of}
+use Rattle.uas_xhci_c.specs.declared.saving.TheConstants.{XHCI_OUT}
 use Rattle.uas_xhci_c.specs.declared.door.Call.{Call}
 use Rattle.uas_xhci_c.specs.declared.door.Call.TheVariants as calls
 use Rattle.uas_xhci_c.specs.declared.door.UasXhciDoor.{UasXhciDoor}
 use Rattle.uas_xhci_c.specs.XhciCall.{after_call, after_named, after_request, answer_told, answered_with, asked_on, call_numbered, first_asking}
-use Rattle.uas_xhci_c.specs.XhciCall.{given_out, read_at, width_of, with_next, written_at}
+use Rattle.uas_xhci_c.specs.XhciCall.{given_out, read_at, save_told, width_of, with_next, written_at}
 
--- nothing, no such call, bytes that are more or fewer than a request's, no such request, or no such logical unit or serial number
+-- nothing, no such call, bytes that are more or fewer than a request's, no such request, a place that isn't one of it, no such logical unit or
+-- serial number, or a request that is out
 abbrev pub is_answer : ℕ → Bool
 is_answer number =
-    number == 0 || (number == TASKS_CALL || (number == TASKS_LENGTH || (number == TASKS_NOT_OUT || (number == UNITS || number == TASKS_SERIAL))))
+    number == 0 || (number == TASKS_CALL || (number == TASKS_LENGTH || (number == TASKS_NOT_OUT || (number == TASKS_PLACE || (number == UNITS || (number == TASKS_SERIAL || number == XHCI_OUT))))))
 
 -- it answers a number of these, and where that is a fault, all is as it was
 abbrev pub IsWhole : Machine → UasXhciDoor → List ℕ → After Machine UasXhciDoor → Type 0
@@ -67,6 +72,11 @@ module _ (machine : Machine) (door : UasXhciDoor) (bytes : List ℕ) where
   told (after, Err WrongPlace) = (refl, λ some. refl)
   told (after, Err WrongLength) = (refl, λ some. refl)
 
+  saved : (after : List ℕ × Result ℕ SaveFault) → Whole (save_told machine door bytes after)
+  saved (after, Ok total) = done machine _ after
+  saved (after, Err (Room needs)) = done machine _ after
+  saved (after, Err RequestOut) = (refl, λ some. refl)
+
   named : (call : Call) → Whole (after_named machine door bytes call)
   named calls.Read =
       either (λ after. Whole (with_bytes bytes after)) (read_at machine door) (width_of door.width) _ (refl, λ some. refl) (λ width. done machine _ bytes)
@@ -92,6 +102,8 @@ module _ (machine : Machine) (door : UasXhciDoor) (bytes : List ℕ) where
     | inr other ↦ rw other (refl, λ some. refl)
   ]
 
+  named calls.Save = saved (save_of machine bytes)
+
   pub calls_are_whole : Whole (after_call machine door bytes)
   calls_are_whole = either Whole (after_named machine door bytes) (call_numbered door.call) _ (refl, λ some. refl) named
 
@@ -115,6 +127,7 @@ has_request chunk given out None is = absurd (false≢true is)
 has_request chunk given out (Some (Giving unit at)) is = absurd (false≢true is)
 has_request chunk given out (Some (Blocks unit job stage)) is = refl
 has_request chunk given out (Some (Ended unit answer)) is = absurd (false≢true is)
+has_request chunk given out (Some (Failed unit failure)) is = absurd (false≢true is)
 has_request chunk given out (Some (Held unit code)) is = absurd (false≢true is)
 
 module _ (door : UasXhciDoor) where

@@ -5,5 +5,6 @@ pub mod Looked
 pub mod Made
 pub mod RegionLaws
 pub mod Regions
+pub mod Saving
 pub mod Turned
 pub mod XhciCall

@@ -3,6 +3,7 @@ use Rattle.std.specs.Prelude.{◌≡◌, ℕ, ◌+◌, ◌^◌, nat_le, nat_lt, 
 use Rattle.std.specs.List.{list_all}
 use Rattle.guest_memory.specs.declared.lend.Lent.{Lent}
 use Rattle.uas_xhci_c.specs.declared.regions.TheConstants.{MOST_REGIONS, XHCI_MANY, XHCI_WRAPS, XHCI_OVERLAP, XHCI_NULL}
+use Rattle.uas_xhci_c.specs.declared.saving.TheConstants.{XHCI_OUT, XHCI_ROOM, XHCI_SHORT, XHCI_MAGIC, XHCI_VERSION, XHCI_LENGTH, XHCI_SUM, XHCI_SHAPE, XHCI_VALUE}
 
 -- the address behind its last byte
 abbrev pub end : Lent → ℕ
@@ -29,5 +30,8 @@ regions_fault regions =
     else if not (are_apart regions) then XHCI_OVERLAP
     else 0
 
-abbrev pub region_faults : List ℕ
-region_faults = XHCI_MANY ∷ XHCI_WRAPS ∷ XHCI_OVERLAP ∷ XHCI_NULL ∷ []
+-- all faults of a controller's own
+abbrev pub xhci_faults : List ℕ
+xhci_faults =
+    XHCI_MANY ∷ XHCI_WRAPS ∷ XHCI_OVERLAP ∷ XHCI_NULL ∷ XHCI_OUT ∷ XHCI_ROOM ∷ XHCI_SHORT ∷ XHCI_MAGIC ∷ XHCI_VERSION ∷ XHCI_LENGTH ∷ XHCI_SUM ∷ XHCI_SHAPE
+    ∷ XHCI_VALUE ∷ []

@@ -26,6 +26,10 @@ use Rattle.xhci_machine.specs.declared.Machine.{Machine}
 use Rattle.xhci_machine.specs.Bulk.{asked_in}
 use Rattle.xhci_machine.specs.Bus.{is_bulk}
 use Rattle.xhci_machine.specs.Effects.{all_reset, bulk_offered, page_done, plugged_in}
+use Rattle.xhci_machine.specs.declared.saved.SaveFault.{SaveFault}
+use Rattle.xhci_machine.specs.declared.saved.SaveFault.TheVariants.{RequestOut, Room}
+use Rattle.xhci_machine.specs.Saved.{save_of}
+use Rattle.uas_xhci_c.specs.declared.saving.TheConstants.{XHCI_OUT}
 use Rattle.uas_xhci_c.specs.declared.door.Call.{Call}
 use Rattle.uas_xhci_c.specs.declared.door.Call.TheVariants as calls
 use Rattle.uas_xhci_c.specs.declared.door.UasXhciDoor.{UasXhciDoor}
@@ -147,13 +151,22 @@ after_offer machine door =
     else if not (nat_lt door.value 100000000) then refused TASKS_SERIAL machine door
     else (0, (bulk_offered machine door.number door.value, door))
 
+-- SAVE (14): all that is kept of it, in the bytes, with `good` 1, and how many these are; where there is less room with `good` 0, and how many it takes
+abbrev pub save_told : Machine → UasXhciDoor → List ℕ → List ℕ × Result ℕ SaveFault → After Machine UasXhciDoor
+save_told machine door bytes (after, Ok total) = (0, (machine, (record door { good = 1; value = total }, after)))
+save_told machine door bytes (after, Err (Room needs)) = (0, (machine, (record door { good = 0; value = needs }, after)))
+save_told machine door bytes (after, Err RequestOut) = with_bytes bytes (refused XHCI_OUT machine door)
+
+abbrev pub after_save : Machine → UasXhciDoor → List ℕ → After Machine UasXhciDoor
+after_save machine door bytes = save_told machine door bytes (save_of machine bytes)
+
 -- CALLS
 
 abbrev pub call_numbered : ℕ → Option Call
 call_numbered =
     numbered ((1, calls.Read) ∷ (2, calls.Write) ∷ (3, calls.Interrupt) ∷ (4, calls.Message) ∷ (5, calls.Plug) ∷ (6, calls.Frame) ∷ (7, calls.Reset)
     ∷ (8, calls.Request) ∷ (9, calls.Data) ∷ (10, calls.Answered) ∷ (11, calls.Stale) ∷ (12, calls.HostError)
-    ∷ (13, calls.Offer) ∷ [])
+    ∷ (13, calls.Offer) ∷ (14, calls.Save) ∷ [])
 
 abbrev pub after_named : Machine → UasXhciDoor → List ℕ → Call → After Machine UasXhciDoor
 after_named machine door bytes calls.Read = with_bytes bytes (after_read machine door)
@@ -169,6 +182,7 @@ after_named machine door bytes calls.Answered = with_bytes bytes (after_answer m
 after_named machine door bytes calls.Stale = with_bytes bytes (after_stale machine door)
 after_named machine door bytes calls.HostError = with_bytes bytes (after_host_error machine door)
 after_named machine door bytes calls.Offer = with_bytes bytes (after_offer machine door)
+after_named machine door bytes calls.Save = after_save machine door bytes
 
 -- a call of a number that is none is refused
 abbrev pub after_call : Machine → UasXhciDoor → List ℕ → After Machine UasXhciDoor

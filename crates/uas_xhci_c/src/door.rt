@@ -1,27 +1,29 @@
 //! A controller over a caller's memory for C: register accesses, interrupts and requests, over one call with a door.
 ghost use Rattle.std.specs.Prelude.{◌≡◌};
 ghost use Rattle.uas_xhci_c.specs.CallLaws.{IsTold, IsWhole};
-ghost use Rattle.uas_xhci_c.specs.XhciCall.{after_answer, after_call, after_data, after_offer, after_read, after_request, after_stale, after_write, call_numbered};
+ghost use Rattle.uas_xhci_c.specs.XhciCall.{after_answer, after_call, after_data, after_offer, after_read, after_request, after_save, after_stale, after_write, call_numbered};
 ghost use Rattle.uas_xhci_c.specs.XhciCall.{width_of, with_next, with_request};
 
 use c_common::faults::{TASKS_CALL, TASKS_LENGTH, TASKS_NOT_OUT, TASKS_PLACE, TASKS_SERIAL, UNITS};
 use c_tasks::outcome_told;
 use host_commands::SerialNumber;
+use std::alloc::Global;
 use std::marker::Model;
 use uas_profile::MAX_UNITS;
 use uas_tasks::{AnswerFault, Next, Request};
-use xhci_machine::{Machine, Width};
+use crate::saving::XHCI_OUT;
+use xhci_machine::{Machine, SaveFault, Width};
 
 /// What a call of the controller asks and answers. C writes `call` and what that call reads; the call writes what it answers.
 #[repr(C)]
 #[derive(Clone, Copy)]
 pub struct UasXhciDoor {
-    /// The call, 1 to 13.
+    /// The call, 1 to 14.
     pub call: u8,
     /// Of READ and WRITE: 1, 2, 4 or 8 bytes.
     pub width: u8,
-    /// Out of INTERRUPT, MESSAGE and HOST_ERROR: 1 where there is one; of REQUEST: 1 where one is out newly. Of ANSWERED: 1 where `block` is a
-    /// place.
+    /// Out of INTERRUPT, MESSAGE and HOST_ERROR: 1 where there is one; of REQUEST: 1 where one is out newly; of SAVE: 1 where there was room. Of
+    /// ANSWERED: 1 where `block` is a place.
     pub good: u8,
     /// Out of REQUEST: 1 reads, 2 writes, 3 compares, 4 verifies, 5 brings to the medium.
     pub kind: u8,
@@ -32,7 +34,8 @@ pub struct UasXhciDoor {
     pub reserved: u16,
     /// Of READ and WRITE: where in the register page.
     pub offset: u64,
-    /// Of WRITE: what is written; of PLUG: 0 to pull the disk; of FRAME: MFINDEX; of OFFER: the serial number. Out of READ: what was read.
+    /// Of WRITE: what is written; of PLUG: 0 to pull the disk; of FRAME: MFINDEX; of OFFER: the serial number. Out of READ: what was read; of
+    /// SAVE: how many bytes it takes.
     pub value: u64,
     /// Out of REQUEST, and of DATA and ANSWERED: the request's number. Of STALE: the last one told, or 0; out: the next, or 0. Of OFFER: the
     /// greatest logical unit's.
@@ -49,6 +52,7 @@ pub struct UasXhciDoor {
 #[derive(Drop)]
 pub(crate) struct KeptXhci {
     pub(crate) machine: Machine,
+    pub(crate) alloc: Global,
 }
 
 impl Model for KeptXhci {
@@ -75,6 +79,7 @@ enum Call {
     Stale,
     HostError,
     Offer,
+    Save,
 }
 
 fn call_numbered(number: u8) -> Option<Call>
@@ -94,6 +99,7 @@ fn call_numbered(number: u8) -> Option<Call>
         11 => Some(Call::Stale),
         12 => Some(Call::HostError),
         13 => Some(Call::Offer),
+        14 => Some(Call::Save),
         _ => None,
     }
 }
@@ -150,6 +156,7 @@ pub(crate) fn serve(kept: &mut KeptXhci, door: &mut UasXhciDoor, bytes: &mut [u8
             0
         }
         Call::Offer => offer(machine, door),
+        Call::Save => save(machine, door, bytes),
     }
 }
 
@@ -273,8 +280,22 @@ fn show_stale(machine: &Machine, door: &mut UasXhciDoor) -> u8
     0
 }
 
+/// All that is kept of it, in the bytes, and how many these are; or how many it takes, where there is less room.
+fn save(machine: &Machine, door: &mut UasXhciDoor, bytes: &mut [u8]) -> u8
+    ensures { (result, (machine.now, (door.new, bytes.new))) ≡ after_save machine.now door.old bytes.old }
+{
+    let (good, length) = match machine.save(bytes) {
+        Ok(length) => (1, length),
+        Err(SaveFault::Room { needs }) => (0, needs),
+        Err(SaveFault::RequestOut) => return XHCI_OUT,
+    };
+    door.good = good;
+    door.value = length as u64;
+    0
+}
+
 #[tactic(auto, using(crate::specs::CallLaws::calls_are_whole))]
-/// Law: a call answers 0 or one of three faults, and one that is refused changes nothing.
+/// Law: a call answers 0 or one of these faults, and one that is refused changes nothing.
 pub fn refused_calls_change_nothing(machine: &Machine, door: &UasXhciDoor, bytes: &[u8])
     ensures { IsWhole machine.now door.now bytes.now (after_call machine.now door.now bytes.now) }
 {}

@@ -6,6 +6,7 @@
 //! | handle.rt | `uas_xhci_call`, `uas_xhci_close` |
 //! | turn.rt | `uas_xhci_take_turn` |
 //! | wants.rt | `uas_xhci_look` |
+//! | saving.rt | `uas_xhci_take_state` |
 //! | asking.rt | `uas_xhci_take_asking` |
 //!
 //! What is promised: `uas_xhci_new` answers the first fault of what is asked for, as `uas_tasks_new` does, and at 0 has handed out a controller
@@ -30,5 +31,6 @@ mod door;
 mod handle;
 mod making;
 mod regions;
+mod saving;
 mod turn;
 mod wants;

@@ -61,7 +61,7 @@ fn made(
     let Ok(machine) = Machine::new(alloc, tasks) else {
         return Err(NO_MEMORY);
     };
-    match Box::new(alloc, KeptXhci { machine }) {
+    match Box::new(alloc, KeptXhci { machine, alloc }) {
         Ok(made) => Ok(made),
         Err(_) => Err(NO_MEMORY),
     }
@@ -109,7 +109,7 @@ fn made_of_disks(
     let Ok(machine) = Machine::new(alloc, tasks) else {
         return Err(NO_MEMORY);
     };
-    match Box::new(alloc, KeptXhci { machine }) {
+    match Box::new(alloc, KeptXhci { machine, alloc }) {
         Ok(made) => Ok(made),
         Err(_) => Err(NO_MEMORY),
     }

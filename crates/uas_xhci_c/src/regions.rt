@@ -3,7 +3,7 @@ ghost use Rattle.std.specs.Prelude.{◌≡◌, ◌∷◌, [], nat_lt, not, true}
 ghost use Rattle.c_common.specs.faults.Faults.{all_faults, is_among};
 ghost use Rattle.uas_xhci_c.specs.RegionLaws.{OverlapIsCommon};
 ghost use Rattle.std.specs.List.{list_all};
-ghost use Rattle.uas_xhci_c.specs.Regions.{are_apart, end, fits, overlap, region_faults, regions_fault};
+ghost use Rattle.uas_xhci_c.specs.Regions.{are_apart, end, fits, overlap, regions_fault, xhci_faults};
 
 use guest_memory::Lent;
 
@@ -98,8 +98,8 @@ pub fn overlap_is_a_common_address(one: &Lent, other: &Lent)
     ensures { OverlapIsCommon one.now other.now }
 {}
 
-/// Law: the faults of regions have numbers that no other fault has.
+/// Law: a controller's own faults have numbers that no other fault has.
 pub fn faults_are_new()
-    ensures pinned { region_faults ≡ 160 ∷ 161 ∷ 162 ∷ 163 ∷ [] }
-    ensures new { list_all (λ number. not (is_among number all_faults)) region_faults ≡ true }
+    ensures pinned { xhci_faults ≡ 160 ∷ 161 ∷ 162 ∷ 163 ∷ 164 ∷ 165 ∷ 166 ∷ 167 ∷ 168 ∷ 169 ∷ 170 ∷ 171 ∷ 172 ∷ [] }
+    ensures new { list_all (λ number. not (is_among number all_faults)) xhci_faults ≡ true }
 {}

@@ -21,3 +21,4 @@ pub mod KeptTexts
 pub mod Shapes
 pub mod Saved
 pub mod Loaded
+pub mod Restored

@@ -55,6 +55,7 @@ mod lacking;
 mod laws;
 mod loaded;
 mod orders;
+mod restoring;
 mod ring;
 mod saved;
 mod shapes;

@@ -56,4 +56,4 @@ stage-exact = tagged-exact 4 stage_number stage_part part kinds
 pub bulk-exact : IsExact bulk_form
 bulk-exact =
     mapped-exact _ _ _ (pair-exact _ _ stage-exact (pair-exact _ _ (counted-exact 2 4096) (pair-exact _ _ (counted-exact 2 4096)
-    (optional-exact _ (mapped-exact _ _ _ (pair-exact _ _ (number-exact 1) (counted-exact 1 112)) (λ k has. refl)))))) (λ b has. refl)
+    (pair-exact _ _ flag-exact (optional-exact _ (mapped-exact _ _ _ (pair-exact _ _ (number-exact 1) (counted-exact 1 112)) (λ k has. refl))))))) (λ b has. refl)

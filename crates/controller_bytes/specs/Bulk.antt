@@ -122,12 +122,12 @@ kept_form = mapped to from (pair (number 1) (counted 1 112))
     from : KeptSense → ℕ × List ℕ
     from k = (k.lun, k.text.items)
 
--- the transport: what comes next, the chunk to the host, what is gathered, kept sense (option)
+-- the transport: what comes next, the chunk to the host, what is gathered, whether a TD is, kept sense (option)
 abbrev pub bulk_form : Form Bulk
-bulk_form = mapped to from (pair stage_form (pair chunk_form (pair chunk_form (optional kept_form))))
+bulk_form = mapped to from (pair stage_form (pair chunk_form (pair chunk_form (pair flag (optional kept_form)))))
   where
-    to : BulkStage × (List ℕ × (List ℕ × Option KeptSense)) → Bulk
-    to b = record { stage = b.0; chunk = b.1.0; taken = b.1.1.0; kept = b.1.1.1 }
+    to : BulkStage × (List ℕ × (List ℕ × (Bool × Option KeptSense))) → Bulk
+    to b = record { stage = b.0; chunk = b.1.0; taken = b.1.1.0; gathers = b.1.1.1.0; kept = b.1.1.1.1 }
 
-    from : Bulk → BulkStage × (List ℕ × (List ℕ × Option KeptSense))
-    from b = (b.stage, (b.chunk, (b.taken, b.kept)))
+    from : Bulk → BulkStage × (List ℕ × (List ℕ × (Bool × Option KeptSense)))
+    from b = (b.stage, (b.chunk, (b.taken, (b.gathers, b.kept))))

@@ -26,6 +26,7 @@ pub struct BulkText<'a> {
     pub stage: BulkStage,
     pub chunk: &'a [u8],
     pub taken: &'a [u8],
+    pub gathers: bool,
     pub kept: Option<KeptSense>,
 }
 
@@ -205,6 +206,7 @@ pub fn write_bulk(place: Place, cells: &mut [u8], bulk: &Bulk) -> Place
     let place = write_stage(place, cells, bulk.stage);
     let place = place.counted_u16(cells, chunk.front(chunk.held()));
     let place = place.counted_u16(cells, taken.bytes());
+    let place = place.flag(cells, bulk.gathers);
     write_kept_option(place, cells, &bulk.kept)
 }
 
@@ -216,11 +218,13 @@ pub fn read_bulk<'a>(reader: &mut Reader<'a>) -> Option<BulkText<'a>>
     let stage = read_stage(reader)?;
     let chunk = reader.counted_u16(CHUNK_BYTES)?;
     let taken = reader.counted_u16(CHUNK_BYTES)?;
+    let gathers = reader.flag()?;
     let kept = read_kept_option(reader)?;
     Some(BulkText {
         stage,
         chunk,
         taken,
+        gathers,
         kept,
     })
 }
@@ -237,6 +241,7 @@ pub fn restore_bulk(alloc: Global, text: BulkText) -> Result<Bulk, AllocError>
         stage: text.stage,
         chunk,
         taken,
+        gathers: text.gathers,
         kept: text.kept,
     })
 }

@@ -67,10 +67,10 @@ csw_of command verdict = record { tag = command.tag; residue = verdict.1; status
 abbrev pub told : BulkCommand → Done → Bool → BulkStage
 told command done good = Tells (csw_of command (verdict_of command.length command.is_in done good)) 0
 
--- the sense data of a CHECK CONDITION are kept
+-- the sense data of a status that brings some are kept, behind the 16 bytes of the information unit's head; BUSY brings none
 abbrev pub kept_by : End → ℕ → List ℕ → Option KeptSense
 kept_by Good lun text = None
-kept_by Check lun text = Some (record { lun = lun; text = record { items = text } })
+kept_by Check lun text = if nat_lt 16 (list_length text) then Some (record { lun = lun; text = record { items = text } }) else None
 kept_by Response lun text = None
 
 module _ {D : Type 0} (kind : Kind D) where

@@ -28,7 +28,7 @@ pub(crate) const MOST_GATHERED: usize = 1024;
 const _: () = prove!(MOST_GATHERED == 1024);
 
 /// The bytes of a Sense information unit before its sense data.
-const SENSE_PLACE: usize = 16;
+pub(crate) const SENSE_PLACE: usize = 16;
 
 /// REQUEST SENSE without DESC.
 fn is_request_sense(cdb: &[u8; 16]) -> bool

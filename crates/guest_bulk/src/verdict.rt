@@ -5,7 +5,7 @@ ghost use Rattle.guest_tags.specs.Devices.{IsEnded};
 ghost use Rattle.guest_bulk.specs.Verdicts.{answered, broken_off, csw_of, is_good, kept_by, kept_told, settled, settled_by, together, told, with_chunk, with_given, with_taking};
 
 use crate::bulk::{Bulk, BulkCommand, BulkStage, KeptSense};
-use crate::command::BULK_TAG;
+use crate::command::{BULK_TAG, SENSE_PLACE};
 use arrayvec::ArrayVec;
 use bulk_only::{Csw, CswStatus, Done, verdict_of};
 use guest_tags::{End, Phase, UasDevice};
@@ -71,13 +71,13 @@ fn is_good(end: End) -> bool
     }
 }
 
-/// The sense data of a CHECK CONDITION of a logical unit, in the information unit that tells them.
+/// The sense data of a status of a logical unit, in the information unit that tells them. BUSY brings none.
 fn kept_by(end: End, lun: u8, text: ArrayVec<u8, STATUS_BYTES>) -> Option<KeptSense>
     ensures { result ≡ kept_by end lun text.items }
 {
     match end {
-        End::Check => Some(KeptSense { lun, text }),
-        End::Good | End::Response => None,
+        End::Check if text.len() > SENSE_PLACE => Some(KeptSense { lun, text }),
+        End::Check | End::Good | End::Response => None,
     }
 }
 

@@ -17,3 +17,4 @@ pub mod Taken
 pub mod TurnsTaken
 pub mod KeptExact
 pub mod Fronts
+pub mod Bodies

@@ -200,16 +200,29 @@ impl Machine {
         requires tags { vec_len tags ≡ 241 }
         ensures { IfOk result (λ machine. machine ≡ machine_of (kept_text_of text.entry) tags.items device) }
     {
+        let KeptText {
+            rings,
+            control,
+            pipes,
+            bulk,
+        } = text;
+        let RingsText {
+            registers,
+            commands,
+            interrupts,
+            slot,
+            told,
+        } = rings;
         Ok(Machine {
-            registers: text.rings.registers,
-            slot: text.rings.slot,
-            commands: text.rings.commands,
-            interrupts: text.rings.interrupts,
-            control: text.control,
-            transfers: restore_pipes(alloc, &text.pipes, tags)?,
-            bulk: restore_bulk(alloc, text.bulk)?,
+            registers,
+            slot,
+            commands,
+            interrupts,
+            control,
+            transfers: restore_pipes(alloc, &pipes, tags)?,
+            bulk: restore_bulk(alloc, bulk)?,
             device,
-            told: text.rings.told,
+            told,
         })
     }
 }

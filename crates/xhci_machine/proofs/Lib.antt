@@ -16,3 +16,4 @@ pub mod TurnsTaken
 pub mod KeptExact
 pub mod Fronts
 pub mod Bodies
+pub mod SavedRead

@@ -20,3 +20,4 @@ pub mod KeptTexts
 pub mod Shapes
 pub mod Saved
 pub mod Loaded
+pub mod SavedLaws

@@ -18,3 +18,4 @@ pub mod TurnsTaken
 pub mod KeptExact
 pub mod Fronts
 pub mod Bodies
+pub mod SavedRead

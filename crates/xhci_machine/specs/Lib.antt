@@ -22,3 +22,4 @@ pub mod Shapes
 pub mod Saved
 pub mod Loaded
 pub mod Restored
+pub mod SavedLaws

@@ -41,7 +41,24 @@
 //! and up to the turn that acts; a turn that lacks nothing isn't refused for want of memory. That a call with a budget of 1 then isn't either,
 //! where turns before change nothing, is tested. [`Machine::work_asking`] is both, step by step (`IsAsked`, specs/Asking).
 //!
-//! It stands on `xhci_registers`, `xhci_slots`, `xhci_control`, `guest_transfers` and `guest_tasks`.
+//! [`Machine::save`] writes the state of a machine whose device has no request out, and [`Machine::load`] makes a machine of such bytes:
+//!
+//! | Part | Bytes, numbers big endian |
+//! |---|---|
+//! | head | "UASXHC", version 1 (2), the length of all (4) |
+//! | shape | the commands: 0 of the profile, 1 of hosts, 2 of virtual disks; their most blocks, or 0 (2); the most blocks of a chunk (2); how many logical units (1), and of each its blocks (8), bytes of a block (2), serial number (4) |
+//! | registers | as `controller_bytes` has them |
+//! | rings | the command ring: doorbell, stop owed, the stream of a Stop Endpoint under way (option, 2); the event ring (option), whether ERDP was written, whether that cleared EHB, whether Event Ring Full Error was told |
+//! | slot | as `controller_bytes` has it; the states that were told, of endpoint 0, commands, status, data-out and data-in |
+//! | endpoint 0, pipes, Bulk-Only, tags | as `controller_bytes` has them |
+//! | device | as `device_bytes` has it |
+//! | end | 0; the CRC-32C of all before (4) |
+//!
+//! What a save makes is `save_of` (specs/Saved), and a load is `load_of` (specs/Loaded): a machine of what was read, with those tags active that
+//! have a task, or the first fault of the bytes. What was saved is read back ([`saved_states_are_read`]).
+//!
+//! It stands on `xhci_registers`, `xhci_slots`, `xhci_control`, `guest_transfers` and `guest_tasks`, and for saved states on
+//! `machine_bytes`, `controller_bytes` and `device_bytes`.
 #![tactic(auto)]
 
 mod access;
@@ -58,6 +75,7 @@ mod orders;
 mod restoring;
 mod ring;
 mod saved;
+mod saved_laws;
 mod shapes;
 mod states;
 mod steps;
@@ -75,10 +93,11 @@ pub use laws::{
     each_tag_has_its_turn, no_more_leaves_nothing, no_step_leaves_nothing, no_task_is_left_out,
     pipes_that_lack_nothing_are_stepped, tasks_stay_active,
 };
-use ring::CommandRing;
-use states::States;
 pub use loaded::LoadFault;
+use ring::CommandRing;
 pub use saved::SaveFault;
+pub use saved_laws::saved_states_are_read;
+use states::States;
 pub use work::Worked;
 use xhci_control::ControlPipe;
 use xhci_registers::Registers;

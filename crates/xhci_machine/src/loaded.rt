@@ -73,6 +73,16 @@ fn is_last(text: &[u8]) -> bool
     text.len() == 1 && text[0] == 0
 }
 
+/// Where what is left begins, which ends before the checksum.
+fn value_place(bytes: &[u8], left: &[u8]) -> usize
+    ensures { result ≡ length bytes.now - 4 - length left.now }
+{
+    bytes
+        .len()
+        .saturating_sub(SUM_BYTES)
+        .saturating_sub(left.len())
+}
+
 /// What was read of a body: the controller, its tags and its device.
 #[derive(Drop)]
 struct BodyText<'a> {
@@ -189,10 +199,7 @@ impl Machine {
             Ok(machine) => Ok(machine),
             Err(NoMachine::Memory) => Err(LoadFault::NoMemory),
             Err(NoMachine::Value) => Err(LoadFault::Value {
-                at: bytes
-                    .len()
-                    .saturating_sub(SUM_BYTES)
-                    .saturating_sub(reader.left().len()),
+                at: value_place(bytes, reader.left()),
             }),
         }
     }

@@ -18,8 +18,8 @@ use std::sync::Wait;
 use tag_desk::{Prepared, Slip};
 use uas_profile::{Place, tag_of};
 
-/// How many times all clients together look for a reply before each parks.
-const MOST_LOOKS: usize = 2000;
+/// How many times a client looks for its reply before it parks: about as long as a lone client's command takes.
+const MOST_LOOKS: u32 = 150;
 
 /// The bell of a client's first tag.
 const FIRST_BELL: usize = 1;
@@ -270,7 +270,7 @@ impl ClientPart {
         ensures tags { self.new.tags ≡ self.old.tags }
         ensures slip { MatchOption result (self.new.seat ≡ self.old.seat) (ReapsAt self.old.seat self.new.seat tag) }
     {
-        for _ in 0..MOST_LOOKS / shared.clients.max(1) {
+        for _ in 0..MOST_LOOKS {
             let slip = shared.desk.look(&mut self.seat, tag);
             if slip.is_some() {
                 return slip;

@@ -43,13 +43,15 @@ ghost use Rattle.uas_profile.specs.Tags.{AreTags};
 mod closing;
 mod lines;
 mod opening;
+mod prepared;
 mod remains;
 mod rule;
 
 use lines::{Line, Work};
+pub use prepared::Prepared;
 use remains::Lists;
 pub use remains::{Left, TagList, TagSlip, TagSlips, TagTicket, TagTickets};
-use scsi_cmd::{Buffer, Command, Reply, SubmitFault, Task};
+use scsi_cmd::{Buffer, Reply, SubmitFault, Task};
 use std::alloc::{AllocError, Global};
 use std::marker::Model;
 use uas_profile::{TAGS, slot_of};
@@ -63,7 +65,7 @@ pub enum Slip {
     /// A command to be submitted.
     Ask {
         ticket: u64,
-        command: Command,
+        command: Prepared,
     },
     /// A task management to be submitted.
     AskTask {

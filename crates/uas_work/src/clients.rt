@@ -10,17 +10,16 @@ use crate::handed::Origin;
 use crate::locked_bus::LockedBus;
 use crate::parking::Worker;
 use crate::parts::{ClientBack, ClientPart};
-use crate::rounds::ticket_command;
+use crate::rounds::prepared_command;
 use crate::{Ended, Gate};
 use door_board::place;
-use scsi_cmd::Command;
 use std::hint::spin_loop;
 use std::sync::Wait;
-use tag_desk::Slip;
+use tag_desk::{Prepared, Slip};
 use uas_profile::{Place, tag_of};
 
-/// How many times a client looks for its reply before it parks.
-const MOST_LOOKS: u32 = 50;
+/// How many times a client looks for its reply before it parks: about as long as a lone client's command takes.
+const MOST_LOOKS: u32 = 150;
 
 /// The bell of a client's first tag.
 const FIRST_BELL: usize = 1;
@@ -127,7 +126,7 @@ impl ClientPart {
         ensures tickets { result ≡ count → self.new.tags.held.next ≡ self.old.tags.held.next + count }
     {
         for posted in 0..count {
-            let Ok(command) = ticket_command(locked.alloc, self.client, first + posted as u64)
+            let Ok(command) = prepared_command(locked.alloc, self.client, first + posted as u64)
             else {
                 locked.end(Ended::NoMemory);
                 return posted;
@@ -141,7 +140,7 @@ impl ClientPart {
     }
 
     /// Posts a command on the client's least free tag. False where none is free.
-    fn posted(&mut self, shared: &DeskAndBoard, command: Command) -> bool
+    fn posted(&mut self, shared: &DeskAndBoard, command: Prepared) -> bool
         requires part { IsClientPart shared.now.desk shared.now.board self.old }
         ensures part { IsClientPart shared.now.desk shared.now.board self.new }
         ensures same { self.new.client ≡ self.old.client }

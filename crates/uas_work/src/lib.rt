@@ -12,7 +12,8 @@
 //!               the step comes back, nothing changed
 //! ```
 //!
-//! An idle step changes nothing and isn't booked. A log has room for so many steps as was said when the bus was made.
+//! A submission may bring the log's copy of it, which a client made before it posted it: [`Booked::step_prepared`]. An idle step
+//! changes nothing and isn't booked. A log has room for so many steps as was said when the bus was made.
 //!
 //! [`control`] and [`dispatch`] take the part of those who have no client, one step or nothing at a time, under a [`Gate`]: a
 //! tester's say in who may take what, and when. [`spawn_all`] lets clients, controllers and a dispatcher do it in threads, with
@@ -32,11 +33,13 @@ mod locked_bus;
 mod opening;
 mod parking;
 mod parts;
+mod prepared_step;
 mod pump_part;
 mod pumps;
 mod reasons;
 mod rounds;
 mod serving;
+mod spares;
 mod stepping;
 mod sweeping;
 mod turns;
@@ -44,8 +47,10 @@ mod workers;
 
 use bus_core::Bus;
 pub use gates::{Gate, Unhindered};
+pub use prepared_step::PreparedStep;
 pub use pumps::{control, dispatch};
 pub use serving::{pump_in, pump_out};
+use spares::Spares;
 use std::marker::Model;
 pub use sweeping::sweep;
 use tag_desk::{Claim, Left};
@@ -72,6 +77,8 @@ pub struct Booked {
     limit: usize,
     /// Of each client how many of its submissions the log has.
     turns: [u64; MAX_CLIENTS],
+    /// For the copies of replies to come.
+    spares: Spares,
 }
 
 /// The claims that a pump holds, by tag: of slips that are booked and whose end the pump owes to the client.

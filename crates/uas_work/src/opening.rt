@@ -6,6 +6,7 @@ ghost use Rattle.uas_log.specs.Booking.{empty_log, first_maps};
 ghost use Rattle.uas_work.specs.Booked.{IsNew, first_unit, new_booked};
 
 use crate::Booked;
+use crate::spares::Spares;
 use block_unit::Unit;
 use bus_core::Bus;
 use std::alloc::{AllocError, Global};
@@ -13,6 +14,12 @@ use uas_log::{
     BlockBytes, BlockNumbers, FirstUnit, FirstUnits, Log, RefusalNumbers, Replies, Steps,
 };
 use uas_profile::{MAX_CLIENTS, TAGS};
+
+/// The most steps for which a new log has room at once: it isn't copied while it grows to them.
+const MOST_ROOM: usize = 1 << 18;
+
+/// No fewer steps come to a reply: it is submitted, received, sent, seen and taken.
+const STEPS_OF_REPLY: usize = 5;
 
 impl Booked {
     /// The bus of these units, the unit of client c at place c, with 16 tags of each client (`TAGS`), whose log may hold `limit` steps.
@@ -43,29 +50,41 @@ impl Booked {
         requires limit { limit < 2 ^ 32 }
         ensures { IfOk result (λ booked. booked ≡ new_booked tags units.items limit) }
     {
+        let spares = Spares::new(alloc)?;
         let firsts = first_units(alloc, units.as_slice())?;
         let bus = Bus::with_tags(alloc, units, tags)?;
-        let log = new_log(alloc, firsts, tags);
+        let log = new_log(alloc, firsts, tags, limit)?;
         Ok(Booked {
             bus,
             log,
             limit,
             turns: [0; MAX_CLIENTS],
+            spares,
         })
     }
 }
 
-/// The log of these first units and so many tags of each client that has no step; takes no memory.
-fn new_log(alloc: Global, units: Vec<FirstUnit>, tags: usize) -> Log
-    ensures { result ≡ empty_log tags units.items }
+/// The log of these first units and so many tags of each client that has no step, with room for the steps that it may hold, or for as many
+/// as are told beforehand.
+fn new_log(
+    alloc: Global,
+    units: Vec<FirstUnit>,
+    tags: usize,
+    limit: usize,
+) -> Result<Log, AllocError>
+    ensures { IfOk result (λ log. log ≡ empty_log tags units.items) }
 {
-    Log {
+    let room = limit.min(MOST_ROOM);
+    let steps = Vec::with_capacity(alloc, room)?;
+    let refusals = Vec::with_capacity(alloc, room)?;
+    let replies = Vec::with_capacity(alloc, room / STEPS_OF_REPLY)?;
+    Ok(Log {
         tags,
         units: FirstUnits::from_vec(units),
-        steps: Steps::from_vec(Vec::new(alloc)),
-        refusals: RefusalNumbers::from_vec(Vec::new(alloc)),
-        replies: Replies::from_vec(Vec::new(alloc)),
-    }
+        steps: Steps::from_vec(steps),
+        refusals: RefusalNumbers::from_vec(refusals),
+        replies: Replies::from_vec(replies),
+    })
 }
 
 /// What a log keeps of each unit. Asks that they are as new.

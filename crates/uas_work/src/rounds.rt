@@ -4,6 +4,7 @@ ghost use Rattle.uas_work.specs.Rounds.{half_at, round_command, round_fill, roun
 
 use scsi_cmd::{Buffer, Command, Op};
 use std::alloc::{AllocError, Global};
+use tag_desk::Prepared;
 use uas_profile::BLOCK_BYTES;
 
 /// Blocks of each command of a client's round.
@@ -19,8 +20,20 @@ enum Half {
     Read,
 }
 
+/// What a client asks for with a ticket, with what the log is to keep of it.
+pub(crate) fn prepared_command(
+    alloc: Global,
+    client: u8,
+    ticket: u64,
+) -> Result<Prepared, AllocError>
+    requires { ticket < 2 ^ 33 }
+    ensures { IfOk result (λ command. command ≡ ticket_command client ticket) }
+{
+    Prepared::new(alloc, ticket_command(alloc, client, ticket)?)
+}
+
 /// What a client asks for with a ticket.
-pub(crate) fn ticket_command(alloc: Global, client: u8, ticket: u64) -> Result<Command, AllocError>
+fn ticket_command(alloc: Global, client: u8, ticket: u64) -> Result<Command, AllocError>
     requires { ticket < 2 ^ 33 }
     ensures { IfOk result (λ command. command ≡ ticket_command client ticket) }
 {

@@ -9,7 +9,7 @@ ghost use Rattle.uas_work.specs.Booked.{booked_step, turns_in};
 ghost use Rattle.uas_work.specs.Held.{AreHeldBy, ServesClient, GaveUp, answered};
 ghost use Rattle.uas_work.specs.Pumps.{TookInOrLeft, GaveUpIn, GaveUpWith, Given, Submits, asked, brought, handed_back, submitted};
 
-use crate::{Booked, Booking, Held};
+use crate::{Booked, Booking, Held, PreparedStep};
 use bus_core::{Outcome, Step};
 use scsi_cmd::{Buffer, Reply};
 use shared_machine::Refusal;
@@ -44,7 +44,7 @@ pub fn pump_in(
     let ticket = booked.turn(client);
     match claimed(desk, seat, held, client, ticket) {
         Some((claim, slip)) => {
-            let step = asked(client, claim.tag(), ticket, slip);
+            let step = asked(alloc, client, claim.tag(), ticket, slip);
             submit(alloc, booked, desk, seat, held, claim, step)
         }
         None => Ok(false),
@@ -163,7 +163,7 @@ fn submit(
     seat: &mut WorkSeat,
     held: &mut Held,
     claim: Claim,
-    step: Step,
+    step: PreparedStep,
 ) -> Result<bool, Booking>
     requires own { IsPumpOf desk.now seat.old }
     requires held { AreHeldBy desk.now seat.old held.old }
@@ -183,7 +183,7 @@ fn submit(
     ensures own { IsPumpOf desk.now seat.new }
     ensures held { AreHeldBy desk.now seat.new held.new }
 {
-    match booked.step(alloc, step) {
+    match booked.step_prepared(alloc, step) {
         Ok(outcome) => {
             let Outcome { refused, .. } = outcome;
             settle(alloc, desk, seat, held, claim, refused);
@@ -228,24 +228,15 @@ fn settle(
 }
 
 /// The step that a client's slip on a tag asks for. Asks for a slip that a client posts with the ticket.
-fn asked(client: usize, tag: u16, ticket: u64, slip: Slip) -> Step
+fn asked(alloc: Global, client: usize, tag: u16, ticket: u64, slip: Slip) -> PreparedStep
     requires ask { Submits ticket slip }
     requires ticket { ticket < 2 ^ 60 }
     ensures step { result ≡ asked client tag slip }
     ensures ticket { HasTicket result }
 {
     match slip {
-        Slip::Ask { command, .. } => Step::Submit {
-            client,
-            tag,
-            ticket,
-            command,
-        },
-        Slip::AskTask { task, .. } => Step::Task {
-            client,
-            ticket,
-            task,
-        },
+        Slip::Ask { command, .. } => PreparedStep::submit(client, tag, ticket, command),
+        Slip::AskTask { task, .. } => PreparedStep::task(alloc, client, ticket, task),
         _other => unreachable!(),
     }
 }

@@ -18,8 +18,8 @@ invariant_of-result c =
     empty_log-booked tags units c.in_ok-firsts.firsts.items c.args.limit c.requires.number whole (omega arith) (omega arith)
     (subst (λ n. n * tags ≤ STREAMS) (sym long) c.requires.streams) c.requires.limit in
     let bus : c.in_ok-bus.bus ≡ opening tags units = c.in_ok-bus.ensures in
-    let log : c.new_log-log.result ≡ empty_log tags c.in_ok-firsts.firsts.items = c.new_log-log.ensures in (
-      subst (λ (state : Shared). IsBooked (record { bus = state; log = c.new_log-log.result; limit = c.args.limit })) (sym bus)
+    let log : c.in_ok-log.log ≡ empty_log tags c.in_ok-firsts.firsts.items = c.in_ok-log.ensures in (
+      subst (λ (state : Shared). IsBooked (record { bus = state; log = c.in_ok-log.log; limit = c.args.limit })) (sym bus)
           (subst (λ (list : Log). IsBooked (record { bus = opening tags units; log = list; limit = c.args.limit })) (sym log) began),
       (refl, λ client within. zeros-index MAX_CLIENTS client ∙ sym (ap (λ (list : Log). turns_in client list.steps) log)),
     )

@@ -9,7 +9,7 @@ use Rattle.uas_log.specs.Booking.{with_entry}
 use Rattle.uas_work.specs.Booked.{BookedState, IsBooked, IsCounted, with_turn}
 use Rattle.uas_work.proofs.Bookings.{acted-booked, acted_state}
 use Rattle.uas_work.proofs.Counting.{counted-more, counted-small}
-use Rattle.uas_work.proofs.Booked.step.Goals as goal
+use Rattle.uas_work.proofs.Booked.take_step.Goals as goal
 
 -- no client's count is near its end
 pub count_turn-requires : goal.count_turn-requires
@@ -30,7 +30,7 @@ invariant_of-self-2 c =
     let old : BookedState = record { bus = c.self.inside.bus; log = c.self.inside.log; limit = c.self.inside.limit } in
     let acts : due old.bus c.args.step ≡ true = search rules in
     let room : length old.log.steps < old.limit = omega (arith, c.self.invariant.0.within) in
-    let booked : IsBooked (acted_state old c.args.step) = acted-booked old c.args.step c.self.invariant.0 c.requires acts room in
+    let booked : IsBooked (acted_state old c.args.step) = acted-booked old c.args.step c.self.invariant.0 c.requires.ticket acts room in
     let entered : c.enter.new.log ≡ with_entry old.log c.in-Ok.growth.copy c.step-outcome.result =
     c.enter.ensures old.log c.in-Ok.ensures.lists c.in-Ok.ensures.out in
     let is : record { bus = c.step-outcome.new.self; log = c.enter.new.log; limit = old.limit } ≡ acted_state old c.args.step =

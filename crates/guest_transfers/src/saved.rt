@@ -47,8 +47,15 @@ impl Transfers {
     /// Pipes and tags made of these.
     pub fn restored(parts: TransfersParts) -> Transfers
         requires { vec_len parts.tags ≡ 241 }
-        ensures { result ≡ record { command = parts.command; home = parts.home; gathered = parts.gathered; status = parts.status;
-            data_out = parts.data_out; data_in = parts.data_in; tags = parts.tags.items } }
+        ensures { result ≡ record {
+          command = parts.command;
+          home = parts.home;
+          gathered = parts.gathered;
+          status = parts.status;
+          data_out = parts.data_out;
+          data_in = parts.data_in;
+          tags = parts.tags.items;
+        } }
     {
         Transfers {
             command: parts.command,

@@ -51,8 +51,11 @@ places_back p fresh exact made at (x ∷ xs) rest few have missed =
     let tail : List ℕ = places_bytes p (suc at) xs ++ rest in
     let none : has_mark at tail ≡ false = missed_behind p at (suc at) xs rest (omega arith) (omega (arith, few)) (missed at (omega arith)) in
     let others = places_back p fresh exact made (suc at) xs rest (omega (arith, few)) have.1 (λ before below. missed before (omega (arith, below))) in
-    rw (append_assoc (place_bytes_if (p.is_fresh x) p.form at x) (places_bytes p (suc at) xs) rest,
-      place_back p fresh exact made at x tail (p.is_fresh x) refl (omega (arith, few)) have.0 none, others) refl
+    rw (
+      append_assoc (place_bytes_if (p.is_fresh x) p.form at x) (places_bytes p (suc at) xs) rest,
+      place_back p fresh exact made at x tail (p.is_fresh x) refl (omega (arith, few)) have.0 none,
+      others,
+    ) refl
 
 -- a place that was read was written so
 place_so : {A : Type 0} (p : PlaceForm A) (fresh : A) → IsExact p.form → p.is_fresh fresh ≡ true → (at : ℕ) (text : List ℕ) (x : A) (left : List ℕ) (marked : Bool)
@@ -91,9 +94,12 @@ places_so {A = A} p fresh exact made at (suc n) text xs left are e =
         → (mid ≡ places_bytes p (suc at) ys ++ last) × (length ys ≡ n) × PlacesHave p ys → x ∷ ys ≡ xs → last ≡ left
         → (text ≡ places_bytes p at xs ++ left) × (length xs ≡ suc n) × PlacesHave p xs
     joined x ys mid last here others same end =
-        rw (sym same, sym end)
-        (here.0 ∙ ap (λ (l : List ℕ). place_bytes_if (p.is_fresh x) p.form at x ++ l) others.0
-        ∙ sym (append_assoc (place_bytes_if (p.is_fresh x) p.form at x) (places_bytes p (suc at) ys) last), ap suc others.1, (here.1, others.2))
+        rw (sym same, sym end) (
+          here.0 ∙ ap (λ (l : List ℕ). place_bytes_if (p.is_fresh x) p.form at x ++ l) others.0
+              ∙ sym (append_assoc (place_bytes_if (p.is_fresh x) p.form at x) (places_bytes p (suc at) ys) last),
+          ap suc others.1,
+          (here.1, others.2),
+        )
 
 -- places are written one after the other
 place_wrote : {A : Type 0} (f : Form A) → IsExact f → (fresh : Bool) (w : List ℕ × Place) → IsWithin w → (at : ℕ) (x : A) → PlaceHasIf fresh f x

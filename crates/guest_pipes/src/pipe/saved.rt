@@ -19,8 +19,13 @@ pub struct PipeHead {
 impl Pipe {
     /// What it is, beside its rings.
     pub fn head(&self) -> PipeHead
-        ensures head { result ≡ record { endpoint = self.now.endpoint; state = self.now.state; array = self.now.array;
-            streams = self.now.streams; invalid = self.now.invalid } }
+        ensures head { result ≡ record {
+          endpoint = self.now.endpoint;
+          state = self.now.state;
+          array = self.now.array;
+          streams = self.now.streams;
+          invalid = self.now.invalid;
+        } }
         ensures few { self.now.streams ≤ 256 }
     {
         PipeHead {
@@ -57,8 +62,15 @@ impl Pipe {
     ) -> Result<Pipe, AllocError>
         requires few { head.streams ≤ 256 }
         requires rings { length progress.now ≡ 256 }
-        ensures { IfOk result (λ pipe. pipe ≡ record { endpoint = head.endpoint; state = head.state; array = head.array;
-            streams = head.streams; invalid = head.invalid; rung = rung.now; progress = progress.now }) }
+        ensures { IfOk result (λ pipe. pipe ≡ record {
+          endpoint = head.endpoint;
+          state = head.state;
+          array = head.array;
+          streams = head.streams;
+          invalid = head.invalid;
+          rung = rung.now;
+          progress = progress.now;
+        }) }
     {
         let mut kept = Vec::new(alloc);
         kept.extend_from_slice(progress)?;

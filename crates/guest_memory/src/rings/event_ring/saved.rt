@@ -18,8 +18,14 @@ pub struct EventRingParts {
 impl EventRing {
     /// Its values.
     pub fn parts(&self) -> EventRingParts
-        ensures parts { result ≡ record { base = self.now.base; places = self.now.places; place = self.now.place;
-            cycle = self.now.cycle; free = self.now.free; asks = self.now.asks } }
+        ensures parts { result ≡ record {
+          base = self.now.base;
+          places = self.now.places;
+          place = self.now.place;
+          cycle = self.now.cycle;
+          free = self.now.free;
+          asks = self.now.asks;
+        } }
         ensures sound { has_segment self.now ≡ true }
     {
         EventRingParts {
@@ -35,8 +41,14 @@ impl EventRing {
     /// A producer of these values; None where they are none of a producer: a place behind the segment's, or a segment of more than 4,096 places or
     /// behind the end of memory.
     pub fn restored(parts: EventRingParts) -> Option<EventRing>
-        ensures { result ≡ ring_restored (record { base = parts.base; places = parts.places; place = parts.place;
-            cycle = parts.cycle; free = parts.free; asks = parts.asks }) }
+        ensures { result ≡ ring_restored (record {
+          base = parts.base;
+          places = parts.places;
+          place = parts.place;
+          cycle = parts.cycle;
+          free = parts.free;
+          asks = parts.asks;
+        }) }
     {
         if parts.place < parts.places
             && parts.places <= 4096

@@ -101,7 +101,6 @@ module _ (machine : Machine) (door : UasXhciDoor) (bytes : List ℕ) where
     ])
     | inr other ↦ rw other (refl, λ some. refl)
   ]
-
   named calls.Save = saved (save_of machine bytes)
 
   pub calls_are_whole : Whole (after_call machine door bytes)

@@ -4,6 +4,7 @@ ghost use Rattle.uas_xhci_c.specs.CallLaws.{IsTold, IsWhole};
 ghost use Rattle.uas_xhci_c.specs.XhciCall.{after_answer, after_call, after_data, after_offer, after_read, after_request, after_save, after_stale, after_write, call_numbered};
 ghost use Rattle.uas_xhci_c.specs.XhciCall.{width_of, with_next, with_request};
 
+use crate::saving::XHCI_OUT;
 use c_common::faults::{TASKS_CALL, TASKS_LENGTH, TASKS_NOT_OUT, TASKS_PLACE, TASKS_SERIAL, UNITS};
 use c_tasks::outcome_told;
 use host_commands::SerialNumber;
@@ -11,7 +12,6 @@ use std::alloc::Global;
 use std::marker::Model;
 use uas_profile::MAX_UNITS;
 use uas_tasks::{AnswerFault, Next, Request};
-use crate::saving::XHCI_OUT;
 use xhci_machine::{Machine, SaveFault, Width};
 
 /// What a call of the controller asks and answers. C writes `call` and what that call reads; the call writes what it answers.

@@ -31,7 +31,10 @@ impl Machine {
         let Ok(shapes) = self.unit_shapes(alloc) else {
             return Err(LoadFault::NoMemory);
         };
-        let (set, chunk) = (self.device.tasks.command_set(), self.device.tasks.chunk_blocks());
+        let (set, chunk) = (
+            self.device.tasks.command_set(),
+            self.device.tasks.chunk_blocks(),
+        );
         *self = Machine::load(alloc, shapes.as_slice(), set, chunk, bytes)?;
         Ok(())
     }

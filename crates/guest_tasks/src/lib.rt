@@ -141,16 +141,16 @@ impl GuestTasks {
         }
     }
 
-    /// A device behind the pipes whose tasks were restored: those tags are active that have one.
+    /// A device behind the pipes whose tasks were restored. Each tag is active: one without a task may have something left to do, as an information
+    /// unit on its way, and one that has nothing rests at its turn.
     pub fn restored(tasks: Tasks) -> GuestTasks
         ensures tasks { result.tasks ≡ tasks }
-        ensures active { (tag : ℕ) → tag < 256 → is_marked result.active tag ≡ has_task tasks tag }
+        ensures active { (tag : ℕ) → tag < 256 → is_marked result.active tag ≡ true }
         ensures keeps { TasksAreActive result }
     {
         let mut device = GuestTasks::new(tasks);
         for tag in 0..TAG_PLACES {
-            let has_task = device.tasks.tag_state(tag).task.is_some();
-            device.set_active(tag, has_task);
+            device.set_active(tag, true);
         }
         device
     }

@@ -1,5 +1,5 @@
 -- A machine that is loaded from a saved text.
-use Rattle.std.specs.Prelude.{◌≡◌, ℕ, ◌-◌, ◌<◌, ◌==◌, Bool, ◌&&◌, if◌then◌else◌, List, length, slice_index, Option, None, Some, Result, Ok, Err}
+use Rattle.std.specs.Prelude.{◌≡◌, ℕ, ◌-◌, ◌<◌, ◌==◌, Bool, true, ◌&&◌, if◌then◌else◌, List, length, slice_index, Option, None, Some, Result, Ok, Err}
 use Rattle.controller_bytes.specs.Tags.{slots_form}
 use Rattle.device_bytes.specs.Devices.{device_loaded}
 use Rattle.guest_transfers.specs.declared.slot.Slot.{Slot as Tag}
@@ -8,7 +8,7 @@ use Rattle.machine_bytes.specs.declared.sealed.SealFault.TheVariants.{Short as S
 use Rattle.machine_bytes.specs.Forms.{then_read}
 use Rattle.machine_bytes.specs.Sealed.{opened}
 use Rattle.marks.specs.Marks.{is_marked}
-use Rattle.uas_tasks.specs.Machine.{Machine as Tasks, has_task}
+use Rattle.uas_tasks.specs.Machine.{Machine as Tasks}
 use Rattle.xhci_machine.specs.declared.Machine.{Machine}
 use Rattle.xhci_machine.specs.declared.loaded.LoadFault.{LoadFault}
 use Rattle.xhci_machine.specs.declared.loaded.LoadFault.TheVariants.{Short, Magic, Version, Length, Sum, Shape, Value, NoMemory}
@@ -32,11 +32,11 @@ body_read fresh text =
     then_read (kept_form.read text) (λ (kept : KeptState) one. then_read (slots_form.read one) (λ (tags : List Tag) two.
     then_read (device_loaded fresh two) (λ (tasks : Tasks) three. last_read (kept, (tags, tasks)) three)))
 
--- a machine of what was read: the tags that have a task are active
+-- a machine of what was read: each tag is active until a turn finds that it has nothing to do
 pub record IsMachineOf (body : Body) (m : Machine) : Type 0 where
   pub machine : m ≡ machine_of body.0 body.1.0 m.device
   pub tasks : m.device.tasks ≡ body.1.1
-  pub active : (tag : ℕ) → tag < 256 → is_marked m.device.active tag ≡ has_task body.1.1 tag
+  pub active : (tag : ℕ) → tag < 256 → is_marked m.device.active tag ≡ true
 
 abbrev pub IsMachineFor : Option Body → Machine → Type 0
 IsMachineFor None m = ⊥

@@ -54,8 +54,8 @@
 //! | device | as `device_bytes` has it |
 //! | end | 0; the CRC-32C of all before (4) |
 //!
-//! What a save makes is `save_of` (specs/Saved), and a load is `load_of` (specs/Loaded): a machine of what was read, with those tags active that
-//! have a task, or the first fault of the bytes. What was saved is read back ([`saved_states_are_read`]).
+//! What a save makes is `save_of` (specs/Saved), and a load is `load_of` (specs/Loaded): a machine of what was read, each of whose tags has a
+//! turn, or the first fault of the bytes. What was saved is read back ([`saved_states_are_read`]).
 //!
 //! It stands on `xhci_registers`, `xhci_slots`, `xhci_control`, `guest_transfers` and `guest_tasks`, and for saved states on
 //! `machine_bytes`, `controller_bytes` and `device_bytes`.

@@ -1,14 +1,13 @@
 -- What commands of the command ring make of a pipe and of memory, and a doorbell of a stream that isn't there, or of a pipe without streams.
-use Rattle.std.specs.Prelude.{ℕ, ◌==◌, Bool, true, false, not, if◌then◌else◌, Option, Some, None, option_map}
+use Rattle.std.specs.Prelude.{ℕ, ◌==◌, false, not, if◌then◌else◌, Option, Some, None, option_map}
 use Rattle.guest_memory.specs.Bytes.{Memory, written}
 use Rattle.guest_memory.specs.declared.rings.cursor.Cursor.{Cursor}
 use Rattle.guest_memory.specs.rings.Ends.{home_at, home_bytes}
 use Rattle.guest_memory.specs.rings.Events.{EventEnd}
 use Rattle.guest_pipes.specs.declared.acted.Acted.{Acted}
 use Rattle.guest_pipes.specs.declared.acted.Acted.TheVariants.{Off, Idle, Worked}
-use Rattle.guest_pipes.specs.declared.consumer.Consumer.{Consumer}
 use Rattle.guest_pipes.specs.Step.{World, has_home, refused}
-use Rattle.guest_pipes.specs.Gate.{is_running, room_gate, stop_looked, through}
+use Rattle.guest_pipes.specs.Gate.{is_running, room_gate, through}
 use Rattle.guest_pipes.specs.Pipe.{PipeState, forgotten, home_of, loaded, ring_home, stored}
 use Rattle.guest_pipes.specs.Unserved.{unserved_stepped}
 

@@ -1,5 +1,5 @@
 -- A list of which only those places are written that aren't as made is exact.
-use Rattle.std.proofs.Common.{◌≡◌, ◌≢◌, ℕ, zero, suc, ◌+◌, ◌^◌, ◌<◌, ◌≤◌, Bool, true, false, List, [], ◌∷◌, ◌++◌, length, drop, replicate, append_assoc, Option, Some, None, refl, sym, ap, subst, ◌∙◌, arith, inl, inr}
+use Rattle.std.proofs.Common.{◌≡◌, ℕ, zero, suc, ◌+◌, ◌<◌, Bool, true, false, List, [], ◌∷◌, ◌++◌, length, drop, replicate, append_assoc, Some, refl, sym, ap, subst, ◌∙◌, arith}
 use Rattle.std.specs.Prelude.{not, if◌then◌else◌}
 use Rattle.std.proofs.lemmas.Bool.{false≢true}
 use Rattle.byteorder.specs.Endian.{big_bytes}
@@ -7,10 +7,10 @@ use Rattle.byte_numbers.specs.Bytes.{AreBytes}
 use Rattle.byte_numbers.proofs.Bytes.{bytes_back, bytes_dropped}
 use Rattle.machine_bytes.specs.declared.place.Place.{Place}
 use Rattle.machine_bytes.specs.Exact.{IsExact}
-use Rattle.machine_bytes.specs.Forms.{Form, checked, then_read}
+use Rattle.machine_bytes.specs.Forms.{Form}
 use Rattle.machine_bytes.specs.Places.{IsWithin, written}
 use Rattle.machine_bytes.specs.Sparse.{PlaceForm, PlaceHasIf, PlacesHave, changed_form, end_mark, end_read, has_mark, made_places, place_bytes_if, place_read, place_write_if, places_bytes, places_read, places_write, sparse}
-use Rattle.machine_bytes.proofs.Exact.{checked-exact, no_value, same_value, then_some, where_true}
+use Rattle.machine_bytes.proofs.Exact.{checked-exact, same_value, then_some, where_true}
 use Rattle.machine_bytes.proofs.Marks.{behind_mark, mark_found, mark_missed, mark_stands}
 use Rattle.machine_bytes.proofs.Placed.{written_joined, written_within}
 

@@ -1,5 +1,5 @@
 -- A saved text: what it begins with, its version (2), its length (4), the body, and the CRC-32C of all before (4).
-use Rattle.std.specs.Prelude.{ℕ, ◌+◌, ◌-◌, ◌==◌, nat_eq, nat_lt, Bool, not, if◌then◌else◌, List, ◌++◌, codes, length, take, drop, Result, Ok, Err}
+use Rattle.std.specs.Prelude.{ℕ, ◌+◌, ◌-◌, ◌==◌, nat_eq, nat_lt, not, if◌then◌else◌, List, ◌++◌, codes, length, take, drop, Result, Ok, Err}
 use Rattle.std.specs.List.{starts_with}
 use Rattle.byteorder.specs.Endian.{big_bytes, big_number}
 use Rattle.log_records.specs.checksum.Division.{crc32c_of}

@@ -1,17 +1,14 @@
 -- What is read of a body, and of bytes that have one.
-use Rattle.std.proofs.Common.{◌≡◌, ℕ, ◌-◌, ◌<◌, Bool, true, false, List, length, Option, Some, None, Result, Ok, Err, refl, sym, ap, subst, ◌∙◌}
+use Rattle.std.proofs.Common.{◌≡◌, ℕ, ◌-◌, true, false, List, length, Option, Some, None, Ok, Err, refl}
 use Rattle.controller_bytes.specs.Tags.{slots_form}
 use Rattle.device_bytes.specs.Devices.{device_loaded}
-use Rattle.guest_tasks.specs.declared.GuestTasks.{GuestTasks}
 use Rattle.guest_transfers.specs.declared.slot.Slot.{Slot as Tag}
 use Rattle.machine_bytes.specs.Sealed.{opened}
-use Rattle.marks.specs.Marks.{is_marked}
-use Rattle.uas_tasks.specs.Machine.{Machine as Tasks, has_task}
+use Rattle.uas_tasks.specs.Machine.{Machine as Tasks}
 use Rattle.xhci_machine.specs.declared.Machine.{Machine}
-use Rattle.xhci_machine.specs.declared.loaded.LoadFault.{LoadFault}
 use Rattle.xhci_machine.specs.declared.loaded.LoadFault.TheVariants.{Value}
-use Rattle.xhci_machine.specs.Kept.{KeptState, kept_form, machine_of}
-use Rattle.xhci_machine.specs.Loaded.{Body, IsLoaded, IsMachineFor, IsMachineOf, body_or, body_read, is_last, load_of, of_shape}
+use Rattle.xhci_machine.specs.Kept.{KeptState, kept_form}
+use Rattle.xhci_machine.specs.Loaded.{Body, IsLoaded, IsMachineFor, IsMachineOf, body_or, body_read, is_last, load_of}
 use Rattle.xhci_machine.specs.Shapes.{behind_shape}
 
 pub body_is : (fresh tasks : Tasks) (text one two three : List ℕ) (kept : KeptState) (tags : List Tag) → kept_form.read text ≡ (Some kept, one)

@@ -1,5 +1,5 @@
 -- The front of a list, also where it is asked for more than there is.
-use Rattle.std.proofs.Common.{◌≡◌, ℕ, zero, suc, min, List, [], ◌∷◌, length, take, refl, ap, ◌∙◌, arith}
+use Rattle.std.proofs.Common.{◌≡◌, ℕ, zero, suc, min, List, [], ◌∷◌, length, take, refl, ap, arith}
 
 pub front_taken : (cells : List ℕ) (at end : ℕ) → end ≡ min at (length cells) → take end cells ≡ take at cells
 front_taken [] zero zero e = refl

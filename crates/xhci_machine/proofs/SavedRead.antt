@@ -1,12 +1,11 @@
 -- What was saved is read back.
-use Rattle.std.proofs.Common.{◌≡◌, ℕ, List, [], ◌∷◌, ◌++◌, refl}
+use Rattle.std.proofs.Common.{ℕ, List, [], ◌∷◌, ◌++◌, refl}
 use Rattle.controller_bytes.specs.Tags.{slots_form}
 use Rattle.controller_bytes.proofs.TagsExact.{slots-exact}
 use Rattle.device_bytes.specs.Devices.{device_form, saved_device}
 use Rattle.device_bytes.proofs.LikeLaws.{device_is_loaded}
-use Rattle.xhci_machine.specs.declared.Machine.{Machine}
 use Rattle.xhci_machine.specs.Kept.{kept_of}
-use Rattle.xhci_machine.specs.SavedLaws.{HasForm, SavedIsRead}
+use Rattle.xhci_machine.specs.SavedLaws.{SavedIsRead}
 use Rattle.xhci_machine.proofs.KeptExact.{kept-exact}
 
 pub saved_is_read : SavedIsRead

@@ -1,12 +1,12 @@
 -- What was saved is read back.
-use Rattle.std.specs.Prelude.{◌≡◌, ℕ, ◌<◌, List, [], ◌∷◌, ◌++◌, length, Option, Some}
+use Rattle.std.specs.Prelude.{◌≡◌, ℕ, ◌<◌, List, [], ◌∷◌, ◌++◌, length, Some}
 use Rattle.controller_bytes.specs.Tags.{slots_form}
 use Rattle.device_bytes.specs.Devices.{device_form, new_like, saved_device, settled_device}
 use Rattle.machine_bytes.specs.Exact.{IsExact}
 use Rattle.uas_tasks.specs.Soundness.{AreSized}
 use Rattle.xhci_machine.specs.declared.Machine.{Machine}
 use Rattle.xhci_machine.specs.Kept.{kept_form, kept_of}
-use Rattle.xhci_machine.specs.Loaded.{Body, body_read}
+use Rattle.xhci_machine.specs.Loaded.{body_read}
 
 -- what stands behind the shape
 abbrev pub body_bytes : Machine → ℕ → List ℕ

@@ -12,17 +12,10 @@ use Rattle.guest_bulk.specs.declared.bulk.BulkStage.TheVariants.{Awaits, Faulty,
 use Rattle.guest_bulk.specs.declared.bulk.KeptSense.{KeptSense}
 use Rattle.guest_bulk.specs.declared.bulk.Stepped.{Stepped}
 use Rattle.guest_bulk.specs.Breaks.{in_break_at, in_break_by, out_break_at, out_break_by}
-<<<<<<< HEAD
 use Rattle.guest_bulk.specs.Commands.{BulkWorld, begun_by, begun_if, cbw_count, cbw_drawn, cbw_gathered, cbw_lost, cbw_ran, cbw_taken, is_for, kept_begun, received_if, takes_bytes, gives_bytes, task_begun, unit_of, with_moved}
 use Rattle.guest_bulk.specs.Incoming.{chunk_moved, chunk_poured, in_beside, in_broken, in_by, in_last_by, in_ran, in_staged, moved_if, refilled, refilled_moved, settled_told, told_staged, zeros_moved, zeros_poured}
 use Rattle.guest_bulk.specs.Outgoing.{data_dropped, ends_cbw, handed_if, out_beside, out_broken, out_by, out_drawn, out_filled, out_gathered, out_handed, out_last, out_moved, out_ran, out_staged, out_went, rest_dropped}
 use Rattle.guest_bulk.specs.Steps.{bulk_after, bulk_through, in_acted, in_at, in_bytes, in_normal, in_stepped, in_took, out_acted, out_at, out_bytes, out_normal, out_stepped, out_took}
-=======
-use Rattle.guest_bulk.specs.Commands.{BulkWorld, begun_by, begun_if, cbw_count, cbw_drawn, cbw_gathered, cbw_lost, cbw_ran, cbw_taken, is_for, kept_begun, received_if, takes_bytes, gives_bytes, task_begun, unit_of}
-use Rattle.guest_bulk.specs.Incoming.{chunk_moved, chunk_poured, in_beside, in_broken, in_by, in_last_by, in_ran, in_staged, moved_if, refilled, told_staged, zeros_moved, zeros_poured}
-use Rattle.guest_bulk.specs.Outgoing.{data_dropped, ends_cbw, handed_if, out_beside, out_broken, out_by, out_drawn, out_gathered, out_handed, out_moved, out_ran, out_staged, rest_dropped}
-use Rattle.guest_bulk.specs.Steps.{bulk_after, bulk_through, in_acted, in_at, in_normal, in_stepped, out_acted, out_at, out_normal, out_stepped}
->>>>>>> 0abac7c4149e9d9d97670c2255f7113a45fdc8ed
 use Rattle.guest_bulk.specs.Verdicts.{answered, broken_off, csw_ended, csw_full, csw_lost, csw_moved, csw_on, csw_poured, csw_ran, csw_short, csw_some, csw_babbled, csw_went, data_closed, has_chunk, kept_told, settled, settled_by}
 use Rattle.guest_memory.specs.declared.rings.context.Home.{Home}
 use Rattle.guest_memory.specs.declared.rings.context.Front.{Front}

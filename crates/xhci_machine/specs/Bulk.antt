@@ -1,9 +1,5 @@
 -- A step of Bulk-Out or Bulk-In, in Bulk-Only's alternate setting: of the one ring of the endpoint of data-out, or data-in.
-<<<<<<< HEAD
 use Rattle.std.specs.Prelude.{ℕ, Bool, true, false, if◌then◌else◌, Option, Some, None, is_some}
-=======
-use Rattle.std.specs.Prelude.{Bool, false, if◌then◌else◌, Option, Some, None, is_some}
->>>>>>> 0abac7c4149e9d9d97670c2255f7113a45fdc8ed
 use Rattle.guest_bulk.specs.Breaks.{in_break, out_break}
 use Rattle.guest_bulk.specs.declared.bulk.Stepped.{Stepped}
 use Rattle.guest_bulk.specs.Commands.{BulkWorld}

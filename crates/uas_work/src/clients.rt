@@ -18,8 +18,8 @@ use std::sync::Wait;
 use tag_desk::{Prepared, Slip};
 use uas_profile::{Place, tag_of};
 
-/// How many times a client looks for its reply before it parks: about as long as a lone client's command takes.
-const MOST_LOOKS: u32 = 150;
+/// How many times a client looks for its reply before it parks.
+const MOST_LOOKS: u32 = 50;
 
 /// The bell of a client's first tag.
 const FIRST_BELL: usize = 1;

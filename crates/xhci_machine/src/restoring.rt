@@ -8,19 +8,20 @@ use crate::Machine;
 use crate::loaded::LoadFault;
 use host_commands::LogicalUnitShape;
 use std::alloc::{AllocError, Global};
+use uas_tasks::LogicalUnit;
+
+/// What these logical units were made of.
+fn unit_shapes(alloc: Global, units: &[LogicalUnit]) -> Result<Vec<LogicalUnitShape>, AllocError>
+    ensures { IfOk result (λ shapes. shapes.items ≡ shapes_of units.now) }
+{
+    let mut shapes = Vec::new(alloc);
+    for unit in units {
+        shapes.push(unit.shape)?;
+    }
+    Ok(shapes)
+}
 
 impl Machine {
-    /// What its logical units were made of.
-    fn unit_shapes(&self, alloc: Global) -> Result<Vec<LogicalUnitShape>, AllocError>
-        ensures { IfOk result (λ shapes. shapes.items ≡ shapes_of self.now.device.tasks.units) }
-    {
-        let mut shapes = Vec::new(alloc);
-        for unit in self.device.tasks.units() {
-            shapes.push(unit.shape)?;
-        }
-        Ok(shapes)
-    }
-
     /// It becomes the machine that was saved as these bytes, of the same logical units, commands and chunks. The fault is the first that the
     /// bytes have, or want of memory, and then nothing changes.
     pub fn restore(&mut self, alloc: Global, bytes: &[u8]) -> Result<(), LoadFault>
@@ -28,7 +29,8 @@ impl Machine {
         ensures refused { IfErr result (λ fault. IsRefused (load_of (made_again self.old.device.tasks) bytes.now) fault) }
         ensures same { OnErr result (self.new ≡ self.old) }
     {
-        let Ok(shapes) = self.unit_shapes(alloc) else {
+        let units = self.device.tasks.units();
+        let Ok(shapes) = unit_shapes(alloc, units) else {
             return Err(LoadFault::NoMemory);
         };
         let (set, chunk) = (

@@ -1,6 +1,6 @@
 -- Laws of the calls through the door: what a call answers, that a refused one changes nothing, and that a request which is asked is told.
 use Rattle.std.proofs.Common.{◌≡◌, ℕ, ◌<◌, Bool, true, false, List, [], ◌∷◌, length, Option, Some, None, Result, Ok, Err, refl, sym, ap, ◌∙◌, arith, inl, inr}
-use Rattle.std.specs.Prelude.{◌==◌, ◌||◌, nat_lt, is_some, option_and_then}
+use Rattle.std.specs.Prelude.{◌%◌, ◌==◌, ◌||◌, nat_lt, is_some, option_and_then}
 use Rattle.std.specs.List.{find, range_with_len}
 use Rattle.std.specs.Option.{option_map_or}
 use Rattle.std.proofs.lemmas.Bool.{and_parts, cases_Bool, false≢true}
@@ -21,7 +21,8 @@ use Rattle.uas_tasks.specs.declared.Task.{Task}
 use Rattle.uas_tasks.specs.declared.Task.TheVariants.{Giving, Blocks, Ended, Failed, Held}
 use Rattle.uas_tasks.specs.declared.Wants.{Wants}
 use Rattle.uas_tasks.specs.declared.Wants.TheVariants as wants
-use Rattle.uas_tasks.specs.Machine.{Machine as Tasks, next_by, next_of, number_of, slot_of, wanted}
+use Rattle.uas_tasks.specs.declared.Outcome.{Outcome}
+use Rattle.uas_tasks.specs.Machine.{Machine as Tasks, answer_fault, answered_out, answered_unless, next_by, next_of, number_of, out_of_number, slot_of, wanted}
 use Rattle.uas_tasks.specs.Slots.{SlotState, asked_slot, out_of, task_wants}
 use Rattle.uas_tasks.proofs.Keeping.{wanted-free}
 use Rattle.xhci_machine.specs.declared.Machine.{Machine}
@@ -65,12 +66,20 @@ module _ (machine : Machine) (door : UasXhciDoor) (bytes : List ℕ) where
     | inr other ↦ rw other (refl, λ some. refl)
   ]
 
-  told : (after : Tasks × Result (Unit {0}) AnswerFault) → Whole (with_bytes bytes (answer_told machine door after))
-  told (after, Ok ended) = done _ door bytes
-  told (after, Err NotOut) = (refl, λ some. refl)
-  told (after, Err NoSuchOutcome) = (refl, λ some. refl)
-  told (after, Err WrongPlace) = (refl, λ some. refl)
-  told (after, Err WrongLength) = (refl, λ some. refl)
+  at_fault : (slot : SlotState) (tag : ℕ) (outcome : Outcome) (out : Out) (fault : Option AnswerFault)
+      → Whole (with_bytes bytes (answer_told machine door (answered_unless machine.device.tasks slot tag outcome bytes out fault)))
+  at_fault slot tag outcome out None = done _ door bytes
+  at_fault slot tag outcome out (Some NotOut) = (refl, λ some. refl)
+  at_fault slot tag outcome out (Some NoSuchOutcome) = (refl, λ some. refl)
+  at_fault slot tag outcome out (Some WrongPlace) = (refl, λ some. refl)
+  at_fault slot tag outcome out (Some WrongLength) = (refl, λ some. refl)
+
+  at_out : (tag : ℕ) (outcome : Outcome) (out : Option Out)
+      → Whole (with_bytes bytes (answer_told machine door (answered_out machine.device.tasks tag outcome bytes out)))
+  at_out tag outcome None = (refl, λ some. refl)
+  at_out tag outcome (Some out) =
+      at_fault (slot_of machine.device.tasks tag) tag outcome out
+      (answer_fault machine.device.tasks.set (slot_of machine.device.tasks tag) out outcome (length bytes))
 
   saved : (after : List ℕ × Result ℕ SaveFault) → Whole (save_told machine door bytes after)
   saved (after, Ok total) = done machine _ after
@@ -91,7 +100,7 @@ module _ (machine : Machine) (door : UasXhciDoor) (bytes : List ℕ) where
   named calls.Data = either Whole (given_out machine door bytes) _ _ (refl, λ some. refl) given
   named calls.Answered =
       either (λ after. Whole (with_bytes bytes after)) (answered_with machine door bytes) (outcome_told door.outcome (door.good == 1) door.block (length bytes)) _ (refl, λ some. refl)
-      (λ outcome. told _)
+      (λ outcome. at_out (door.number % 256) outcome (out_of_number machine.device.tasks door.number))
   named calls.Stale = done _ _ bytes
   named calls.HostError = done _ _ bytes
   named calls.Offer = elim (cases_Bool (nat_lt door.number MAX_UNITS)) [

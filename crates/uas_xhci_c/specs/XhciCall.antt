@@ -124,10 +124,10 @@ after_data machine door bytes =
 -- ANSWERED (10): what came of a request, at a block or a byte where `good` is 1
 abbrev pub answer_told : Machine → UasXhciDoor → Tasks × Result (Unit {0}) AnswerFault → DoorAfter Machine UasXhciDoor
 answer_told machine door (tasks, Ok done) = (0, (with_tasks machine tasks, door))
-answer_told machine door (tasks, Err NotOut) = refused TASKS_NOT_OUT machine door
-answer_told machine door (tasks, Err NoSuchOutcome) = refused TASKS_CALL machine door
-answer_told machine door (tasks, Err WrongPlace) = refused TASKS_PLACE machine door
-answer_told machine door (tasks, Err WrongLength) = refused TASKS_LENGTH machine door
+answer_told machine door (tasks, Err NotOut) = refused TASKS_NOT_OUT (with_tasks machine tasks) door
+answer_told machine door (tasks, Err NoSuchOutcome) = refused TASKS_CALL (with_tasks machine tasks) door
+answer_told machine door (tasks, Err WrongPlace) = refused TASKS_PLACE (with_tasks machine tasks) door
+answer_told machine door (tasks, Err WrongLength) = refused TASKS_LENGTH (with_tasks machine tasks) door
 
 abbrev pub answered_with : Machine → UasXhciDoor → List ℕ → Outcome → DoorAfter Machine UasXhciDoor
 answered_with machine door bytes outcome = answer_told machine door (answered machine.device.tasks door.number outcome bytes)

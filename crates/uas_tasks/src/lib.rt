@@ -55,7 +55,7 @@ mod starts;
 
 pub use device_server::Answer;
 use host_commands::{CommandSet, LogicalUnitShape, UnitAttention};
-pub use laws::{last_answer_frees, nothing_stale_passes, tags_are_restored};
+pub use laws::{last_answer_frees, nothing_stale_passes, settled_answers_alike, tags_are_restored};
 pub use saved::{TagState, Unsound};
 use slot::Slot;
 use std::marker::Model;

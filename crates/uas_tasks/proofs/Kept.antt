@@ -60,17 +60,17 @@ stage-within chunk job Asking sound = asking-within job.kind (chunk_bytes chunk 
 stage-within chunk job Waiting sound = omega arith
 stage-within chunk job (Moving at) sound = moving-within job.kind at (chunk_bytes chunk job) (omega (arith, sound.0))
 
-chunk-fits : (chunk room : ℕ) (job : Job) → chunk * job.block_bytes ≤ room → chunk_bytes chunk job ≤ room
+pub chunk-fits : (chunk room : ℕ) (job : Job) → chunk * job.block_bytes ≤ room → chunk_bytes chunk job ≤ room
 chunk-fits chunk room job fits =
     let less : chunk_blocks chunk job ≤ chunk = omega arith in
     let all = mul-le job.block_bytes (chunk_blocks chunk job) job.block_bytes chunk (omega arith) less in
     let turned : job.block_bytes * chunk ≡ chunk * job.block_bytes = grind arith in
     omega (arith, all, turned, fits)
 
-length-part : (span : Span) (bytes : List ℕ) → span.from + span.many ≤ length bytes → length (part_of span bytes) ≡ span.many
+pub length-part : (span : Span) (bytes : List ℕ) → span.from + span.many ≤ length bytes → length (part_of span bytes) ≡ span.many
 length-part span bytes within = length-take-le span.many (drop span.from bytes) (omega (arith, length-drop span.from bytes))
 
-stage-fits : (chunk room : ℕ) (job : Job) (stage : Stage) → IsSoundStage chunk job stage → chunk * job.block_bytes ≤ room →
+pub stage-fits : (chunk room : ℕ) (job : Job) (stage : Stage) → IsSoundStage chunk job stage → chunk * job.block_bytes ≤ room →
     (stage_span chunk job stage).from + (stage_span chunk job stage).many ≤ room
 stage-fits chunk room job stage sound fits = omega (arith, stage-within chunk job stage sound, chunk-fits chunk room job fits)
 
@@ -151,7 +151,7 @@ pub tags_restored : TagsAreRestored
 tags_restored machine tag slot is fresh savable = rw (is, fresh, savable) (rw (fresh-again slot (tag_state slot) (kept_bytes slot)) refl)
 
 -- the bytes that were written over zeros are there
-part-again : (span : Span) (room : ℕ) (bytes : List ℕ) → span.from + span.many ≤ room → length bytes ≡ span.many →
+pub part-again : (span : Span) (room : ℕ) (bytes : List ℕ) → span.from + span.many ≤ room → length bytes ≡ span.many →
     part_of span (with_bytes_at (replicate room 0) span.from bytes) ≡ bytes
 unfolding with_bytes_at
 part-again span room bytes within many =

@@ -8,3 +8,6 @@ pub mod Received
 pub mod Passing
 pub mod Restoring
 pub mod Kept
+pub mod Alike
+pub mod Stays
+pub mod StaysOut

@@ -13,8 +13,8 @@ use Rattle.uas_tasks.specs.declared.Outcome.TheVariants.{Done, Differs, MediumEr
 use Rattle.uas_tasks.specs.declared.Stage.TheVariants.{Asking, Waiting, Moving}
 use Rattle.uas_tasks.specs.declared.Task.{Task}
 use Rattle.uas_tasks.specs.declared.Task.TheVariants.{Giving, Blocks, Ended, Held}
-use Rattle.uas_tasks.specs.Slots.{after_answer, after_outcome, chunk_blocks, chunk_bytes, done_by, ended_good, first_stage, gave_task, is_begun, is_moved, next_chunk}
-use Rattle.uas_tasks.specs.Soundness.{FitsRoom, IsSoundJob, IsSoundStage, IsSoundTask}
+use Rattle.uas_tasks.specs.Slots.{after_answer, after_outcome, chunk_blocks, chunk_bytes, done_by, ended_good, first_stage, gave_task, next_chunk}
+use Rattle.uas_tasks.specs.Soundness.{FitsRoom, IsSoundJob, IsSoundStage, IsSoundTask, is_moved, is_begun}
 
 -- a product of two numbers that aren't 0
 product_some : (m n : ℕ) → 0 < m → 0 < n → 0 < m * n

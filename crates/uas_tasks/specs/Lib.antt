@@ -4,4 +4,5 @@ pub mod Stale
 pub mod Machine
 pub mod Soundness
 pub mod Saved
+pub mod Alike
 pub mod Laws

@@ -20,8 +20,8 @@ use Rattle.uas_tasks.specs.declared.saved.Span.{Span}
 use Rattle.uas_tasks.specs.declared.saved.TagState.{TagState}
 use Rattle.uas_tasks.specs.declared.saved.Unsound.{Unsound}
 use Rattle.uas_tasks.specs.Machine.{Machine, slot_of, with_attention, with_slot}
-use Rattle.uas_tasks.specs.Soundness.{EachFits, IsSoundJob, IsSoundStage, lengths_of}
-use Rattle.uas_tasks.specs.Slots.{SlotState, chunk_bytes, fresh_slot, is_moved, is_tag, request_bytes, task_waits}
+use Rattle.uas_tasks.specs.Soundness.{EachFits, IsSoundJob, IsSoundStage, lengths_of, is_moved}
+use Rattle.uas_tasks.specs.Slots.{SlotState, chunk_bytes, fresh_slot, is_tag, request_bytes, task_waits}
 
 -- WHETHER A REQUEST IS OUT
 

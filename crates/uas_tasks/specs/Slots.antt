@@ -165,24 +165,6 @@ first_stage Verifies = Asking
 first_stage Synchronizes = Asking
 first_stage (WritesAndVerifies compares has_written) = Moving 0
 
--- the kinds whose bytes move; those of a WRITE AND VERIFY do before its chunk is written
-abbrev pub is_moved : JobKind → Bool
-is_moved Reads = true
-is_moved (Writes through) = true
-is_moved Compares = true
-is_moved Verifies = false
-is_moved Synchronizes = false
-is_moved (WritesAndVerifies compares has_written) = not has_written
-
--- those with which a chunk begins
-abbrev pub is_begun : JobKind → Bool
-is_begun Reads = true
-is_begun (Writes through) = true
-is_begun Compares = true
-is_begun Verifies = true
-is_begun Synchronizes = true
-is_begun (WritesAndVerifies compares has_written) = not has_written
-
 -- the chunk is done: the next one, or the end
 abbrev pub next_chunk : ℕ → ℕ → Job → Task
 next_chunk chunk unit job =

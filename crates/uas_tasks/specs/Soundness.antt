@@ -1,5 +1,5 @@
 -- What is true of every slot and of the device.
-use Rattle.std.specs.Prelude.{◌≡◌, ℕ, ◌+◌, ◌-◌, ◌*◌, ◌^◌, ◌<◌, ◌≤◌, All, List, [], ◌∷◌, length, map, count_by, slice_get, slice_index_or, slice_set, Option, Some, None, IfSome, MatchOption, true}
+use Rattle.std.specs.Prelude.{◌≡◌, ℕ, ◌+◌, ◌-◌, ◌*◌, ◌^◌, ◌<◌, ◌≤◌, All, List, [], ◌∷◌, length, map, count_by, slice_get, slice_index_or, slice_set, Option, Some, None, IfSome, MatchOption, Bool, true, false, not}
 use Rattle.host_commands.specs.declared.BlockLength.{BlockLength}
 use Rattle.host_commands.specs.declared.Work.{Work}
 use Rattle.host_commands.specs.declared.Work.TheVariants.{Nothing, Gives as GivesWork, Reads as ReadsWork, Writes as WritesWork, Synchronizes as SynchronizesWork}
@@ -9,6 +9,8 @@ use Rattle.host_commands.specs.declared.TheConstants.{MOST_DATA_BYTES}
 use Rattle.host_commands.specs.Shapes.{Shape, block_bytes}
 use Rattle.uas_profile.specs.declared.TheConstants.{GREATEST_TAG, MAX_UNITS}
 use Rattle.uas_tasks.specs.declared.Job.{Job}
+use Rattle.uas_tasks.specs.declared.JobKind.{JobKind}
+use Rattle.uas_tasks.specs.declared.JobKind.TheVariants.{Reads, Writes, Compares, Verifies, Synchronizes, WritesAndVerifies}
 use Rattle.uas_tasks.specs.declared.LogicalUnit.{LogicalUnit}
 use Rattle.uas_tasks.specs.declared.Stage.{Stage}
 use Rattle.uas_tasks.specs.declared.Stage.TheVariants.{Asking, Waiting, Moving}
@@ -17,7 +19,7 @@ use Rattle.uas_tasks.specs.declared.Task.TheVariants.{Giving, Blocks, Ended, Hel
 use Rattle.uas_tasks.specs.declared.Wants.{Wants}
 use Rattle.uas_tasks.specs.declared.Wants.TheVariants.{Absent, Asks, Waits, Gives, Takes, Ends}
 use Rattle.uas_tasks.specs.Machine.{greatest_block}
-use Rattle.uas_tasks.specs.Slots.{SlotState, chunk_bytes, is_moved}
+use Rattle.uas_tasks.specs.Slots.{SlotState, chunk_bytes}
 use Rattle.uas_tasks.specs.Stale.{is_stale, writes_out}
 
 -- it has blocks left, which are below 2^48
@@ -26,6 +28,24 @@ pub record IsSoundJob (job : Job) : Type 0 where
   pub left : job.done < job.count
   pub some : 0 < job.block_bytes
   pub most : job.block_bytes ≤ 4096
+
+-- the kinds whose bytes move; those of a WRITE AND VERIFY do before its chunk is written
+abbrev pub is_moved : JobKind → Bool
+is_moved Reads = true
+is_moved (Writes through) = true
+is_moved Compares = true
+is_moved Verifies = false
+is_moved Synchronizes = false
+is_moved (WritesAndVerifies compares has_written) = not has_written
+
+-- those with which a chunk begins
+abbrev pub is_begun : JobKind → Bool
+is_begun Reads = true
+is_begun (Writes through) = true
+is_begun Compares = true
+is_begun Verifies = true
+is_begun Synchronizes = true
+is_begun (WritesAndVerifies compares has_written) = not has_written
 
 -- bytes of the chunk are left to move, of a kind whose bytes move
 abbrev pub IsSoundStage : ℕ → Job → Stage → Type 0

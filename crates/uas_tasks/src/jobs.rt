@@ -3,9 +3,9 @@ ghost use Rattle.std.specs.Prelude.{◌≡◌, ℕ, ◌+◌, ◌*◌, ◌^◌, �
 ghost use Rattle.std.specs.Option.{option_map_or};
 ghost use Rattle.host_commands.specs.Shapes.{block_bytes};
 ghost use Rattle.uas_tasks.specs.Slots.{after_answer, after_outcome, chunk_blocks, chunk_bytes, done_by, ended_check, ended_good, first_stage};
-ghost use Rattle.uas_tasks.specs.Slots.{is_begun, is_done, is_read, job_task, medium_error, moved_way, next_chunk, out_of, request_bytes};
+ghost use Rattle.uas_tasks.specs.Slots.{is_done, is_read, job_task, medium_error, moved_way, next_chunk, out_of, request_bytes};
 ghost use Rattle.uas_tasks.specs.Slots.{request_of, stage_wants, task_waits, waiting};
-ghost use Rattle.uas_tasks.specs.Soundness.{FitsRoom, IsSoundJob, IsSoundStage, IsSoundTask, IsSoundWork};
+ghost use Rattle.uas_tasks.specs.Soundness.{FitsRoom, IsSoundJob, IsSoundStage, IsSoundTask, IsSoundWork, is_begun};
 ghost use Rattle.uas_tasks.specs.Stale.{unit_written};
 
 use crate::slot::Out;

@@ -35,6 +35,9 @@
 //! What is promised: a [`Tasks`] is the record `Machine` of `specs/Machine.antt`, logical units by number and a slot for each
 //! tag, and each call makes of it exactly what the definition of that name says, and answers so.
 //!
+//! While no request is out, [`Tasks::tag_state`] and [`Tasks::kept_bytes`] tell what matters of a tag, and [`Tasks::restore_tag`] puts it on a
+//! fresh device, which answers alike from then on.
+//!
 //! [`Tasks::new`] takes all memory; no later call takes any, and none but a reset and `stale` goes over the tags.
 //!
 //! It stands on `uas_iu` for the information units, `host_commands` for what a CDB asks, `scsi_cmd` for sense, and `uas_target`
@@ -55,7 +58,7 @@ mod starts;
 
 pub use device_server::Answer;
 use host_commands::{CommandSet, LogicalUnitShape, UnitAttention};
-pub use laws::{last_answer_frees, nothing_stale_passes, tags_are_restored};
+pub use laws::{last_answer_frees, nothing_stale_passes, settled_answers_alike, tags_are_restored};
 pub use saved::{TagState, Unsound};
 use slot::Slot;
 use std::marker::Model;

@@ -5,8 +5,8 @@ ghost use Rattle.uas_profile.specs.declared.TheConstants.{MAX_UNITS};
 ghost use Rattle.uas_tasks.specs.Machine.{slot_of};
 ghost use Rattle.uas_tasks.specs.Saved.{AreSavable, IsRestorable, asking_span, has_request_out, is_free, is_job_of, is_job_on, is_stage, is_tag_state, is_task, is_unit, kept_bytes, may_restore, moving_span, no_span};
 ghost use Rattle.uas_tasks.specs.Saved.{restored_attention, restored_slot, restored_tag, stage_span, tag_state, unit_attention, unit_shape};
-ghost use Rattle.uas_tasks.specs.Slots.{chunk_bytes, is_moved};
-ghost use Rattle.uas_tasks.specs.Soundness.{AreSized, IsSoundJob, IsSoundStage};
+ghost use Rattle.uas_tasks.specs.Slots.{chunk_bytes};
+ghost use Rattle.uas_tasks.specs.Soundness.{AreSized, IsSoundJob, IsSoundStage, is_moved};
 
 use crate::jobs::{chunk_bytes, request_bytes};
 use crate::receiver::is_tag;

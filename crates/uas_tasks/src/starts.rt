@@ -4,8 +4,8 @@ ghost use Rattle.host_commands.specs.Meaning.{asked_of};
 ghost use Rattle.host_commands.specs.Shapes.{block_bytes};
 ghost use Rattle.uas_profile.specs.declared.TheConstants.{MAX_UNITS};
 ghost use Rattle.uas_tasks.specs.Machine.{begun, kept_attention};
-ghost use Rattle.uas_tasks.specs.Slots.{blocks_synchronized, is_begun, job_task, started, started_none, started_work, with_task};
-ghost use Rattle.uas_tasks.specs.Soundness.{StartsOn};
+ghost use Rattle.uas_tasks.specs.Slots.{blocks_synchronized, job_task, started, started_none, started_work, with_task};
+ghost use Rattle.uas_tasks.specs.Soundness.{StartsOn, is_begun};
 
 use crate::jobs::{ended_check, ended_good, job_task};
 use crate::slot::Slot;

@@ -1,0 +1,13 @@
+use Rattle.uas_tasks.proofs.Alike.{settled_alike}
+use Rattle.uas_tasks.proofs.Stays.{shown_same}
+use Rattle.uas_tasks.proofs.StaysOut.{stay_alike}
+use Rattle.uas_tasks.proofs.laws.settled_answers_alike.Goals as goal
+
+pub returns-clause-settled : goal.returns-clause-settled
+returns-clause-settled c = settled_alike
+
+pub returns-clause-shown : goal.returns-clause-shown
+returns-clause-shown c = shown_same
+
+pub returns-clause-stays : goal.returns-clause-stays
+returns-clause-stays c = stay_alike

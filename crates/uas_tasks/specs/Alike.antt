@@ -1,0 +1,87 @@
+-- Two tags that nobody outside can tell apart: the same task, the same request out, and the same bytes where they matter.
+use Rattle.std.specs.Prelude.{◌≡◌, ℕ, false, List, length, take, drop, Option, Some, IfSome, IsSome}
+use Rattle.host_commands.specs.declared.BlockLength.{BlockLength}
+use Rattle.uas_tasks.specs.declared.Job.{Job}
+use Rattle.uas_tasks.specs.declared.JobKind.{JobKind}
+use Rattle.uas_tasks.specs.declared.Outcome.{Outcome}
+use Rattle.uas_tasks.specs.declared.Stage.{Stage}
+use Rattle.uas_tasks.specs.declared.Stage.TheVariants.{Asking, Waiting, Moving}
+use Rattle.uas_tasks.specs.declared.Task.{Task}
+use Rattle.uas_tasks.specs.declared.Task.TheVariants.{Giving, Blocks, Ended, Held}
+use Rattle.uas_tasks.specs.declared.saved.Span.{Span}
+use Rattle.uas_tasks.specs.declared.slot.Out.{Out}
+use Rattle.uas_tasks.specs.Saved.{asking_span, is_pending, moving_span, part_of, settled_slot}
+use Rattle.uas_tasks.specs.Slots.{SlotState, answered_slot, asked_slot, chunk_bytes, gave_slot, giving_slot, is_read, is_wrong_length, job_task, next_bytes, out_of, passed_out, passing_out, slot_wants, took_slot, with_task}
+use Rattle.uas_tasks.specs.Soundness.{IsSoundSlot, MayGive, MayTake}
+use Rattle.uas_tasks.specs.declared.Wants.TheVariants.{Asks}
+
+-- the bytes of the chunk buffer that matter at a stage: while its request is out, those that it takes to the backend
+abbrev pub needed_span : ℕ → Job → Stage → Span
+needed_span chunk job Asking = asking_span job.kind (chunk_bytes chunk job)
+needed_span chunk job Waiting = asking_span job.kind (chunk_bytes chunk job)
+needed_span chunk job (Moving at) = moving_span job.kind at (chunk_bytes chunk job)
+
+-- of data of the device those that weren't given yet
+abbrev pub MattersAlike : SlotState → SlotState → Task → Type 0
+MattersAlike one other (Giving unit at) = (length one.given ≡ length other.given) × (drop at one.given ≡ drop at other.given)
+MattersAlike one other (Blocks unit job stage) =
+    part_of (needed_span one.chunk job stage) one.bytes ≡ part_of (needed_span one.chunk job stage) other.bytes
+MattersAlike one other (Ended unit answer) = Unit {0}
+MattersAlike one other (Held unit code) = Unit {0}
+
+-- a request that is out takes bytes to the backend, but for a Read
+abbrev pub OutAlike : SlotState → SlotState → Out → Type 0
+OutAlike one other out = is_read out.request ≡ false → take out.len one.bytes ≡ take out.len other.bytes
+
+-- a task that waits does so for its own request
+abbrev pub IsOwn : ℕ → Option Out → Task → Type 0
+IsOwn chunk out (Giving unit at) = Unit {0}
+IsOwn chunk out (Blocks unit job Asking) = Unit {0}
+IsOwn chunk out (Blocks unit job Waiting) = out ≡ out_of chunk (Blocks unit job Waiting)
+IsOwn chunk out (Blocks unit job (Moving at)) = Unit {0}
+IsOwn chunk out (Ended unit answer) = Unit {0}
+IsOwn chunk out (Held unit code) = Unit {0}
+
+pub record AreAlike (one other : SlotState) : Type 0 where
+  pub chunk : one.chunk ≡ other.chunk
+  pub task : one.task ≡ other.task
+  pub turn : one.turn ≡ other.turn
+  pub out : one.out ≡ other.out
+  pub room : length one.bytes ≡ length other.bytes
+  pub own : IfSome one.task (IsOwn one.chunk one.out)
+  pub asked : IfSome one.out (OutAlike one other)
+  pub matters : IfSome one.task (MattersAlike one other)
+
+-- a task that has ended
+abbrev pub IsOver : Task → Type 0
+IsOver (Giving unit at) = ⊥
+IsOver (Blocks unit job stage) = ⊥
+IsOver (Ended unit answer) = Unit {0}
+IsOver (Held unit code) = Unit {0}
+
+-- A tag with the bytes 0 that don't matter is like the tag.
+abbrev pub SettledIsAlike : Type 0
+SettledIsAlike = (slot : SlotState) → IsSoundSlot slot → is_pending slot ≡ false → AreAlike slot (settled_slot slot)
+
+-- Two that are alike want the same, and give the same bytes.
+abbrev pub AlikeShowTheSame : Type 0
+AlikeShowTheSame =
+    (one other : SlotState) → AreAlike one other
+    → (slot_wants one ≡ slot_wants other)
+    × ((moved : ℕ) → IsSoundSlot one → MayGive (slot_wants one) moved → next_bytes one moved ≡ next_bytes other moved)
+
+-- And each call leaves them alike: a request is asked and answered, bytes are given, pass and are taken, and a task begins or is gone.
+pub record StayAlike (one other : SlotState) : Type 0 where
+  pub asked : slot_wants one ≡ Asks → AreAlike (asked_slot one) (asked_slot other)
+  pub answered : (out : Out) (outcome : Outcome) (bytes : List ℕ) → one.out ≡ Some out → is_wrong_length one out outcome (length bytes) ≡ false
+      → AreAlike (answered_slot one out outcome bytes) (answered_slot other out outcome bytes)
+  pub gave : (moved : ℕ) → MayGive (slot_wants one) moved → AreAlike (gave_slot one moved) (gave_slot other moved)
+  pub passed : (out : Out) → one.out ≡ Some out → IsSome (passing_out one out) → AreAlike (passed_out one out) (passed_out other out)
+  pub took : (bytes : List ℕ) → MayTake (slot_wants one) (length bytes) → AreAlike (took_slot one bytes) (took_slot other bytes)
+  pub over : (task : Option Task) → IfSome task IsOver → AreAlike (with_task one task) (with_task other task)
+  pub giving : (unit : Option ℕ) (given : List ℕ) → AreAlike (giving_slot one unit given) (giving_slot other unit given)
+  pub begun : (unit : ℕ) (kind : JobKind) (block_length : BlockLength) (lba count : ℕ)
+      → AreAlike (with_task one (Some (job_task unit kind block_length lba count))) (with_task other (Some (job_task unit kind block_length lba count)))
+
+abbrev pub AlikeStayAlike : Type 0
+AlikeStayAlike = (one other : SlotState) → AreAlike one other → IsSoundSlot one → StayAlike one other

@@ -11,3 +11,4 @@ pub mod Kept
 pub mod Alike
 pub mod Stays
 pub mod StaysOut
+pub mod Devices

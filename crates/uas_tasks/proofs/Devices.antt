@@ -1,7 +1,7 @@
 -- Two devices that are alike show the same and stay so. Cited by the law.
-use Rattle.std.proofs.Common.{◌≡◌, ℕ, zero, suc, ◌/◌, ◌%◌, ◌<◌, Bool, true, false, ◌&&◌, ◌||◌, cond, List, [], ◌∷◌, length, Option, Some, None, IfSome, Result, Ok, Err}
+use Rattle.std.proofs.Common.{◌≡◌, ℕ, zero, suc, ◌/◌, ◌%◌, ◌<◌, Bool, true, false, ◌&&◌, ◌||◌, cond, List, [], ◌∷◌, length, map, Option, Some, None, IfSome, Result, Ok, Err}
 use Rattle.std.proofs.Common.{refl, arith, ap, sym, ◌∙◌, subst}
-use Rattle.std.specs.Prelude.{◌==◌, is_some, not, option_and_then, option_map, slice_index_or, slice_set}
+use Rattle.std.specs.Prelude.{◌==◌, IsSome, is_some, not, option_and_then, option_map, slice_index_or, slice_set}
 use Rattle.std.specs.List.{AllZip, list_any}
 use Rattle.std.specs.Option.{option_map_or}
 use Rattle.uas_iu.specs.declared.Iu.{Iu}
@@ -17,72 +17,16 @@ use Rattle.uas_tasks.specs.declared.Wants.{Wants}
 use Rattle.uas_tasks.specs.declared.Wants.TheVariants.{Absent, Asks, Waits, Gives, Takes, Ends}
 use Rattle.uas_tasks.specs.Alike.{AlikeDevices, AreAlike, AreAlikeDevices, DevicesShowTheSame, DevicesStayAlike}
 use Rattle.uas_tasks.specs.Machine.{Machine, answer_on, answered, answered_out, gave, given, has_stale, is_held, next_asked, next_by, next_of, no_slot, out_of_number, out_on, request_out, slot_of, slot_under}
+use Rattle.uas_tasks.specs.Machine.{attentive, passed, passed_by, passing, powered, without_its_task}
 use Rattle.uas_tasks.specs.Machine.{took, wanted, with_slot, with_slot_under, without_task}
-use Rattle.uas_tasks.specs.Slots.{SlotState, answered_slot, asked_slot, brings_bytes, gave_slot, is_wrong_length, next_bytes, slot_wants, task_answer, took_slot, with_task}
+use Rattle.uas_tasks.specs.Slots.{SlotState, answered_slot, asked_slot, brings_bytes, gave_slot, is_wrong_length, next_bytes, passed_out, passing_out, slot_wants, task_answer, took_slot, with_task}
 use Rattle.uas_tasks.specs.Soundness.{IsSoundSlot, MayGive, MayTake}
 use Rattle.uas_tasks.specs.Stale.{held_by, is_stale, stale_unit, writes_out}
 use Rattle.uas_tasks.proofs.Keeping.{unheld, waits, wanted-free}
-use Rattle.uas_tasks.proofs.Stays.{shown_same}
+use Rattle.uas_tasks.proofs.Stays.{alike_is, others, over_alike, shown_same}
+use Rattle.uas_tasks.proofs.AlikeTags.{held_alike, tag_alike, written_alike}
+use Rattle.uas_tasks.proofs.ReceivedAlike.{received_alike}
 use Rattle.uas_tasks.proofs.StaysOut.{stay_alike}
-
--- TAGS
-
-no_alike : AreAlike no_slot no_slot
-no_alike = record { chunk = refl; task = refl; turn = refl; out = refl; room = refl; own = tt; asked = tt; matters = tt }
-
-place_alike : (ones others : List SlotState) (place : ℕ) → AllZip AreAlike ones others → AreAlike (slice_index_or ones place no_slot) (slice_index_or others place no_slot)
-place_alike [] [] place all = no_alike
-place_alike [] (other ∷ others) place all = absurd all
-place_alike (one ∷ ones) [] place all = absurd all
-place_alike (one ∷ ones) (other ∷ others) zero all = all.0
-place_alike (one ∷ ones) (other ∷ others) (suc place) all = place_alike ones others place all.1
-
-tag_alike : (ones others : List SlotState) (tag : ℕ) → AllZip AreAlike ones others → AreAlike (slot_under ones tag) (slot_under others tag)
-tag_alike ones others zero all = no_alike
-tag_alike ones others (suc place) all = place_alike ones others place all
-
-set_alike : (ones others : List SlotState) (place : ℕ) (one other : SlotState) → AreAlike one other → AllZip AreAlike ones others →
-    AllZip AreAlike (slice_set ones place one) (slice_set others place other)
-set_alike [] [] place one other alike all = all
-set_alike [] (y ∷ others) place one other alike all = absurd all
-set_alike (x ∷ ones) [] place one other alike all = absurd all
-set_alike (x ∷ ones) (y ∷ others) zero one other alike all = (alike, all.1)
-set_alike (x ∷ ones) (y ∷ others) (suc place) one other alike all = (all.0, set_alike ones others place one other alike all.1)
-
-under_alike : (ones others : List SlotState) (tag : ℕ) (one other : SlotState) → AreAlike one other → AllZip AreAlike ones others →
-    AllZip AreAlike (with_slot_under ones tag one) (with_slot_under others tag other)
-under_alike ones others zero one other alike all = all
-under_alike ones others (suc place) one other alike all = set_alike ones others place one other alike all
-
-written_alike : (one other : Machine) (tag : ℕ) (first second : SlotState) → AreAlikeDevices one other → AreAlike first second →
-    AreAlikeDevices (with_slot one tag first) (with_slot other tag second)
-written_alike one other tag first second alike same = record {
-  units = alike.units;
-  set = alike.set;
-  slots = under_alike one.slots other.slots tag first second same alike.slots;
-}
-
--- WHAT IS STALE, AND WHAT IS HELD
-
-stale_alike : (one other : SlotState) (number : ℕ) → AreAlike one other → is_stale number one ≡ is_stale number other
-stale_alike one other number alike =
-    ap (λ (t : Option Task). is_at number (cond (waits t) None (writes_out one))) alike.task
-    ∙ ap (λ (o : Option Out). is_at number (cond (waits other.task) None (writes_out (record other { out = o })))) alike.out
-
-any_alike : (ones others : List SlotState) (number : ℕ) → AllZip AreAlike ones others → list_any (is_stale number) ones ≡ list_any (is_stale number) others
-any_alike [] [] number all = refl
-any_alike [] (other ∷ others) number all = absurd all
-any_alike (one ∷ ones) [] number all = absurd all
-any_alike (one ∷ ones) (other ∷ others) number all = rw (stale_alike one other number all.0, any_alike ones others number all.1) refl
-
-held_alike : (one other : Machine) (first second : SlotState) → AreAlikeDevices one other → AreAlike first second → is_held one first ≡ is_held other second
-held_alike one other first second alike same =
-    by_unit (option_and_then held_by first.task)
-    ∙ ap (λ (t : Option Task). option_map_or (has_stale other) (option_and_then held_by t) false) same.task
-  where
-    by_unit : (unit : Option ℕ) → option_map_or (has_stale one) unit false ≡ option_map_or (has_stale other) unit false
-    by_unit None = refl
-    by_unit (Some number) = any_alike one.slots other.slots number alike.slots
 
 -- THEY SHOW THE SAME
 
@@ -177,6 +121,29 @@ some_there : (one : Machine) (number : ℕ) (out : Option Out) → out_of_number
 some_there one number None is = tt
 some_there one number (Some out) is = out_there one number out is
 
+-- A Read's bytes pass
+
+passed_by_alike : (one other : Machine) (tag : ℕ) (out : Option Out) → AreAlikeDevices one other → IsSoundSlot (slot_of one tag) →
+    IfSome out (λ o. (slot_of one tag).out ≡ Some o) → IsSome (option_and_then (passing_out (slot_of one tag)) out) →
+    AreAlikeDevices (passed_by one tag out) (passed_by other tag out)
+passed_by_alike one other tag None alike sound is some = alike
+passed_by_alike one other tag (Some out) alike sound is some =
+    written_alike one other tag (passed_out (slot_of one tag) out) (passed_out (slot_of other tag) out) alike
+    ((stay_alike (slot_of one tag) (slot_of other tag) (tag_alike one.slots other.slots tag alike.slots) sound).passed out is some)
+
+-- ALL TASKS ARE GONE
+
+without_alike : (one other : SlotState) → AreAlike one other → AreAlike (without_its_task one) (without_its_task other)
+without_alike one other same =
+    subst (λ (s : SlotState). AreAlike (without_its_task one) (without_its_task s)) (sym (alike_is one other same))
+    (over_alike one other.given other.bytes None (others one other same) tt)
+
+all_without : (ones others : List SlotState) → AllZip AreAlike ones others → AllZip AreAlike (map without_its_task ones) (map without_its_task others)
+all_without [] [] all = tt
+all_without [] (other ∷ others) all = absurd all
+all_without (one ∷ ones) [] all = absurd all
+all_without (one ∷ ones) (other ∷ others) all = (without_alike one other all.0, all_without ones others all.1)
+
 pub devices_alike : AlikeDevices
 devices_alike one other alike = (shown one other alike, record {
   on_next = λ tag sound.
@@ -192,6 +159,14 @@ devices_alike one other alike = (shown one other alike, record {
   on_took = λ tag bytes sound may.
       written_alike one other tag (took_slot (slot_of one tag) bytes) (took_slot (slot_of other tag) bytes) alike
       ((stay_alike (slot_of one tag) (slot_of other tag) (tag_alike one.slots other.slots tag alike.slots) sound).took bytes (takes_free one tag bytes may));
+  on_passed = λ number sound some.
+      let P : Option Out → Type 0 = λ o. AreAlikeDevices (passed one number) (passed_by other (number % 256) o) in
+      subst P (out_alike one other number alike)
+      (passed_by_alike one other (number % 256) (out_of_number one number) alike sound (some_there one number (out_of_number one number) refl) some);
+  on_received = received_alike one other alike;
+  on_reset = record { units = ap (map attentive) alike.units; set = alike.set; slots = all_without one.slots other.slots alike.slots };
+  on_power = record { units = ap (map powered) alike.units; set = alike.set; slots = all_without one.slots other.slots alike.slots };
+  on_ended = record { units = alike.units; set = alike.set; slots = all_without one.slots other.slots alike.slots };
   on_sent = λ tag sound.
       written_alike one other tag (with_task (slot_of one tag) None) (with_task (slot_of other tag) None) alike
       ((stay_alike (slot_of one tag) (slot_of other tag) (tag_alike one.slots other.slots tag alike.slots) sound).over None tt);

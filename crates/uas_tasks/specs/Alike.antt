@@ -11,7 +11,7 @@ use Rattle.uas_tasks.specs.declared.Task.{Task}
 use Rattle.uas_tasks.specs.declared.Task.TheVariants.{Giving, Blocks, Ended, Held}
 use Rattle.uas_tasks.specs.declared.saved.Span.{Span}
 use Rattle.uas_tasks.specs.declared.slot.Out.{Out}
-use Rattle.uas_tasks.specs.Machine.{Machine, answer_on, answered, gave, given, next_of, request_out, slot_of, took, wanted, without_task}
+use Rattle.uas_tasks.specs.Machine.{Machine, answer_on, answered, gave, given, next_of, passed, passing, powered_machine, received, request_out, reset_machine, slot_of, tasks_ended, took, wanted, without_task}
 use Rattle.uas_tasks.specs.Saved.{asking_span, is_pending, moving_span, part_of, settled_slot}
 use Rattle.uas_tasks.specs.Slots.{SlotState, answered_slot, asked_slot, chunk_bytes, gave_slot, giving_slot, is_read, is_wrong_length, job_task, next_bytes, out_of, passed_out, passing_out, slot_wants, took_slot, with_task}
 use Rattle.uas_tasks.specs.Soundness.{IsSoundSlot, MayGive, MayTake}
@@ -112,6 +112,12 @@ pub record DevicesStayAlike (one other : Machine) : Type 0 where
   pub on_took : (tag : ℕ) (bytes : List ℕ) → IsSoundSlot (slot_of one tag) → MayTake (wanted one tag) (length bytes)
       → AreAlikeDevices (took one tag bytes) (took other tag bytes)
   pub on_sent : (tag : ℕ) → IsSoundSlot (slot_of one tag) → AreAlikeDevices (without_task one tag) (without_task other tag)
+
+  pub on_passed : (number : ℕ) → IsSoundSlot (slot_of one (number % 256)) → IsSome (passing one number) → AreAlikeDevices (passed one number) (passed other number)
+  pub on_received : (bytes : List ℕ) → ((received one bytes).1 ≡ (received other bytes).1) × AreAlikeDevices (received one bytes).0 (received other bytes).0
+  pub on_reset : AreAlikeDevices (reset_machine one) (reset_machine other)
+  pub on_power : AreAlikeDevices (powered_machine one) (powered_machine other)
+  pub on_ended : AreAlikeDevices (tasks_ended one) (tasks_ended other)
 
 abbrev pub AlikeDevices : Type 0
 AlikeDevices = (one other : Machine) → AreAlikeDevices one other → DevicesShowTheSame one other × DevicesStayAlike one other

@@ -1,5 +1,5 @@
 -- The tags of two devices that are alike. Cited by what says so of their calls.
-use Rattle.std.proofs.Common.{◌≡◌, ℕ, zero, suc, Bool, true, false, cond, List, [], ◌∷◌, Option, Some, None}
+use Rattle.std.proofs.Common.{◌≡◌, ℕ, zero, suc, false, cond, List, [], ◌∷◌, Option, Some, None}
 use Rattle.std.proofs.Common.{refl, ap, ◌∙◌}
 use Rattle.std.specs.Prelude.{option_and_then, slice_index_or, slice_set}
 use Rattle.std.specs.List.{AllZip, list_any}

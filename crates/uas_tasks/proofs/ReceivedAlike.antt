@@ -1,6 +1,6 @@
 -- What two devices that are alike make of an information unit. Cited by the law.
-use Rattle.std.proofs.Common.{◌≡◌, ℕ, zero, suc, ◌%◌, Bool, true, false, ◌&&◌, ◌||◌, cond, List, [], ◌∷◌, length, map, Option, Some, None, IfSome, Result, Ok, Err}
-use Rattle.std.proofs.Common.{refl, arith, ap, sym, ◌∙◌, subst}
+use Rattle.std.proofs.Common.{◌≡◌, ℕ, Bool, true, false, ◌&&◌, cond, List, [], ◌∷◌, length, map, Option, Some, None, IfSome, Result, Ok, Err}
+use Rattle.std.proofs.Common.{refl, ap, sym, ◌∙◌, subst}
 use Rattle.std.specs.Prelude.{◌==◌, is_some, nat_le, not, slice_index, slice_set}
 use Rattle.std.specs.List.{AllZip, list_any}
 use Rattle.std.specs.Option.{option_map_or}
@@ -28,8 +28,8 @@ use Rattle.uas_tasks.specs.declared.LogicalUnit.{LogicalUnit}
 use Rattle.uas_tasks.specs.declared.Task.{Task}
 use Rattle.uas_tasks.specs.declared.Task.TheVariants.{Giving, Blocks, Ended, Held}
 use Rattle.uas_tasks.specs.Alike.{AreAlike, AreAlikeDevices, IsOver}
-use Rattle.uas_tasks.specs.Machine.{Machine, aborted_on, begun, begun_as, completed, executed, executed_on, has_stale, has_task, managed, on_its_tag, queried_on, received, received_unit, received_unreadable}
-use Rattle.uas_tasks.specs.Machine.{reported_as, reset_on, reset_over, responded, slot_of, slot_under, with_answer, with_slot, with_slot_under, with_task_on}
+use Rattle.uas_tasks.specs.Machine.{Machine, aborted_on, begun_as, completed, executed_on, has_stale, has_task, managed, on_its_tag, queried_on, received, received_unit, received_unreadable}
+use Rattle.uas_tasks.specs.Machine.{reported_as, reset_on, reset_over, responded, slot_of, slot_under, with_answer, with_task_on}
 use Rattle.uas_tasks.specs.Slots.{SlotState, blocks_synchronized, ended_check, ended_good, giving_slot, has_command, is_command_of, is_tag, job_task, spared, spared_slot, started, started_none, with_task}
 use Rattle.uas_tasks.specs.Soundness.{IsAnswer}
 use Rattle.uas_tasks.proofs.AlikeTags.{any_alike, tag_alike, under_alike, written_alike}
@@ -116,7 +116,14 @@ spared_same one other number same =
     by_end : (ends : Bool) → AreAlike (with_task one (cond ends None one.task)) (with_task other (cond ends None one.task))
     by_end true = over one other None same tt
     by_end false = record {
-      chunk = same.chunk; task = refl; turn = same.turn; out = same.out; room = same.room; own = same.own; asked = same.asked; matters = same.matters;
+      chunk = same.chunk;
+      task = refl;
+      turn = same.turn;
+      out = same.out;
+      room = same.room;
+      own = same.own;
+      asked = same.asked;
+      matters = same.matters;
     }
 
 spared_all : (ones others : List SlotState) (number : ℕ) → AllZip AreAlike ones others → AllZip AreAlike (map (spared_slot number) ones) (map (spared_slot number) others)
@@ -149,9 +156,11 @@ aborted_same units set ones others number tag None all = (refl, record { units =
 aborted_same units set ones others number tag (Some unit) all =
     let here = tag_alike ones others tag all in
     let after = written_alike (made units set ones) (made units set others) tag (spared_slot number (slot_under ones tag)) (spared_slot number (slot_under others tag))
-    (record { units = refl; set = refl; slots = all }) (spared_same (slot_under ones tag) (slot_under others tag) number here) in
-    (completed_same _ _ number (has_command number (slot_under ones tag)) (has_command number (slot_under others tag)) after
-    (command_same (slot_under ones tag) (slot_under others tag) number here), after)
+    (record { units = refl; set = refl; slots = all }) (spared_same (slot_under ones tag) (slot_under others tag) number here) in (
+      completed_same _ _ number (has_command number (slot_under ones tag)) (has_command number (slot_under others tag)) after
+          (command_same (slot_under ones tag) (slot_under others tag) number here),
+      after,
+    )
 
 reset_same : (units : List LogicalUnit) (set : CommandSet) (ones others : List SlotState) (number : ℕ) (unit : Option LogicalUnit) → AllZip AreAlike ones others →
     Both (reset_on (made units set ones) number unit) (reset_on (made units set others) number unit)
@@ -166,9 +175,10 @@ reset_same units set ones others number (Some unit) all =
 queried_same : (units : List LogicalUnit) (set : CommandSet) (ones others : List SlotState) (number tag : ℕ) (unit : Option LogicalUnit) → AllZip AreAlike ones others →
     Both (queried_on (made units set ones) number tag unit) (queried_on (made units set others) number tag unit)
 queried_same units set ones others number tag None all = (refl, record { units = refl; set = refl; slots = all })
-queried_same units set ones others number tag (Some unit) all =
-    (ap (λ b. responded (cond b 8 0)) (command_same (slot_under ones tag) (slot_under others tag) number (tag_alike ones others tag all)),
-    record { units = refl; set = refl; slots = all })
+queried_same units set ones others number tag (Some unit) all = (
+  ap (λ b. responded (cond b 8 0)) (command_same (slot_under ones tag) (slot_under others tag) number (tag_alike ones others tag all)),
+  record { units = refl; set = refl; slots = all },
+)
 
 either_same : (b : Bool) (one first other second : Machine × Task) → Both one first → Both other second → Both (cond b one other) (cond b first second)
 either_same true one first other second here there = here
@@ -234,9 +244,11 @@ unreadable_same one other bytes tag alike =
     in
     subst P same
     (either_tell (nat_le 4 (length bytes) && is_tag tag && not (has_task one tag)) (with_task_on one tag (responded 2), Ok (Began tag))
-    (with_task_on other tag (responded 2), Ok (Began tag)) (one, Ok Dropped) (other, Ok Dropped)
-    (refl, written_alike one other tag (with_task (slot_of one tag) (Some (responded 2))) (with_task (slot_of other tag) (Some (responded 2))) alike
-    (over (slot_of one tag) (slot_of other tag) (Some (responded 2)) here tt)) (refl, alike))
+    (with_task_on other tag (responded 2), Ok (Began tag)) (one, Ok Dropped) (other, Ok Dropped) (
+      refl,
+      written_alike one other tag (with_task (slot_of one tag) (Some (responded 2))) (with_task (slot_of other tag) (Some (responded 2))) alike
+          (over (slot_of one tag) (slot_of other tag) (Some (responded 2)) here tt),
+    ) (refl, alike))
 
 unit_same : (units : List LogicalUnit) (set : CommandSet) (ones others : List SlotState) (bytes : List ℕ) (tag : ℕ) → AllZip AreAlike ones others →
     Tell (received_unit (made units set ones) bytes tag) (received_unit (made units set others) bytes tag)

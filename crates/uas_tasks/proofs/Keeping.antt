@@ -383,7 +383,7 @@ spared-within shapes unit slot was =
 
 -- WHERE A TAG ISN'T HELD it wants what its slot wants
 
-unheld : (P : Wants → Type 0) → (P Waits → ⊥) → (held : Bool) (own : Wants) → P (cond held Waits own) → P own
+pub unheld : (P : Wants → Type 0) → (P Waits → ⊥) → (held : Bool) (own : Wants) → P (cond held Waits own) → P own
 unheld P none true own so = absurd (none so)
 unheld P none false own so = so
 

@@ -1,6 +1,6 @@
 -- What is kept of a tag is a state that a tag can have, and the tag that has it again keeps the same. Cited by the law and by has_request_out.
 use Rattle.std.proofs.Common.{◌≡◌, ℕ, zero, suc, ◌+◌, ◌*◌, ◌<◌, ◌≤◌, Bool, true, false, List, [], ◌∷◌, ◌++◌, length, replicate, take, drop, Option, Some, None, IfSome}
-use Rattle.std.proofs.Common.{refl, arith, ap, sym, ◌∙◌, subst, inl, inr, length-drop, length-take}
+use Rattle.std.proofs.Common.{All, refl, arith, ap, sym, ◌∙◌, subst, inl, inr, length-drop, length-take}
 use Rattle.std.specs.Prelude.{◌==◌, is_some, slice_index_or}
 use Rattle.std.specs.List.{list_any}
 use Rattle.std.specs.Option.{option_map_or}
@@ -220,8 +220,11 @@ none_pending (slot ∷ slots) still =
 
 pub all_savable : (units : List LogicalUnit) (set : CommandSet) (stale : List ℕ) (slots : List SlotState) → IsSoundMachine units stale slots →
     AreStill (length slots) slots → AreSavable (record { units = units; set = set; slots = slots })
-all_savable units set stale slots sound still = record { units = sound.most_units; slots = sound.places; tags = by_tag; few = few_by }
+all_savable units set stale slots sound still = record { units = sound.most_units; slots = sound.places; sound = each; tags = by_tag; few = few_by }
   where
+    each : All IsSoundSlot slots
+    each k d within = subst IsSoundSlot (get_or_default slots k no_slot d within) (still k within).sound
+
     few_by : (tag : ℕ) → length (kept_bytes (slot_under slots tag)) ≤ 524288
     few_by zero = omega arith
     few_by (suc place) =

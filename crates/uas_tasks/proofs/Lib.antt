@@ -11,3 +11,6 @@ pub mod Kept
 pub mod Alike
 pub mod Stays
 pub mod StaysOut
+pub mod AlikeTags
+pub mod ReceivedAlike
+pub mod Devices

@@ -22,7 +22,7 @@ use Rattle.uas_tasks.specs.Alike.{AlikeShowTheSame, AreAlike, IsOver, IsOwn, Mat
 use Rattle.uas_tasks.specs.Saved.{moving_span, part_of}
 use Rattle.uas_tasks.specs.Slots.{SlotState, chunk_blocks, chunk_bytes, ended_good, first_stage, gave_task, giving_slot, job_task, moved_on, moved_way, next_bytes, next_chunk}
 use Rattle.uas_tasks.specs.Slots.{slot_wants, task_bytes, task_wants, with_task}
-use Rattle.uas_tasks.specs.Soundness.{IsSoundSlot, MayGive, MayTake}
+use Rattle.uas_tasks.specs.Soundness.{MayGive, MayTake}
 
 -- A TAG WITH OTHER BYTES
 
@@ -107,10 +107,10 @@ pub shown_same : AlikeShowTheSame
 shown_same one other alike =
     let all = others one other alike in
     let P : SlotState → Type 0 = λ s. (slot_wants one ≡ slot_wants s)
-    × ((moved : ℕ) → IsSoundSlot one → MayGive (slot_wants one) moved → next_bytes one moved ≡ next_bytes s moved)
+    × ((moved : ℕ) → MayGive (slot_wants one) moved → next_bytes one moved ≡ next_bytes s moved)
     in
     subst P (sym (alike_is one other alike))
-    (wants_same one other.given other.bytes one.task all.matters, λ moved sound may. next_same one other.given other.bytes one.task moved all.matters may)
+    (wants_same one other.given other.bytes one.task all.matters, λ moved may. next_same one other.given other.bytes one.task moved all.matters may)
 
 -- A TASK BEGINS, OR IS GONE
 

@@ -1,10 +1,10 @@
 -- Two tags that are alike stay so as requests are asked and answered, and as bytes are taken. Cited by the law.
-use Rattle.std.proofs.Common.{◌≡◌, ℕ, ◌+◌, ◌-◌, ◌%◌, ◌^◌, ◌≤◌, Bool, true, false, ◌&&◌, cond, List, ◌++◌, length, take, drop, Option, Some, None, IfSome}
-use Rattle.std.proofs.Common.{refl, arith, ap, sym, ◌∙◌, subst, append_assoc, length-append, length-drop, length-take}
+use Rattle.std.proofs.Common.{◌≡◌, ℕ, ◌+◌, ◌-◌, ◌%◌, ◌^◌, ◌≤◌, Bool, true, false, ◌&&◌, cond, List, ◌++◌, length, take, drop, Option, Some, None}
+use Rattle.std.proofs.Common.{[], inl, inr, refl, arith, ap, sym, ◌∙◌, subst, append_assoc, length-append, length-drop, length-take}
 use Rattle.std.specs.Prelude.{◌==◌, is_some, IsSome, nat_lt, not, option_and_then, option_map}
 use Rattle.std.specs.Option.{option_map_or}
-use Rattle.std.proofs.lemmas.Bool.{eqb-true, le-ltb, ltb-false, not-false}
-use Rattle.std.proofs.lemmas.List.{length-take-le, take-take, take_at}
+use Rattle.std.proofs.lemmas.Bool.{cases_lt, eqb-true, le-ltb, ltb-false, not-false}
+use Rattle.std.proofs.lemmas.List.{drop_all, length-take-le, take-take, take_at}
 use Rattle.scsi_cmd.specs.Buffers.{with_bytes_at}
 use Rattle.uas_tasks.specs.declared.Job.{Job}
 use Rattle.uas_tasks.specs.declared.JobKind.{JobKind}
@@ -21,8 +21,7 @@ use Rattle.uas_tasks.specs.Saved.{asking_span, moving_span, part_of}
 use Rattle.uas_tasks.specs.Slots.{SlotState, after_answer, after_outcome, chunk_bytes, done_by, ended_check, ended_good, gave_task, is_done, is_read}
 use Rattle.uas_tasks.specs.Slots.{medium_error, miscompare, moved_way, next_chunk, not_ready, out_of, request_bytes, request_of}
 use Rattle.uas_tasks.specs.Slots.{task_taken, task_waits, task_wants, took_task, waiting, with_task}
-use Rattle.uas_tasks.specs.Soundness.{FitsRoom, IsSoundTask, MayTake}
-use Rattle.uas_tasks.proofs.Kept.{chunk-fits}
+use Rattle.uas_tasks.specs.Soundness.{MayTake}
 use Rattle.uas_tasks.proofs.Restoring.{apart}
 use Rattle.uas_tasks.proofs.Stays.{OthersAlike, alike_is, alike_task, free_takes, gave_alike, giving_alike, job_alike, next_alike, other_bytes, others, over_alike}
 
@@ -103,6 +102,20 @@ take-with bytes at new within =
     let rest : List ℕ = drop (at + length new) bytes in
     let long : length (take at bytes ++ new) ≡ at + length new = omega (arith, length-append (take at bytes) new, length-take-le at bytes within) in
     ap (take (at + length new)) (sym (append_assoc (take at bytes) new rest)) ∙ take_at (take at bytes ++ new) rest (at + length new) long
+
+-- of two lists of a length that are the same up to there
+written_same : (bytes others : List ℕ) (at : ℕ) (new : List ℕ) → length bytes ≡ length others → take at bytes ≡ take at others →
+    take (at + length new) (with_bytes_at bytes at new) ≡ take (at + length new) (with_bytes_at others at new)
+unfolding with_bytes_at
+written_same bytes others at new room same =
+    elim (cases_lt (length bytes) at) [
+      | inl past ↦
+          let one : drop (at + length new) bytes ≡ [] = drop_all (at + length new) bytes (omega (arith, past)) in
+          let two : drop (at + length new) others ≡ [] = drop_all (at + length new) others (omega (arith, past, room)) in
+          rw (one, two, same) refl
+      | inr within ↦
+          take-with bytes at new within ∙ ap (λ front. front ++ new) same ∙ sym (take-with others at new (omega (arith, within, room)))
+    ]
 
 -- A REQUEST IS ANSWERED
 
@@ -250,19 +263,14 @@ Took one given bytes new task =
     (record (other_bytes one given bytes) { task = option_map (took_task one.chunk (length new)) task; bytes = option_map_or (task_taken bytes new) task bytes })
 
 -- of a kind whose bytes come from the host: those so far matter, and of a task that is to ask the first so many
-took_chunk : (one : SlotState) (given bytes new : List ℕ) (unit at : ℕ) (job : Job) (many : ℕ) → length one.bytes ≡ length bytes → one.out ≡ None → at ≤ length one.bytes →
+took_chunk : (one : SlotState) (given bytes new : List ℕ) (unit at : ℕ) (job : Job) (many : ℕ) → length one.bytes ≡ length bytes → one.out ≡ None →
     many ≤ chunk_bytes one.chunk job → asking_span job.kind (chunk_bytes one.chunk job) ≡ record { from = 0; many = many } →
     ((k : ℕ) → moving_span job.kind k (chunk_bytes one.chunk job) ≡ record { from = 0; many = k }) → take at one.bytes ≡ take at bytes →
     Took one given bytes new (Some (Blocks unit job (Moving at)))
-took_chunk one given bytes new unit at job many room none within few asks moves same = by_left (nat_lt (at + length new) (chunk_bytes one.chunk job)) refl
+took_chunk one given bytes new unit at job many room none few asks moves same = by_left (nat_lt (at + length new) (chunk_bytes one.chunk job)) refl
   where
-    now : SlotState
-    now = record one { bytes = with_bytes_at one.bytes at new }
-
     written : take (at + length new) (with_bytes_at one.bytes at new) ≡ take (at + length new) (with_bytes_at bytes at new)
-    written =
-        take-with one.bytes at new within ∙ ap (λ front. front ++ new) same
-        ∙ sym (take-with bytes at new (omega (arith, within, room)))
+    written = written_same one.bytes bytes at new room same
 
     by_left : (left : Bool) → nat_lt (at + length new) (chunk_bytes one.chunk job) ≡ left →
         AreAlike (record one { task = Some (cond left (Blocks unit job (Moving (at + length new))) (Blocks unit job Asking)); bytes = with_bytes_at one.bytes at new })
@@ -298,36 +306,34 @@ few_bytes false true all = omega arith
 few_bytes false false all = omega arith
 
 took_kind : (one : SlotState) (given bytes new : List ℕ) (unit at : ℕ) (job : Job) (kind : JobKind) → job.kind ≡ kind → length one.bytes ≡ length bytes → one.out ≡ None →
-    at ≤ length one.bytes → MayTake (moved_way kind (chunk_bytes one.chunk job - at)) (length new) →
+    MayTake (moved_way kind (chunk_bytes one.chunk job - at)) (length new) →
     part_of (moving_span kind at (chunk_bytes one.chunk job)) one.bytes ≡ part_of (moving_span kind at (chunk_bytes one.chunk job)) bytes →
     Took one given bytes new (Some (Blocks unit job (Moving at)))
-took_kind one given bytes new unit at job Reads same room none within may matters = absurd may
-took_kind one given bytes new unit at job (Writes through) same room none within may matters =
-    took_chunk one given bytes new unit at job (chunk_bytes one.chunk job) room none within (omega arith) (rw same refl) (λ k. rw same refl) matters
-took_kind one given bytes new unit at job Compares same room none within may matters =
-    took_chunk one given bytes new unit at job (chunk_bytes one.chunk job) room none within (omega arith) (rw same refl) (λ k. rw same refl) matters
-took_kind one given bytes new unit at job Verifies same room none within may matters = absurd may
-took_kind one given bytes new unit at job Synchronizes same room none within may matters = absurd may
-took_kind one given bytes new unit at job (WritesAndVerifies compares has_written) same room none within may matters =
-    took_chunk one given bytes new unit at job (request_bytes (WritesAndVerifies compares has_written) (chunk_bytes one.chunk job)) room none within
+took_kind one given bytes new unit at job Reads same room none may matters = absurd may
+took_kind one given bytes new unit at job (Writes through) same room none may matters =
+    took_chunk one given bytes new unit at job (chunk_bytes one.chunk job) room none (omega arith) (rw same refl) (λ k. rw same refl) matters
+took_kind one given bytes new unit at job Compares same room none may matters =
+    took_chunk one given bytes new unit at job (chunk_bytes one.chunk job) room none (omega arith) (rw same refl) (λ k. rw same refl) matters
+took_kind one given bytes new unit at job Verifies same room none may matters = absurd may
+took_kind one given bytes new unit at job Synchronizes same room none may matters = absurd may
+took_kind one given bytes new unit at job (WritesAndVerifies compares has_written) same room none may matters =
+    took_chunk one given bytes new unit at job (request_bytes (WritesAndVerifies compares has_written) (chunk_bytes one.chunk job)) room none
     (few_bytes compares has_written (chunk_bytes one.chunk job)) (rw same refl) (λ k. rw same refl) matters
 
 took_alike : (one : SlotState) (given bytes new : List ℕ) (task : Option Task) → OthersAlike one given bytes task one.out →
-    IfSome task (IsSoundTask one.chunk (length one.given)) → IfSome task (FitsRoom one.chunk (length one.bytes)) →
     MayTake (option_map_or (task_wants one.chunk (is_some one.out) (length one.given)) task Absent) (length new) → Took one given bytes new task
-took_alike one given bytes new None all sound fits may = absurd may
-took_alike one given bytes new (Some (Giving unit at)) all sound fits may = absurd may
-took_alike one given bytes new (Some (Blocks unit job Asking)) all sound fits may = absurd (free_takes (length new) (is_some one.out) Asks may).1
-took_alike one given bytes new (Some (Blocks unit job Waiting)) all sound fits may = absurd (free_takes (length new) (is_some one.out) Waits may).1
-took_alike one given bytes new (Some (Blocks unit job (Moving at))) all sound fits may =
+took_alike one given bytes new None all may = absurd may
+took_alike one given bytes new (Some (Giving unit at)) all may = absurd may
+took_alike one given bytes new (Some (Blocks unit job Asking)) all may = absurd (free_takes (length new) (is_some one.out) Asks may).1
+took_alike one given bytes new (Some (Blocks unit job Waiting)) all may = absurd (free_takes (length new) (is_some one.out) Waits may).1
+took_alike one given bytes new (Some (Blocks unit job (Moving at))) all may =
     let takes = free_takes (length new) (is_some one.out) (moved_way job.kind (chunk_bytes one.chunk job - at)) may in
-    let whole = chunk-fits one.chunk (length one.bytes) job fits in
-    took_kind one given bytes new unit at job job.kind refl all.room (none_out one.out takes.0) (omega (arith, whole, sound.1.0)) takes.1 all.matters
-took_alike one given bytes new (Some (Ended unit answer)) all sound fits may = absurd may
-took_alike one given bytes new (Some (Held unit code)) all sound fits may = absurd may
+    took_kind one given bytes new unit at job job.kind refl all.room (none_out one.out takes.0) takes.1 all.matters
+took_alike one given bytes new (Some (Ended unit answer)) all may = absurd may
+took_alike one given bytes new (Some (Held unit code)) all may = absurd may
 
 pub stay_alike : AlikeStayAlike
-stay_alike one other alike sound =
+stay_alike one other alike =
     let all = others one other alike in
     let given : List ℕ = other.given in
     let bytes : List ℕ = other.bytes in
@@ -339,7 +345,7 @@ stay_alike one other alike sound =
       answered = λ out outcome new is right. answered_alike one given bytes new one.task out outcome (with_out out is) right;
       gave = λ moved may. gave_alike one given bytes one.task moved all may;
       passed = λ out is some. passed_alike one given bytes one.task out (with_out out is) some;
-      took = λ new may. took_alike one given bytes new one.task all sound.task sound.fits may;
+      took = λ new may. took_alike one given bytes new one.task all may;
       over = λ task over. over_alike one given bytes task all over;
       giving = λ unit new. giving_alike one given bytes unit new all.room all.asked;
       begun = λ unit kind block_length lba count. job_alike one given bytes unit kind block_length lba count all.room all.asked;

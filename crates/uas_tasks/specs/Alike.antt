@@ -1,5 +1,6 @@
 -- Two tags that nobody outside can tell apart: the same task, the same request out, and the same bytes where they matter.
 use Rattle.std.specs.Prelude.{◌≡◌, ℕ, false, List, length, take, drop, Option, Some, IfSome, IsSome}
+use Rattle.std.specs.List.{All, AllZip}
 use Rattle.host_commands.specs.declared.BlockLength.{BlockLength}
 use Rattle.uas_tasks.specs.declared.Job.{Job}
 use Rattle.uas_tasks.specs.declared.JobKind.{JobKind}
@@ -10,7 +11,8 @@ use Rattle.uas_tasks.specs.declared.Task.{Task}
 use Rattle.uas_tasks.specs.declared.Task.TheVariants.{Giving, Blocks, Ended, Held}
 use Rattle.uas_tasks.specs.declared.saved.Span.{Span}
 use Rattle.uas_tasks.specs.declared.slot.Out.{Out}
-use Rattle.uas_tasks.specs.Saved.{asking_span, is_pending, moving_span, part_of, settled_slot}
+use Rattle.uas_tasks.specs.Machine.{Machine, answer_on, answered, gave, given, next_of, passed, passing, powered_machine, received, request_out, reset_machine, tasks_ended, took, wanted, without_task}
+use Rattle.uas_tasks.specs.Saved.{asking_span, has_request_out, is_pending, moving_span, part_of, settled_machine, settled_slot}
 use Rattle.uas_tasks.specs.Slots.{SlotState, answered_slot, asked_slot, chunk_bytes, gave_slot, giving_slot, is_read, is_wrong_length, job_task, next_bytes, out_of, passed_out, passing_out, slot_wants, took_slot, with_task}
 use Rattle.uas_tasks.specs.Soundness.{IsSoundSlot, MayGive, MayTake}
 use Rattle.uas_tasks.specs.declared.Wants.TheVariants.{Asks}
@@ -68,7 +70,7 @@ abbrev pub AlikeShowTheSame : Type 0
 AlikeShowTheSame =
     (one other : SlotState) → AreAlike one other
     → (slot_wants one ≡ slot_wants other)
-    × ((moved : ℕ) → IsSoundSlot one → MayGive (slot_wants one) moved → next_bytes one moved ≡ next_bytes other moved)
+    × ((moved : ℕ) → MayGive (slot_wants one) moved → next_bytes one moved ≡ next_bytes other moved)
 
 -- And each call leaves them alike: a request is asked and answered, bytes are given, pass and are taken, and a task begins or is gone.
 pub record StayAlike (one other : SlotState) : Type 0 where
@@ -84,4 +86,42 @@ pub record StayAlike (one other : SlotState) : Type 0 where
       → AreAlike (with_task one (Some (job_task unit kind block_length lba count))) (with_task other (Some (job_task unit kind block_length lba count)))
 
 abbrev pub AlikeStayAlike : Type 0
-AlikeStayAlike = (one other : SlotState) → AreAlike one other → IsSoundSlot one → StayAlike one other
+AlikeStayAlike = (one other : SlotState) → AreAlike one other → StayAlike one other
+
+-- DEVICES: the same logical units, and tags that are alike
+
+pub record AreAlikeDevices (one other : Machine) : Type 0 where
+  pub units : one.units ≡ other.units
+  pub set : one.set ≡ other.set
+  pub slots : AllZip AreAlike one.slots other.slots
+
+-- Two that are alike want the same on each tag, give the same bytes, and have the same answers and stale requests.
+pub record DevicesShowTheSame (one other : Machine) : Type 0 where
+  pub wants_same : (tag : ℕ) → wanted one tag ≡ wanted other tag
+  pub gives_same : (tag moved : ℕ) → MayGive (wanted one tag) moved → given one tag moved ≡ given other tag moved
+  pub answers_same : (tag : ℕ) → answer_on one tag ≡ answer_on other tag
+  pub requests_same : (number : ℕ) → request_out one number ≡ request_out other number
+
+-- And each call leaves them alike, and tells the same.
+pub record DevicesStayAlike (one other : Machine) : Type 0 where
+  pub on_next : (tag : ℕ) → ((next_of one tag).1 ≡ (next_of other tag).1) × AreAlikeDevices (next_of one tag).0 (next_of other tag).0
+  pub on_answered : (number : ℕ) (outcome : Outcome) (bytes : List ℕ)
+      → ((answered one number outcome bytes).1 ≡ (answered other number outcome bytes).1)
+      × AreAlikeDevices (answered one number outcome bytes).0 (answered other number outcome bytes).0
+  pub on_gave : (tag moved : ℕ) → MayGive (wanted one tag) moved → AreAlikeDevices (gave one tag moved) (gave other tag moved)
+  pub on_took : (tag : ℕ) (bytes : List ℕ) → MayTake (wanted one tag) (length bytes)
+      → AreAlikeDevices (took one tag bytes) (took other tag bytes)
+  pub on_sent : (tag : ℕ) → AreAlikeDevices (without_task one tag) (without_task other tag)
+  pub on_passed : (number : ℕ) → IsSome (passing one number) → AreAlikeDevices (passed one number) (passed other number)
+  pub on_received : (bytes : List ℕ) → ((received one bytes).1 ≡ (received other bytes).1) × AreAlikeDevices (received one bytes).0 (received other bytes).0
+  pub on_reset : AreAlikeDevices (reset_machine one) (reset_machine other)
+  pub on_power : AreAlikeDevices (powered_machine one) (powered_machine other)
+  pub on_ended : AreAlikeDevices (tasks_ended one) (tasks_ended other)
+
+-- A device with the bytes 0 that don't matter is like the device.
+abbrev pub SettledDeviceIsAlike : Type 0
+SettledDeviceIsAlike =
+    (machine : Machine) → All IsSoundSlot machine.slots → has_request_out machine ≡ false → AreAlikeDevices machine (settled_machine machine)
+
+abbrev pub AlikeDevices : Type 0
+AlikeDevices = (one other : Machine) → AreAlikeDevices one other → DevicesShowTheSame one other × DevicesStayAlike one other

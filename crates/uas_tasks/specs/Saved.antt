@@ -1,7 +1,7 @@
 -- What matters of a device at a moment when no request is out, and the device that has it again: bytes that don't matter are 0 there.
-use Rattle.std.specs.Prelude.{◌≡◌, ℕ, ◌+◌, ◌-◌, ◌<◌, ◌≤◌, ◌==◌, nat_lt, nat_le, Bool, true, false, not, ◌&&◌, ◌||◌, if◌then◌else◌, List, [], ◌++◌, length, take, drop, replicate, slice_get}
+use Rattle.std.specs.Prelude.{◌≡◌, ℕ, ◌+◌, ◌-◌, ◌<◌, ◌≤◌, ◌==◌, nat_lt, nat_le, Bool, true, false, not, ◌&&◌, ◌||◌, if◌then◌else◌, List, [], ◌++◌, length, map, take, drop, replicate, slice_get}
 use Rattle.std.specs.Prelude.{Option, None, is_some, option_and_then, option_map, Result, Ok, Err}
-use Rattle.std.specs.List.{list_any}
+use Rattle.std.specs.List.{All, list_any}
 use Rattle.std.specs.Option.{option_map_or}
 use Rattle.scsi_cmd.specs.Buffers.{with_bytes_at}
 use Rattle.host_commands.specs.declared.TheConstants.{MOST_DATA_BYTES}
@@ -20,7 +20,7 @@ use Rattle.uas_tasks.specs.declared.saved.Span.{Span}
 use Rattle.uas_tasks.specs.declared.saved.TagState.{TagState}
 use Rattle.uas_tasks.specs.declared.saved.Unsound.{Unsound}
 use Rattle.uas_tasks.specs.Machine.{Machine, slot_of, with_attention, with_slot}
-use Rattle.uas_tasks.specs.Soundness.{EachFits, IsSoundJob, IsSoundStage, lengths_of, is_moved}
+use Rattle.uas_tasks.specs.Soundness.{EachFits, IsSoundJob, IsSoundSlot, IsSoundStage, lengths_of, is_moved}
 use Rattle.uas_tasks.specs.Slots.{SlotState, chunk_bytes, fresh_slot, is_tag, request_bytes, task_waits}
 
 -- WHETHER A REQUEST IS OUT
@@ -162,16 +162,20 @@ restored_tag machine tag state bytes =
 abbrev pub settled_slot : SlotState → SlotState
 settled_slot slot = restored_slot slot (tag_state slot) (kept_bytes slot)
 
+abbrev pub settled_machine : Machine → Machine
+settled_machine machine = record machine { slots = map settled_slot machine.slots }
+
 -- THE LAWS
 
 -- the state of each tag is one that a tag can have, of at most MAX_UNITS logical units, and what is kept of it is at most a chunk: 128
--- blocks of 4,096 bytes
+-- blocks of 4,096 bytes. Each is sound.
 abbrev pub IsSavable : List LogicalUnit → SlotState → Type 0
 IsSavable units slot = is_tag_state units slot.chunk (tag_state slot) (length (kept_bytes slot)) ≡ true
 
 pub record AreSavable (machine : Machine) : Type 0 where
   pub units : length machine.units ≤ MAX_UNITS
   pub slots : length machine.slots ≡ GREATEST_TAG
+  pub sound : All IsSoundSlot machine.slots
   pub tags : (tag : ℕ) → IsSavable machine.units (slot_of machine tag)
   pub few : (tag : ℕ) → length (kept_bytes (slot_of machine tag)) ≤ 524288
 

@@ -1,6 +1,6 @@
 //! What is told and asked later lands later, and what was saved is restored: laws over the definitions.
 ghost use Rattle.uas_tasks.specs.Laws.{LastAnswerFrees, NothingStalePasses, WhatIsAskedLaterLandsLater};
-ghost use Rattle.uas_tasks.specs.Alike.{AlikeShowTheSame, AlikeStayAlike, SettledIsAlike};
+ghost use Rattle.uas_tasks.specs.Alike.{AlikeDevices, AlikeShowTheSame, AlikeStayAlike, SettledDeviceIsAlike, SettledIsAlike};
 ghost use Rattle.uas_tasks.specs.Saved.{RestoredAreKept, TagsAreRestored};
 
 /// Law: while a logical unit has a stale request, no request of it is asked, and no function that ended something there is answered.
@@ -21,9 +21,11 @@ pub fn tags_are_restored()
 {}
 
 /// Law: a tag with the bytes 0 that don't matter is like the tag; two that are alike want the same and give the same bytes, and each call leaves
-/// them alike.
+/// them alike. So do two devices of such tags.
 pub fn settled_answers_alike()
     ensures settled { SettledIsAlike }
     ensures shown { AlikeShowTheSame }
     ensures stays { AlikeStayAlike }
+    ensures device { SettledDeviceIsAlike }
+    ensures devices { AlikeDevices }
 {}

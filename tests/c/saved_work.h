@@ -1,6 +1,8 @@
 /* A controller that moves: now and then, before its steps, while no request is out, it is saved, loaded into a new one that goes on in its place,
  * and ended. What the new one saves is what the old one saved; a saved text with a byte changed is refused, and one whose checksum was mended for
- * it is refused or makes a controller that saves just that. With -include each call of uas_xhci.h is one on such a controller. */
+ * it is refused or makes a controller that saves just that. With -include each call of uas_xhci.h is one on such a controller. From its first
+ * uas_xhci_plug on it stays where it is: a loaded controller gives each tag a turn, so one whose pipe has lost its streams meanwhile is told there
+ * what the saved one told it with its next command. */
 #ifndef SAVED_WORK_H
 #define SAVED_WORK_H
 
@@ -23,17 +25,18 @@ struct moving {
     size_t count;
     uint8_t set;
     uint16_t most, chunk;
+    bool stays;
 };
 
 static uint64_t moving_state = 1;
 
-static uint64_t any_number(uint64_t below)
+static inline uint64_t any_number(uint64_t below)
 {
     moving_state = moving_state * 6364136223846793005u + 1442695040888963407u;
     return (moving_state >> 33) % below;
 }
 
-static void demand(bool holds, const char *what)
+static inline void demand(bool holds, const char *what)
 {
     if (holds)
         return;
@@ -41,9 +44,9 @@ static void demand(bool holds, const char *what)
     abort();
 }
 
-static uas_xhci *is_now(const uas_xhci *xhci) { return ((const struct moving *)(const void *)xhci)->is; }
+static inline uas_xhci *is_now(const uas_xhci *xhci) { return ((const struct moving *)(const void *)xhci)->is; }
 
-static uint8_t moving_new(const struct uas_tasks_unit *units, size_t count, uint8_t set, uint16_t most, uint16_t chunk, uas_xhci **xhci)
+static inline uint8_t moving_new(const struct uas_tasks_unit *units, size_t count, uint8_t set, uint16_t most, uint16_t chunk, uas_xhci **xhci)
 {
     struct moving *moving = calloc(1, sizeof *moving);
     demand(moving != NULL && count <= 15, "no memory");
@@ -60,7 +63,7 @@ static uint8_t moving_new(const struct uas_tasks_unit *units, size_t count, uint
     return fault;
 }
 
-static void moving_free(uas_xhci *xhci)
+static inline void moving_free(uas_xhci *xhci)
 {
     if (xhci == NULL)
         return;
@@ -69,7 +72,7 @@ static void moving_free(uas_xhci *xhci)
 }
 
 /* CRC-32C (RFC 3720). */
-static uint32_t crc32c_of(const uint8_t *bytes, size_t length)
+static inline uint32_t crc32c_of(const uint8_t *bytes, size_t length)
 {
     uint32_t sum = ~0u;
     for (size_t i = 0; i < length; i++) {
@@ -80,13 +83,13 @@ static uint32_t crc32c_of(const uint8_t *bytes, size_t length)
     return ~sum;
 }
 
-static uint8_t load_again(const struct moving *moving, const uint8_t *text, size_t length, uas_xhci **xhci)
+static inline uint8_t load_again(const struct moving *moving, const uint8_t *text, size_t length, uas_xhci **xhci)
 {
     return uas_xhci_load(moving->units, moving->count, moving->set, moving->most, moving->chunk, text, length, xhci);
 }
 
 /* A text that was changed where no checksum tells: it has another fault, or it is the text of what is made of it. */
-static void load_changed(const struct moving *moving, uint8_t *text, size_t length)
+static inline void load_changed(const struct moving *moving, uint8_t *text, size_t length)
 {
     uint8_t *again = malloc(length);
     uas_xhci *made = NULL;
@@ -110,7 +113,7 @@ static void load_changed(const struct moving *moving, uint8_t *text, size_t leng
 }
 
 /* Saves it, where no request is out, and has a new one go on. */
-static void move_on(struct moving *moving)
+static inline void move_on(struct moving *moving)
 {
     uint8_t none;
     size_t length = 0, again = 0;
@@ -136,15 +139,21 @@ static void move_on(struct moving *moving)
     free(other);
 }
 
-static uint8_t moving_work(uas_xhci *xhci, const struct uas_region *regions, size_t count, uint32_t budget, uint32_t *steps, bool *more)
+static inline void moving_plug(uas_xhci *xhci, bool attached)
+{
+    ((struct moving *)(void *)xhci)->stays = true;
+    uas_xhci_plug(is_now(xhci), attached);
+}
+
+static inline uint8_t moving_work(uas_xhci *xhci, const struct uas_region *regions, size_t count, uint32_t budget, uint32_t *steps, bool *more)
 {
     struct moving *moving = (struct moving *)(void *)xhci;
-    if (any_number(move_every) == 0)
+    if (!moving->stays && any_number(move_every) == 0)
         move_on(moving);
     return uas_xhci_work(moving->is, regions, count, budget, steps, more);
 }
 
-static void tell_moves(void)
+static inline void tell_moves(void)
 {
     printf("moved %llu times, a request out %llu times, %llu bytes a time, at most %llu; of texts with a byte changed %llu were refused, %llu taken\n",
            (unsigned long long)times_moved, (unsigned long long)times_out, (unsigned long long)(times_moved > 0 ? bytes_saved / times_moved : 0),
@@ -164,7 +173,7 @@ __attribute__((constructor)) static void tell_at_exit(void) { atexit(tell_moves)
 #define uas_xhci_interrupt(xhci) uas_xhci_interrupt(is_now(xhci))
 #define uas_xhci_take_message(xhci) uas_xhci_take_message(is_now(xhci))
 #define uas_xhci_host_error(xhci) uas_xhci_host_error(is_now(xhci))
-#define uas_xhci_plug(xhci, ...) uas_xhci_plug(is_now(xhci), __VA_ARGS__)
+#define uas_xhci_plug(...) moving_plug(__VA_ARGS__)
 #define uas_xhci_reset(xhci) uas_xhci_reset(is_now(xhci))
 #define uas_xhci_next_request(xhci, ...) uas_xhci_next_request(is_now(xhci), __VA_ARGS__)
 #define uas_xhci_data(xhci, ...) uas_xhci_data(is_now(xhci), __VA_ARGS__)

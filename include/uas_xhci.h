@@ -206,7 +206,15 @@ bool uas_xhci_take_message(uas_xhci *xhci);
  * each write of USBCMD. */
 bool uas_xhci_host_error(uas_xhci *xhci);
 
-/* ---- The disk and the function ---- */
+/* ---- The disk and the function ----
+ *
+ * What a machine's maker does (examples/machine.c):
+ *
+ *     a reset, a pull     waits until each request that is at work is done, and answers it, or a late write would land on later ones; the call; then
+ *                         looks at the pin, and works
+ *     a save              stops the guest's processors, takes no more steps, answers each request that is out, saves the guest's memory and the blocks,
+ *                         and the controller
+ *     a load              puts the memory and the blocks back, and loads; looks at the pin, and works once the processors run */
 
 /* The disk is plugged in, or unplugged with all its tasks. */
 void uas_xhci_plug(uas_xhci *xhci, bool attached);

@@ -153,7 +153,7 @@ uint8_t uas_xhci_work(uas_xhci *xhci, const struct uas_region *regions, size_t c
 
 /* The same, and the ranges that were written, in the order of the writes, for whoever keeps a record of changed memory: the first turn->noted
  * of `room` ranges. Where there were more of them, and with no room at all, turn->lost is 1, and any byte that is lent may have been written;
- * else none beside these ranges was, which is tested and not proved. Most steps write two or three ranges.
+ * else each byte beside these ranges is as it was. That no range is noted that wasn't written is tested. Most steps write two or three.
  * Faults: those of uas_xhci_work. */
 uint8_t uas_xhci_work_noting(uas_xhci *xhci, const struct uas_region *regions, size_t count, struct uas_xhci_turn *turn,
                              struct uas_range *written, size_t room);

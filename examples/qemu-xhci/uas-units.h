@@ -127,7 +127,7 @@ static inline void leave_units(struct unit *units)
 static inline struct uas_disk disk_of(const struct unit *unit, uint64_t bytes)
 {
     struct uas_disk disk = { .size = sizeof disk, .blocks = bytes / UAS_BLOCK_BYTES, .most = MOST_BLOCKS, .naa = { 0x30 } };
-    if (unit->drive != NULL && !blk_is_writable(unit->drive))
+    if (unit->drive != NULL && !blk_supports_write_perm(unit->drive))
         disk.flags = UAS_DISK_READ_ONLY;
     snprintf(disk.serial, sizeof disk.serial, "%08u", unit->serial);
     for (unsigned k = 0; k < 4; k++)

@@ -65,7 +65,10 @@ static void drain(UasXhci *device)
 static void work(UasXhci *device)
 {
     struct uas_xhci_turn turn = { .budget = STEPS_A_TURN };
-    if (device->lent > 0 && uas_xhci_work_noting(device->xhci, device->regions, device->lent, &turn, device->written, RANGES) != UAS_OK)
+    if (device->lent == 0) {
+        bool is_master = pci_get_word(device->parent.config + PCI_COMMAND) & PCI_COMMAND_MASTER;
+        turn.more = is_master && copied_work(device);
+    } else if (uas_xhci_work_noting(device->xhci, device->regions, device->lent, &turn, device->written, RANGES) != UAS_OK)
         error_report_once("uas-xhci: the machine's memory was refused");
     for (size_t i = 0; i < turn.noted; i++)
         tell_written(device, device->written[i].address, device->written[i].length);

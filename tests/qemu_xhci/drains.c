@@ -104,6 +104,12 @@ uint8_t uas_xhci_take_state(uas_xhci *xhci, struct uas_xhci_loaded *loaded, stru
     return count == 1 && text->length == 3 && memcmp(text->bytes, "abc", 3) == 0 ? loads : UAS_XHCI_SUM;
 }
 
+uint8_t uas_xhci_work_asking(uas_xhci *xhci, const struct uas_region *regions, size_t count, struct uas_xhci_turn *turn, struct uas_range *written, size_t room, struct uas_range *wanted)
+{
+    (void)xhci, (void)regions, (void)count, (void)turn, (void)written, (void)room, (void)wanted;
+    return UAS_OK;
+}
+
 void uas_xhci_free(uas_xhci *xhci) { (void)xhci; }
 uint64_t uas_xhci_read(uas_xhci *xhci, uint64_t offset, uint8_t width) { (void)xhci, (void)offset, (void)width; return 0; }
 void uas_xhci_write(uas_xhci *xhci, uint64_t offset, uint8_t width, uint64_t value) { (void)xhci, (void)offset, (void)width, (void)value; }

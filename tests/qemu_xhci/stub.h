@@ -85,6 +85,7 @@ static PCIDeviceClass pci_class;
 static DeviceClass device_class;
 static QEMUBH bottom_half;
 
+enum { MEMTX_OK = 0, PCI_COMMAND = 4, PCI_COMMAND_MASTER = 4 };
 enum { DEVICE_LITTLE_ENDIAN, QEMU_CLOCK_VIRTUAL, PCI_CLASS_PROG = 9, PCI_VENDOR_ID_REDHAT_QUMRANET = 0x1af4, PCI_CLASS_SERIAL_USB = 0x0c03 };
 enum { PCI_BASE_ADDRESS_SPACE_MEMORY = 0, PCI_BASE_ADDRESS_MEM_TYPE_64 = 4, DEVICE_CATEGORY_USB = 0, MEMTXATTRS_UNSPECIFIED = 0 };
 
@@ -230,7 +231,7 @@ struct BlockBackend {
 };
 
 static inline int64_t blk_getlength(BlockBackend *drive) { (void)drive; return DRIVE_BYTES; }
-static inline bool blk_is_writable(BlockBackend *drive) { return !drive->only_read; }
+static inline bool blk_supports_write_perm(BlockBackend *drive) { return !drive->only_read; }
 static inline const char *blk_name(BlockBackend *drive) { (void)drive; return "drive"; }
 static inline bool blkconf_apply_backend_options(BlockConf *drive, bool only_read, bool resizes, Error **error) { (void)error; return only_read == drive->blk->only_read && !resizes; }
 static inline void qemu_iovec_init_buf(QEMUIOVector *vector, void *bytes, size_t size) { *vector = (QEMUIOVector){ bytes, size }; }
@@ -273,6 +274,9 @@ static inline FlatView *address_space_to_flatview(AddressSpace *space) { (void)s
 static inline void flatview_for_each_range(FlatView *view, bool (*each)(Int128, Int128, const MemoryRegion *, hwaddr, void *), void *opaque) { (void)view, (void)each, (void)opaque; }
 static inline void *address_space_map(AddressSpace *space, hwaddr at, hwaddr *length, bool writes, int how) { (void)space, (void)at, (void)length, (void)writes, (void)how; return NULL; }
 static inline void address_space_unmap(AddressSpace *space, void *bytes, hwaddr length, bool writes, hwaddr used) { (void)space, (void)bytes, (void)length, (void)writes, (void)used; }
+static inline int pci_dma_read(PCIDevice *device, uint64_t at, void *bytes, uint64_t length) { (void)device, (void)at, (void)bytes, (void)length; return 1; }
+static inline int pci_dma_write(PCIDevice *device, uint64_t at, const void *bytes, uint64_t length) { (void)device, (void)at, (void)bytes, (void)length; return 1; }
+static inline uint16_t pci_get_word(const uint8_t *config) { return (uint16_t)(config[0] | config[1] << 8); }
 static inline bool msix_enabled(PCIDevice *device) { (void)device; return false; }
 static inline void msix_notify(PCIDevice *device, unsigned vector) { (void)device, (void)vector; }
 static inline int msix_init(PCIDevice *device, unsigned short vectors, MemoryRegion *table, uint8_t table_bar, unsigned table_at, MemoryRegion *pending, uint8_t pending_bar, unsigned pending_at, uint8_t at, Error **error) { (void)device, (void)vectors, (void)table, (void)table_bar, (void)table_at, (void)pending, (void)pending_bar, (void)pending_at, (void)at, (void)error; return 0; }

@@ -230,8 +230,7 @@ void uas_xhci_reset(uas_xhci *xhci);
  * Faults: UAS_XHCI_OUT (a request is out), UAS_XHCI_ROOM (fewer bytes than it takes). */
 uint8_t uas_xhci_save(const uas_xhci *xhci, uint8_t *bytes, size_t room, size_t *length);
 
-/* Makes a controller as uas_xhci_new does, and as it was when these bytes were saved; bytes that don't matter any more are 0, and each tag has a
- * turn again.
+/* Makes a controller as uas_xhci_new does, and as it was when these bytes were saved; bytes that don't matter any more are 0.
  * Faults: those of uas_xhci_new; the first of the bytes', UAS_XHCI_SHORT (fewer than any has), UAS_XHCI_MAGIC (no saved controller),
  * UAS_XHCI_VERSION (a later one's), UAS_XHCI_LENGTH (another than they say), UAS_XHCI_SUM (they were changed), UAS_XHCI_SHAPE (other logical units,
  * or another set, `most` or `chunk`), UAS_XHCI_VALUE (what no controller has); UAS_NO_MEMORY. */

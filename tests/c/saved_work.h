@@ -1,8 +1,7 @@
 /* A controller that moves: now and then, before its steps, while no request is out, it is saved, loaded into a new one that goes on in its place,
  * and ended. What the new one saves is what the old one saved; a saved text with a byte changed is refused, and one whose checksum was mended for
- * it is refused or makes a controller that saves just that. With -include each call of uas_xhci.h is one on such a controller. From its first
- * uas_xhci_plug on it stays where it is: a loaded controller gives each tag a turn, so one whose pipe has lost its streams meanwhile is told there
- * what the saved one told it with its next command. */
+ * it is refused or makes a controller that saves just that. With -include each call of uas_xhci.h is one on such a controller. So a program that
+ * compares a controller with a second implementation, step by step, compares one that moves with one that doesn't, at an unplug too. */
 #ifndef SAVED_WORK_H
 #define SAVED_WORK_H
 
@@ -25,7 +24,6 @@ struct moving {
     size_t count;
     uint8_t set;
     uint16_t most, chunk;
-    bool stays;
 };
 
 static uint64_t moving_state = 1;
@@ -139,16 +137,10 @@ static inline void move_on(struct moving *moving)
     free(other);
 }
 
-static inline void moving_plug(uas_xhci *xhci, bool attached)
-{
-    ((struct moving *)(void *)xhci)->stays = true;
-    uas_xhci_plug(is_now(xhci), attached);
-}
-
 static inline uint8_t moving_work(uas_xhci *xhci, const struct uas_region *regions, size_t count, uint32_t budget, uint32_t *steps, bool *more)
 {
     struct moving *moving = (struct moving *)(void *)xhci;
-    if (!moving->stays && any_number(move_every) == 0)
+    if (any_number(move_every) == 0)
         move_on(moving);
     return uas_xhci_work(moving->is, regions, count, budget, steps, more);
 }
@@ -173,7 +165,7 @@ __attribute__((constructor)) static void tell_at_exit(void) { atexit(tell_moves)
 #define uas_xhci_interrupt(xhci) uas_xhci_interrupt(is_now(xhci))
 #define uas_xhci_take_message(xhci) uas_xhci_take_message(is_now(xhci))
 #define uas_xhci_host_error(xhci) uas_xhci_host_error(is_now(xhci))
-#define uas_xhci_plug(...) moving_plug(__VA_ARGS__)
+#define uas_xhci_plug(xhci, ...) uas_xhci_plug(is_now(xhci), __VA_ARGS__)
 #define uas_xhci_reset(xhci) uas_xhci_reset(is_now(xhci))
 #define uas_xhci_next_request(xhci, ...) uas_xhci_next_request(is_now(xhci), __VA_ARGS__)
 #define uas_xhci_data(xhci, ...) uas_xhci_data(is_now(xhci), __VA_ARGS__)

@@ -9,7 +9,7 @@
 //! adds a tag (`active_after`), [`GuestTasks::rest`] takes one away (`rested`), and no other call changes them.
 #![tactic(auto)]
 
-ghost use Rattle.std.specs.Prelude.{◌≡◌, ℕ, List, ◌≤◌, ◌<◌, IfSome, IfNone, Some, None, option_map, length, min, slice_index, true, false};
+ghost use Rattle.std.specs.Prelude.{◌≡◌, ℕ, List, ◌≤◌, ◌<◌, IfSome, IfNone, Some, None, get_or, option_map, length, min, slice_index, true, false};
 ghost use Rattle.marks.specs.Marks.{is_marked};
 ghost use Rattle.uas_iu.specs.Units.{IsTextOf, unit_text};
 ghost use Rattle.uas_target.specs.Fields.{tag_in};
@@ -141,16 +141,15 @@ impl GuestTasks {
         }
     }
 
-    /// A device behind the pipes whose tasks were restored. Each tag is active: one without a task may have something left to do, as an information
-    /// unit on its way, and one that has nothing rests at its turn.
-    pub fn restored(tasks: Tasks) -> GuestTasks
+    /// A device behind the pipes whose tasks were restored, with an active tag where a mark is set.
+    pub fn restored(tasks: Tasks, marks: &[bool]) -> GuestTasks
+        requires { length marks.now ≡ 256 }
         ensures tasks { result.tasks ≡ tasks }
-        ensures active { (tag : ℕ) → tag < 256 → is_marked result.active tag ≡ true }
-        ensures keeps { TasksAreActive result }
+        ensures active { (tag : ℕ) → tag < 256 → is_marked result.active tag ≡ get_or marks.now tag false }
     {
         let mut device = GuestTasks::new(tasks);
         for tag in 0..TAG_PLACES {
-            device.set_active(tag, true);
+            device.set_active(tag, marks[usize::from(tag)]);
         }
         device
     }

@@ -17,5 +17,6 @@ pub mod Taken
 pub mod TurnsTaken
 pub mod KeptExact
 pub mod Fronts
+pub mod ActiveExact
 pub mod Bodies
 pub mod SavedRead

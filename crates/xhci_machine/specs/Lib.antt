@@ -16,6 +16,7 @@ pub mod Lacking
 pub mod Wanted
 pub mod Asking
 pub mod Laws
+pub mod ActiveTags
 pub mod Kept
 pub mod KeptTexts
 pub mod Shapes

@@ -1,5 +1,5 @@
 -- A machine that is loaded from a saved text.
-use Rattle.std.specs.Prelude.{◌≡◌, ℕ, ◌-◌, ◌<◌, ◌==◌, Bool, true, ◌&&◌, if◌then◌else◌, List, length, slice_index, Option, None, Some, Result, Ok, Err}
+use Rattle.std.specs.Prelude.{◌≡◌, ℕ, ◌-◌, ◌<◌, ◌==◌, Bool, false, ◌&&◌, if◌then◌else◌, List, get_or, length, slice_index, Option, None, Some, Result, Ok, Err}
 use Rattle.controller_bytes.specs.Tags.{slots_form}
 use Rattle.device_bytes.specs.Devices.{device_loaded}
 use Rattle.guest_transfers.specs.declared.slot.Slot.{Slot as Tag}
@@ -9,15 +9,16 @@ use Rattle.machine_bytes.specs.Forms.{then_read}
 use Rattle.machine_bytes.specs.Sealed.{opened}
 use Rattle.marks.specs.Marks.{is_marked}
 use Rattle.uas_tasks.specs.Machine.{Machine as Tasks}
+use Rattle.xhci_machine.specs.ActiveTags.{active_form}
 use Rattle.xhci_machine.specs.declared.Machine.{Machine}
 use Rattle.xhci_machine.specs.declared.loaded.LoadFault.{LoadFault}
 use Rattle.xhci_machine.specs.declared.loaded.LoadFault.TheVariants.{Short, Magic, Version, Length, Sum, Shape, Value, NoMemory}
 use Rattle.xhci_machine.specs.Kept.{KeptState, kept_form, machine_of}
 use Rattle.xhci_machine.specs.Shapes.{behind_shape}
 
--- what a text holds behind its shape: the controller, its tags, the device
+-- what a text holds behind its shape: the controller, which tags are active, its tags, the device
 abbrev pub Body : Type 0
-Body = KeptState × (List Tag × Tasks)
+Body = KeptState × (List Bool × (List Tag × Tasks))
 
 -- 0 stands at the end, and nothing behind it
 abbrev pub is_last : List ℕ → Bool
@@ -26,17 +27,18 @@ is_last text = (length text == 1) && (slice_index text 0 == 0)
 abbrev pub last_read : Body → List ℕ → Option Body × List ℕ
 last_read body text = if is_last text then (Some body, text) else (None, text)
 
--- the controller, its tags, and the device in the place of a fresh one
+-- the controller, which tags are active, its tags, and the device in the place of a fresh one
 abbrev pub body_read : Tasks → List ℕ → Option Body × List ℕ
 body_read fresh text =
-    then_read (kept_form.read text) (λ (kept : KeptState) one. then_read (slots_form.read one) (λ (tags : List Tag) two.
-    then_read (device_loaded fresh two) (λ (tasks : Tasks) three. last_read (kept, (tags, tasks)) three)))
+    then_read (kept_form.read text) (λ (kept : KeptState) one. then_read (active_form.read one) (λ (active : List Bool) two.
+    then_read (slots_form.read two) (λ (tags : List Tag) three.
+    then_read (device_loaded fresh three) (λ (tasks : Tasks) four. last_read (kept, (active, (tags, tasks))) four))))
 
--- a machine of what was read: each tag is active until a turn finds that it has nothing to do
+-- a machine of what was read: the tags are active that were read so, and no other below 256
 pub record IsMachineOf (body : Body) (m : Machine) : Type 0 where
-  pub machine : m ≡ machine_of body.0 body.1.0 m.device
-  pub tasks : m.device.tasks ≡ body.1.1
-  pub active : (tag : ℕ) → tag < 256 → is_marked m.device.active tag ≡ true
+  pub machine : m ≡ machine_of body.0 body.1.1.0 m.device
+  pub tasks : m.device.tasks ≡ body.1.1.1
+  pub active : (tag : ℕ) → tag < 256 → is_marked m.device.active tag ≡ get_or body.1.0 tag false
 
 abbrev pub IsMachineFor : Option Body → Machine → Type 0
 IsMachineFor None m = ⊥

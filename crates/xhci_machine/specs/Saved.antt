@@ -9,6 +9,7 @@ use Rattle.machine_bytes.specs.Places.{written}
 use Rattle.machine_bytes.specs.Sealed.{head_write}
 use Rattle.uas_tasks.specs.Machine.{Machine as Tasks, slot_of}
 use Rattle.uas_tasks.specs.Saved.{has_request_out}
+use Rattle.xhci_machine.specs.ActiveTags.{active_form, active_of}
 use Rattle.xhci_machine.specs.declared.Machine.{Machine}
 use Rattle.xhci_machine.specs.declared.saved.SaveFault.{SaveFault}
 use Rattle.xhci_machine.specs.declared.saved.SaveFault.TheVariants.{RequestOut, Room}
@@ -19,10 +20,14 @@ use Rattle.xhci_machine.specs.Shapes.{front_place, shape_write}
 abbrev pub device_write : List ℕ × Place → Tasks → List ℕ × Place
 device_write w tasks = (device_form tasks.units (slot_of tasks 1).chunk).write w (saved_device tasks)
 
--- what the machine was made for; what is kept of the controller; of the tags; of the device; 0
+-- what is kept of the controller; which tags are active; what is kept of the tags
+abbrev pub kept_write : List ℕ × Place → Machine → List ℕ × Place
+kept_write w m = slots_form.write (active_form.write (kept_form.write w (kept_of m)) (active_of m.device)) m.transfers.tags
+
+-- what the machine was made for; what is kept; the device; 0
 unfoldable pub body_write : List ℕ × Place → Machine → List ℕ × Place
 body_write w m =
-    written (device_write (slots_form.write (kept_form.write (shape_write w m.device.tasks) (kept_of m)) m.transfers.tags) m.device.tasks) (0 ∷ [])
+    written (device_write (kept_write (shape_write w m.device.tasks) m) m.device.tasks) (0 ∷ [])
 
 -- the checksum of all that was written
 abbrev pub sum_write : List ℕ × Place → List ℕ × Place

@@ -4,6 +4,7 @@ use Rattle.controller_bytes.specs.Tags.{slots_form}
 use Rattle.device_bytes.specs.Devices.{device_form, new_like, saved_device, settled_device}
 use Rattle.machine_bytes.specs.Exact.{IsExact}
 use Rattle.uas_tasks.specs.Soundness.{AreSized}
+use Rattle.xhci_machine.specs.ActiveTags.{active_form, active_of}
 use Rattle.xhci_machine.specs.declared.Machine.{Machine}
 use Rattle.xhci_machine.specs.Kept.{kept_form, kept_of}
 use Rattle.xhci_machine.specs.Loaded.{body_read}
@@ -11,8 +12,8 @@ use Rattle.xhci_machine.specs.Loaded.{body_read}
 -- what stands behind the shape
 abbrev pub body_bytes : Machine → ℕ → List ℕ
 body_bytes m chunk =
-    kept_form.bytes (kept_of m) ++ (slots_form.bytes m.transfers.tags
-    ++ ((device_form m.device.tasks.units chunk).bytes (saved_device m.device.tasks) ++ (0 ∷ [])))
+    kept_form.bytes (kept_of m) ++ (active_form.bytes (active_of m.device) ++ (slots_form.bytes m.transfers.tags
+    ++ ((device_form m.device.tasks.units chunk).bytes (saved_device m.device.tasks) ++ (0 ∷ []))))
 
 -- a machine whose values have the form, and whose tags have chunks of so many blocks
 pub record HasForm (m : Machine) (chunk : ℕ) : Type 0 where
@@ -26,11 +27,15 @@ pub record HasForm (m : Machine) (chunk : ℕ) : Type 0 where
 abbrev pub SavedIsRead : Type 0
 SavedIsRead =
     (m : Machine) (chunk : ℕ) → HasForm m chunk
-    → body_read (new_like m.device.tasks chunk) (body_bytes m chunk) ≡ (Some (kept_of m, (m.transfers.tags, settled_device m.device.tasks)), 0 ∷ [])
+    → body_read (new_like m.device.tasks chunk) (body_bytes m chunk)
+    ≡ (Some (kept_of m, (active_of m.device, (m.transfers.tags, settled_device m.device.tasks))), 0 ∷ [])
 
--- each value of the controller and of its tags has one text, and each text that is read is the one of its value
+-- each value of the controller, of its active tags and of its tags has one text, and each text that is read is the one of its value
 abbrev pub KeptIsExact : Type 0
 KeptIsExact = IsExact kept_form
+
+abbrev pub ActiveIsExact : Type 0
+ActiveIsExact = IsExact active_form
 
 abbrev pub TagsAreExact : Type 0
 TagsAreExact = IsExact slots_form

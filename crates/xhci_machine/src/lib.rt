@@ -50,18 +50,21 @@
 //! | registers | as `controller_bytes` has them |
 //! | rings | the command ring: doorbell, stop owed, the stream of a Stop Endpoint under way (option, 2); the event ring (option), whether ERDP was written, whether that cleared EHB, whether Event Ring Full Error was told |
 //! | slot | as `controller_bytes` has it; the states that were told, of endpoint 0, commands, status, data-out and data-in |
-//! | endpoint 0, pipes, Bulk-Only, tags | as `controller_bytes` has them |
+//! | endpoint 0, pipes, Bulk-Only | as `controller_bytes` has them |
+//! | active tags | their numbers (2 each), rising; FFFFh |
+//! | tags | as `controller_bytes` has them |
 //! | device | as `device_bytes` has it |
 //! | end | 0; the CRC-32C of all before (4) |
 //!
-//! What a save makes is `save_of` (specs/Saved), and a load is `load_of` (specs/Loaded): a machine of what was read, each of whose tags has a
-//! turn, or the first fault of the bytes. What was saved is read back ([`saved_states_are_read`]).
+//! What a save makes is `save_of` (specs/Saved), and a load is `load_of` (specs/Loaded): a machine of what was read, with those tags
+//! active, or the first fault of the bytes. What was saved is read back ([`saved_states_are_read`]).
 //!
 //! It stands on `xhci_registers`, `xhci_slots`, `xhci_control`, `guest_transfers` and `guest_tasks`, and for saved states on
 //! `machine_bytes`, `controller_bytes` and `device_bytes`.
 #![tactic(auto)]
 
 mod access;
+mod active_tags;
 mod asking;
 mod bulk;
 mod changes;

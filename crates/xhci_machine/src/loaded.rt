@@ -6,11 +6,13 @@ ghost use Rattle.controller_bytes.specs.Tags.{slots_form};
 ghost use Rattle.device_bytes.specs.Devices.{device_loaded};
 ghost use Rattle.guest_transfers.specs.State.{empty_slot};
 ghost use Rattle.machine_bytes.specs.Sparse.{made_places};
+ghost use Rattle.xhci_machine.specs.ActiveTags.{active_form};
 ghost use Rattle.xhci_machine.specs.KeptTexts.{FitsKept, kept_text_of};
 ghost use Rattle.xhci_machine.specs.declared.loaded.NoMachine.{NoMachine};
 ghost use Rattle.xhci_machine.specs.Loaded.{IsLoaded, IsMachineFor, IsRefused, body_read, is_last, load_of, seal_fault};
 
 use crate::Machine;
+use crate::active_tags::{TAG_PLACES, read_active};
 use crate::kept::{KeptText, read_kept};
 use crate::shapes::behind_shape;
 use controller_bytes::read_all_tags;
@@ -83,10 +85,11 @@ fn value_place(bytes: &[u8], left: &[u8]) -> usize
         .saturating_sub(left.len())
 }
 
-/// What was read of a body: the controller, its tags and its device.
+/// What was read of a body: the controller, which tags are active, its tags and its device.
 #[derive(Drop)]
 struct BodyText<'a> {
     kept: KeptText<'a>,
+    active: [bool; TAG_PLACES],
     tags: Vec<Slot>,
     tasks: Tasks,
 }
@@ -127,13 +130,13 @@ fn load_device(reader: &mut Reader, fresh: Tasks) -> Option<Tasks>
 }
 
 /// Reads what is left, with a fresh device.
-#[tactic(auto, using(crate::proofs::Bodies::body_is, crate::proofs::Bodies::no_kept, crate::proofs::Bodies::no_tags, crate::proofs::Bodies::no_device, crate::proofs::Bodies::no_end))]
+#[tactic(auto, using(crate::proofs::Bodies::body_is, crate::proofs::Bodies::no_kept, crate::proofs::Bodies::no_active, crate::proofs::Bodies::no_tags, crate::proofs::Bodies::no_device, crate::proofs::Bodies::no_end))]
 fn read_body<'a>(
     alloc: Global,
     reader: &mut Reader<'a>,
     fresh: Tasks,
 ) -> Result<BodyText<'a>, NoMachine>
-    ensures body { IfOk result (λ body. body_read fresh reader.old ≡ (Some (kept_text_of body.kept, (body.tags.items, body.tasks)), reader.new)) }
+    ensures body { IfOk result (λ body. body_read fresh reader.old ≡ (Some (kept_text_of body.kept, (body.active, (body.tags.items, body.tasks))), reader.new)) }
     ensures fits { IfOk result (λ body. FitsKept body.kept) }
     ensures len { IfOk result (λ body. vec_len body.tags ≡ 241) }
     ensures refused { result ≡ Err NoMachine.Value → body_read fresh reader.old ≡ (None, reader.new) }
@@ -141,12 +144,20 @@ fn read_body<'a>(
     let Some(kept) = read_kept(reader) else {
         return Err(NoMachine::Value);
     };
+    let Some(active) = read_active(reader) else {
+        return Err(NoMachine::Value);
+    };
     let tags = load_tags(alloc, reader)?;
     let Some(tasks) = load_device(reader, fresh) else {
         return Err(NoMachine::Value);
     };
     if is_last(reader.left()) {
-        Ok(BodyText { kept, tags, tasks })
+        Ok(BodyText {
+            kept,
+            active,
+            tags,
+            tasks,
+        })
     } else {
         Err(NoMachine::Value)
     }
@@ -158,8 +169,14 @@ fn load_body(alloc: Global, reader: &mut Reader, fresh: Tasks) -> Result<Machine
     ensures machine { IfOk result (λ machine. IsMachineFor (body_read fresh reader.old).0 machine) }
     ensures refused { result ≡ Err NoMachine.Value → body_read fresh reader.old ≡ (None, reader.new) }
 {
-    let BodyText { kept, tags, tasks } = read_body(alloc, reader, fresh)?;
-    match Machine::restored(alloc, kept, tags, GuestTasks::restored(tasks)) {
+    let BodyText {
+        kept,
+        active,
+        tags,
+        tasks,
+    } = read_body(alloc, reader, fresh)?;
+    let device = GuestTasks::restored(tasks, &active);
+    match Machine::restored(alloc, kept, tags, device) {
         Ok(machine) => Ok(machine),
         Err(AllocError) => Err(NoMachine::Memory),
     }

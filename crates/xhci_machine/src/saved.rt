@@ -4,6 +4,7 @@ ghost use Rattle.uas_tasks.specs.Saved.{AreSavable};
 ghost use Rattle.xhci_machine.specs.Saved.{body_write, device_write, save_of, saved_write, sum_write, total_of};
 
 use crate::Machine;
+use crate::active_tags::write_active;
 use crate::shapes::write_shape;
 use controller_bytes::write_all_tags;
 use log_records::checksum::crc32c;
@@ -56,6 +57,7 @@ impl Machine {
     {
         let place = write_shape(place, cells, &self.device.tasks);
         let place = self.write_kept(place, cells);
+        let place = write_active(place, cells, &self.device);
         let place = write_all_tags(place, cells, self.transfers.tags());
         let place = write_device(place, cells, &self.device.tasks);
         place.kind(cells, 0)

@@ -10,7 +10,7 @@ use Rattle.atomic_table.proofs.Lists.{at_set, at_snoc}
 use Rattle.std.proofs.Math.ListN.{length-set}
 use Rattle.std.proofs.lemmas.List.Sums.{sum_by-cons, sum_by_push, sum_by-append}
 use Rattle.door_board.specs.declared.Past.{Past}
-use Rattle.door_board.specs.Counts.{rung_too, taken_at, times_rung, times_taken}
+use Rattle.door_board.specs.Counts.{rung_too, merged_too, taken_at, times_rung, times_taken}
 use Rattle.door_board.specs.Rule.{IsCounted, Rings, Collects, rung_of, taken_of, shares_of, past, one_share_less, one_share, both, spent, standing}
 use Rattle.door_board.proofs.Totals.{total_set, part_of_total, rung_counts, taken_counts}
 use Rattle.door_board.specs.declared.TheConstants.{PLACES}
@@ -32,7 +32,12 @@ pub ring_allowed : (seats slots id word k : ℕ) (me : Me (Unit {0}) Past) → m
 ring_allowed seats slots id word k me one within low s held homes at fits =
     let n : ℕ = slice_index s.words word in
     let wide : word < length s.words = let e = held.width in omega arith in
-    let w : Past = record { shares = me.0.shares; fresh = rung_too me.0.fresh (64 * word + k) (bit_at n k == 0); hauls = me.0.hauls } in (
+    let w : Past = record {
+      shares = me.0.shares;
+      fresh = rung_too me.0.fresh (64 * word + k) (bit_at n k == 0);
+      merged = merged_too me.0.merged (64 * word + k) (bit_at n k == 0);
+      hauls = me.0.hauls;
+    } in (
       w,
       keeps,
       tt,
@@ -56,7 +61,7 @@ pub collect_allowed : (seats slots id word : ℕ) (me : Me (Unit {0}) Past) → 
 collect_allowed seats slots id word me one within s held homes at fits =
     let n : ℕ = slice_index s.words word in
     let wide : word < length s.words = let e = held.width in omega arith in
-    let w : Past = record { shares = me.0.shares; fresh = me.0.fresh; hauls = me.0.hauls ++ record { word = word; bits = n } ∷ [] } in (
+    let w : Past = record { shares = me.0.shares; fresh = me.0.fresh; merged = me.0.merged; hauls = me.0.hauls ++ record { word = word; bits = n } ∷ [] } in (
       w,
       keeps,
       tt,

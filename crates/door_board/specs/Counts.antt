@@ -14,14 +14,15 @@ pub record MadeBoard : Type 0 where
   pub table : TableId
   pub seats : ℕ
 
--- A seat as its calls see it: whose it is, the places of its fresh rings in order, and its collections in order
+-- A seat as its calls see it: whose it is, the places of its fresh rings in order, those of its rings that merged, and its collections in order
 pub record Sitting : Type 0 where
   pub table : TableId
   pub fresh : List ℕ
+  pub merged : List ℕ
   pub hauls : List Haul
 
 abbrev pub unused_seat : TableId → Sitting
-unused_seat table = record { table = table; fresh = []; hauls = [] }
+unused_seat table = record { table = table; fresh = []; merged = []; hauls = [] }
 
 abbrev pub IsSeatOf : MadeBoard → Sitting → Type 0
 IsSeatOf board seat = seat.table ≡ board.table
@@ -44,14 +45,18 @@ fresh_rings place seat = times_rung place seat.fresh
 abbrev pub collections : ℕ → Sitting → ℕ
 collections place seat = times_taken place seat.hauls
 
--- a ring counts one exactly where it is fresh
+-- a ring is noted once, as fresh or as merged
 abbrev pub rung_too : List ℕ → ℕ → Bool → List ℕ
 rung_too places place true = places ++ place ∷ []
 rung_too places place false = places
 
+abbrev pub merged_too : List ℕ → ℕ → Bool → List ℕ
+merged_too places place true = places
+merged_too places place false = places ++ place ∷ []
+
 -- the seat after a ring that answered so
 abbrev pub rang : Sitting → ℕ → Bool → Sitting
-rang seat place is_fresh = record seat { fresh = rung_too seat.fresh place is_fresh }
+rang seat place is_fresh = record seat { fresh = rung_too seat.fresh place is_fresh; merged = merged_too seat.merged place is_fresh }
 
 -- the seat after a collection that answered so
 abbrev pub collected : Sitting → ℕ → ℕ → Sitting

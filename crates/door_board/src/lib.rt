@@ -20,8 +20,8 @@
 //!    These are whole numbers, with no greatest value: a seat stands for the list of what it did.
 //!
 //! Rule 3 is the rule of the table of words, which each step is proved to keep; `close` tells it of the seats that
-//! were made, once all of them are back. Neither call waits, and `new` alone takes memory. No clause says that a bit is
-//! ever set or found: a `ring` without its step, or a `collect` that always answers 0, is refused by a test.
+//! were made, once all of them are back. Neither call waits, and `new` alone takes memory. A seat notes each ring, fresh or merged,
+//! and each collection, and only the step on the word writes such a note: a call without its step gives no answer.
 //!
 //! It stands on `atomic_table`.
 #![tactic(auto)]
@@ -63,10 +63,11 @@ pub struct Haul {
 }
 
 /// What a seat at the table of words knows of itself: its shares of the right to know the whole, the places of its
-/// fresh rings, and its collections. No value of it is made.
+/// fresh rings, those of its rings that merged, and its collections. No value of it is made.
 pub struct Past {
     pub shares: u64,
     pub fresh: LinkedList<u16>,
+    pub merged: LinkedList<u16>,
     pub hauls: LinkedList<Haul>,
 }
 
@@ -150,7 +151,7 @@ impl Model for Seat {
 
     ghost Value = { Sitting };
 
-    ghost view = { λ s. record { table = s.seat.table_id; fresh = s.seat.me.0.fresh; hauls = s.seat.me.0.hauls } };
+    ghost view = { λ s. record { table = s.seat.table_id; fresh = s.seat.me.0.fresh; merged = s.seat.me.0.merged; hauls = s.seat.me.0.hauls } };
 
     ghost invariant = { λ s. (s.seat.me.0.shares ≡ 1) × (s.seat.me.1 ≡ []) };
 }
@@ -273,6 +274,7 @@ impl Seat {
         ensures table { result.table_id ≡ self.table }
         ensures shares { result.me.0.shares ≡ 1 }
         ensures fresh { result.me.0.fresh ≡ self.fresh }
+        ensures merged { result.me.0.merged ≡ self.merged }
         ensures hauls { result.me.0.hauls ≡ self.hauls }
         ensures slots { result.me.1 ≡ [] }
     {

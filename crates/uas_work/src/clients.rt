@@ -1,7 +1,7 @@
 //! The part of a client: it posts its commands on the desk, so many at a time, and looks for what they came to.
 ghost use Rattle.std.specs.Prelude.{◌≡◌, ◌+◌, ◌*◌, ◌++◌, ◌≤◌, ◌<◌, ◌^◌, true, MatchOption, vec_len, vec_capacity};
 ghost use Rattle.tag_desk.specs.Seats.{IsTagOf, ReapsAt};
-ghost use Rattle.uas_work.specs.Batches.{Account, Took, TookInOrder, account_of};
+ghost use Rattle.uas_work.specs.Batches.{Account, LookedInVain, Took, TookInOrder, account_of};
 ghost use Rattle.uas_work.specs.Parts.{HasRoomForRounds, IsClientPart, IsSeatOfClient};
 ghost use Rattle.uas_work.specs.Rounds.{IsDepth, kept_of};
 
@@ -243,13 +243,16 @@ impl ClientPart {
         ensures same { self.new.client ≡ self.old.client }
         ensures room { self.new.replies ≡ self.old.replies }
         ensures tags { self.new.tags ≡ self.old.tags }
-        ensures slip { MatchOption result (self.new.seat ≡ self.old.seat) (ReapsAt self.old.seat self.new.seat tag) }
+        ensures slip { MatchOption result (LookedInVain tag self.old.seat self.new.seat) (ReapsAt self.old.seat self.new.seat tag) }
     {
         for _ in rt.forever() {
             let is_last = locked.are_pumps_done();
-            let slip = self.looked(shared, tag);
-            if slip.is_some() || is_last {
-                return slip;
+            match self.looked(shared, tag) {
+                Some(slip) => return Some(slip),
+                None => {}
+            }
+            if is_last {
+                return None;
             }
             locked.park(rt, Worker::Client(usize::from(self.client)));
             if !locked.is_ended() && !gate.turn(u32::from(self.client)) {
@@ -268,14 +271,13 @@ impl ClientPart {
         ensures room { self.new.replies ≡ self.old.replies }
         ensures tag { IsTagOf self.new.seat.tags self.new.seat.client tag }
         ensures tags { self.new.tags ≡ self.old.tags }
-        ensures slip { MatchOption result (self.new.seat ≡ self.old.seat) (ReapsAt self.old.seat self.new.seat tag) }
+        ensures slip { MatchOption result (LookedInVain tag self.old.seat self.new.seat) (ReapsAt self.old.seat self.new.seat tag) }
     {
         for _ in 0..MOST_LOOKS {
-            let slip = shared.desk.look(&mut self.seat, tag);
-            if slip.is_some() {
-                return slip;
+            match shared.desk.look(&mut self.seat, tag) {
+                Some(slip) => return Some(slip),
+                None => spin_loop(),
             }
-            spin_loop();
         }
         None
     }

@@ -35,9 +35,9 @@ returns c =
     let k = place % 64 in
     let bit = 1 * 2 ^ k % 18446744073709551616 in
     let j = told.2.0 in
-    let was : Sitting = record { table = old.table_id; fresh = old.me.0.fresh; hauls = old.me.0.hauls } in
+    let was : Sitting = record { table = old.table_id; fresh = old.me.0.fresh; merged = old.me.0.merged; hauls = old.me.0.hauls } in
     let here : 64 * (place / 64) + j ≡ place = omega (arith, same_bit bit j k told.2.2 (one_shl k 64 (omega arith))) in
     let stepped : the_view (record { seat = new }) ≡ rang was (64 * (place / 64) + j) (bit_at found j == 0) =
-    λ i. record { table = told.0 i; fresh = (told.2.3 i).0.fresh; hauls = (told.2.3 i).0.hauls } in
+    λ i. record { table = told.0 i; fresh = (told.2.3 i).0.fresh; merged = (told.2.3 i).0.merged; hauls = (told.2.3 i).0.hauls } in
     stepped ∙ ap (λ p. rang was p (bit_at found j == 0)) here ∙ ap (rang was place) (clear_found found bit k j (one_shl k 64 (omega arith)) told.2.2)
     ∙ ap (λ v. rang v place (bit_and found bit == 0)) c.seat.view_is

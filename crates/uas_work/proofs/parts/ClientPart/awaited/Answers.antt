@@ -1,0 +1,39 @@
+use Rattle.std.proofs.Common.{rules}
+use Rattle.uas_work.proofs.Looking.{vain_more, vain_none, vain_reaps}
+use Rattle.uas_work.proofs.parts.ClientPart.awaited.Goals as goal
+
+pub loop-init : goal.loop-init
+loop-init g c =
+    (search rules, search rules, search rules, search rules, search rules, search rules, search rules, vain_none c.args.tag c.args.self.now.seat)
+
+pub loop-preserved : goal.loop-preserved
+loop-preserved g c =
+    let was = c.loop.invariant in (
+      search rules,
+      search rules,
+      search rules,
+      search rules,
+      search rules,
+      search rules,
+      search rules,
+      vain_more c.args.tag c.args.self.now.seat c.loop.self.seat _ was.7 c.in-None-looked.ensures.slip,
+    )
+
+pub loop-preserved-then-not-turn : goal.loop-preserved-then-not-turn
+loop-preserved-then-not-turn g c =
+    let was = c.loop.invariant in (
+      search rules,
+      search rules,
+      search rules,
+      search rules,
+      search rules,
+      search rules,
+      search rules,
+      vain_more c.args.tag c.args.self.now.seat c.loop.self.seat _ was.7 c.in-None-looked.ensures.slip,
+    )
+
+pub returns-in-Some-looked-clause-slip : goal.returns-in-Some-looked-clause-slip
+returns-in-Some-looked-clause-slip g c = vain_reaps c.args.tag c.args.self.now.seat c.loop.self.seat _ _ c.loop.invariant.7 c.in-Some-looked.ensures.slip
+
+pub returns-then-is_last-clause-slip : goal.returns-then-is_last-clause-slip
+returns-then-is_last-clause-slip g c = vain_more c.args.tag c.args.self.now.seat c.loop.self.seat _ c.loop.invariant.7 c.in-None-looked.ensures.slip

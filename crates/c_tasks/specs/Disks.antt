@@ -12,6 +12,7 @@ use Rattle.host_commands.specs.Shapes.{Shape}
 use Rattle.uas_profile.specs.declared.TheConstants.{MAX_UNITS}
 use Rattle.uas_tasks.specs.declared.LogicalUnit.{LogicalUnit}
 use Rattle.uas_tasks.specs.Machine.{Machine, greatest_block, opening, quiet}
+use Rattle.uas_tasks.specs.Slots.{chunk_room}
 use Rattle.c_tasks.specs.Making.{is_chunk, is_set, set_of}
 
 -- THE NUMBER OF A FAULT
@@ -64,4 +65,4 @@ disk_units bytes = map quiet (unwrap_or (result_ok (disk_shapes MAX_UNITS 0 byte
 
 -- A device of these logical units without a task, as `made_tasks` of such that say nothing.
 abbrev pub made_of_disks : List ℕ → ℕ → ℕ → ℕ → Machine
-made_of_disks bytes set most chunk = opening (disk_units bytes) (disk_set_of set most) chunk (chunk * greatest_block (disk_units bytes))
+made_of_disks bytes set most chunk = opening (disk_units bytes) (disk_set_of set most) chunk (chunk_room chunk (greatest_block (disk_units bytes)))

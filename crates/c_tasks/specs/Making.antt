@@ -10,6 +10,7 @@ use Rattle.c_common.specs.declared.faults.TheConstants.{BLOCKS, NO_MEMORY, TASKS
 use Rattle.uas_profile.specs.declared.TheConstants.{MAX_UNITS}
 use Rattle.uas_tasks.specs.declared.LogicalUnit.{LogicalUnit}
 use Rattle.uas_tasks.specs.Machine.{Machine, greatest_block, opening, quiet}
+use Rattle.uas_tasks.specs.Slots.{chunk_room}
 use Rattle.c_tasks.specs.declared.UasTasksUnit.{UasTasksUnit}
 
 -- 1 to 2^48 blocks
@@ -65,4 +66,4 @@ logical_units units = map quiet (map shape_of units)
 -- A device of these logical units without a task. It has the commands of that set, which move at most `most` blocks where it is the host set.
 -- A request is of at most `chunk` blocks, and each tag has room for as many of the longest blocks of any unit.
 abbrev pub made_tasks : List UasTasksUnit → ℕ → ℕ → ℕ → Machine
-made_tasks units set most chunk = opening (logical_units units) (set_of set most) chunk (chunk * greatest_block (logical_units units))
+made_tasks units set most chunk = opening (logical_units units) (set_of set most) chunk (chunk_room chunk (greatest_block (logical_units units)))

@@ -7,7 +7,7 @@ use Rattle.host_commands.specs.Shapes.{Shape}
 use Rattle.uas_tasks.specs.declared.LogicalUnit.{LogicalUnit}
 use Rattle.uas_tasks.specs.Machine.{Machine, greatest_block, made, opening, quiet}
 use Rattle.uas_tasks.specs.Saved.{is_tag_state}
-use Rattle.uas_tasks.specs.Slots.{SlotState}
+use Rattle.uas_tasks.specs.Slots.{SlotState, chunk_room}
 use Rattle.uas_tasks.specs.Soundness.{AreSized, shapes_of}
 use Rattle.uas_tasks.proofs.Places.{greatest_same}
 use Rattle.machine_bytes.specs.Sparse.{PlaceHasIf, PlacesHave, place_bytes_if, places_bytes}
@@ -36,7 +36,7 @@ unfolding made
 new_units machine chunk room = refl
 
 like_is : (machine : Machine) (chunk : ℕ) → AreSized chunk machine.units machine.slots →
-    IsMadeLike chunk (chunk * greatest_block (quiet_units machine)) machine (new_like machine chunk)
+    IsMadeLike chunk (chunk_room chunk (greatest_block (quiet_units machine))) machine (new_like machine chunk)
 unfolding made
 like_is machine chunk sized =
     let same : greatest_block machine.units ≡ greatest_block (quiet_units machine) =
@@ -46,7 +46,7 @@ like_is machine chunk sized =
       set = refl;
       units = shapes_quiet machine.units;
       chunks = sized.chunks;
-      rooms = subst (λ (most : ℕ). All (λ (slot : SlotState). length slot.bytes ≡ chunk * most) machine.slots) same sized.buffers;
+      rooms = subst (λ (most : ℕ). All (λ (slot : SlotState). length slot.bytes ≡ chunk_room chunk most) machine.slots) same sized.buffers;
     }
 
 -- ATTENTIONS ARE NOTHING TO THE FORM
@@ -96,11 +96,11 @@ bytes_same machine chunk others = rw (places_text machine.units others chunk 0 (
 pub device_is_loaded : DeviceIsLoaded
 device_is_loaded chunk machine rest sized few has =
     let new = new_like machine chunk in
-    let units : new.units ≡ quiet_units machine = new_units machine chunk (chunk * greatest_block (quiet_units machine)) in
+    let units : new.units ≡ quiet_units machine = new_units machine chunk (chunk_room chunk (greatest_block (quiet_units machine))) in
     let same : shapes_of machine.units ≡ shapes_of new.units = shapes_quiet machine.units ∙ ap shapes_of (sym units) in
     let many : length machine.units ≡ length new.units =
     sym (length-map machine.units (λ unit. unit.shape)) ∙ ap length same ∙ length-map new.units (λ unit. unit.shape)
     in
     ap (λ (text : List ℕ). device_loaded new (text ++ rest)) (bytes_same machine chunk new.units)
-    ∙ saved_loaded chunk (chunk * greatest_block (quiet_units machine)) machine new rest
-    (new_is machine chunk (chunk * greatest_block (quiet_units machine))) (like_is machine chunk sized) (rw (sym many) few) (has_same machine chunk new.units same has)
+    ∙ saved_loaded chunk (chunk_room chunk (greatest_block (quiet_units machine))) machine new rest
+    (new_is machine chunk (chunk_room chunk (greatest_block (quiet_units machine)))) (like_is machine chunk sized) (rw (sym many) few) (has_same machine chunk new.units same has)

@@ -11,21 +11,28 @@ use Rattle.device_bytes.specs.Failures.{failure_form, sense_form}
 use Rattle.device_bytes.proofs.FailuresExact.{failure-exact, sense-exact}
 use Rattle.device_bytes.specs.Tasks.{answer_form, answer_number, answer_part, at_of, blocks_of, check_of, code_of, end_of, ended_of, failed_of, fault_of, flags_of, given_of, giving_of, held_of, hold_of, job_form}
 use Rattle.device_bytes.specs.Tasks.{kind_form, kind_number, kind_part, moving_of, response_of, sense_of, stage_form, stage_number, stage_part, task_form, task_number, task_part, through_of}
-use Rattle.device_bytes.specs.Tasks.{unit_form, verifies_of, work_of, writes_of}
+use Rattle.device_bytes.specs.Tasks.{same_flags, same_of, status_most, status_of, unit_form, unmaps_form, unmaps_of, unmaps_parts, verifies_of, work_of, writes_of, zeroes_flags, zeroes_of}
 
 pub kind-exact : IsExact kind_form
-kind-exact = tagged-exact 7 kind_number kind_part part kinds
+kind-exact = tagged-exact 11 kind_number kind_part part kinds
   where
-    part : (k : ℕ) → k < 7 → IsExact (kind_part k)
+    part : (k : ℕ) → k < 11 → IsExact (kind_part k)
     part zero few = nothing-exact _
     part (suc zero) few = mapped-exact writes_of through_of flag flag-exact (λ through has. refl)
     part (suc (suc zero)) few = nothing-exact _
     part (suc (suc (suc zero))) few = nothing-exact _
     part (suc (suc (suc (suc zero)))) few = nothing-exact _
     part (suc (suc (suc (suc (suc zero))))) few = mapped-exact verifies_of flags_of (pair flag flag) (pair-exact flag flag flag-exact flag-exact) (λ flags has. refl)
-    part (suc (suc (suc (suc (suc (suc k)))))) few = nothing-exact _
+    part (suc (suc (suc (suc (suc (suc zero)))))) few = nothing-exact _
+    part (suc (suc (suc (suc (suc (suc (suc zero))))))) few = mapped-exact same_of same_flags (pair flag flag) (pair-exact flag flag flag-exact flag-exact) (λ flags has. refl)
+    part (suc (suc (suc (suc (suc (suc (suc (suc zero)))))))) few = mapped-exact zeroes_of zeroes_flags (pair flag flag) (pair-exact flag flag flag-exact flag-exact) (λ flags has. refl)
+    part (suc (suc (suc (suc (suc (suc (suc (suc (suc zero))))))))) few =
+        mapped-exact unmaps_of unmaps_parts unmaps_form
+        (pair-exact _ _ (number-exact 2) (pair-exact _ _ (number-exact 1) (pair-exact _ _ (number-exact 8) (pair-exact _ _ (number-exact 4) flag-exact))))
+        (λ parts has. refl)
+    part (suc (suc (suc (suc (suc (suc (suc (suc (suc (suc k)))))))))) few = mapped-exact status_of status_most (number 1) (number-exact 1) (λ most has. refl)
 
-    kinds : (k : ℕ) → k < 7 → (x : JobKind) → (kind_part k).Has x → kind_number x ≡ k
+    kinds : (k : ℕ) → k < 11 → (x : JobKind) → (kind_part k).Has x → kind_number x ≡ k
     kinds zero few x has = ap kind_number has
     kinds (suc zero) few x has = ap kind_number (sym has.1)
     kinds (suc (suc zero)) few x has = ap kind_number has
@@ -33,7 +40,11 @@ kind-exact = tagged-exact 7 kind_number kind_part part kinds
     kinds (suc (suc (suc (suc zero)))) few x has = ap kind_number has
     kinds (suc (suc (suc (suc (suc zero))))) few x has = ap kind_number (sym has.1)
     kinds (suc (suc (suc (suc (suc (suc zero)))))) few x has = ap kind_number has
-    kinds (suc (suc (suc (suc (suc (suc (suc k))))))) few x has = absurd (omega (arith, few))
+    kinds (suc (suc (suc (suc (suc (suc (suc zero))))))) few x has = ap kind_number (sym has.1)
+    kinds (suc (suc (suc (suc (suc (suc (suc (suc zero)))))))) few x has = ap kind_number (sym has.1)
+    kinds (suc (suc (suc (suc (suc (suc (suc (suc (suc zero))))))))) few x has = ap kind_number (sym has.1)
+    kinds (suc (suc (suc (suc (suc (suc (suc (suc (suc (suc zero)))))))))) few x has = ap kind_number (sym has.1)
+    kinds (suc (suc (suc (suc (suc (suc (suc (suc (suc (suc (suc k))))))))))) few x has = absurd (omega (arith, few))
 
 pub job-exact : IsExact job_form
 job-exact =

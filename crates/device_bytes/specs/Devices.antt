@@ -8,7 +8,7 @@ use Rattle.uas_tasks.specs.declared.Task.{Task}
 use Rattle.uas_tasks.specs.declared.Task.TheVariants.{Giving, Blocks, Ended, Failed, Held}
 use Rattle.uas_tasks.specs.Machine.{Machine, greatest_block, opening, quiet}
 use Rattle.uas_tasks.specs.Saved.{is_tag_state, kept_bytes, restored_attention, restored_slot, restored_tag, settled_slot, tag_state}
-use Rattle.uas_tasks.specs.Slots.{SlotState, fresh_slot}
+use Rattle.uas_tasks.specs.Slots.{SlotState, fresh_slot, chunk_room}
 use Rattle.uas_tasks.specs.Soundness.{AreSized, EachFits, lengths_of, shapes_of}
 use Rattle.byte_numbers.specs.Bytes.{AreBytes}
 use Rattle.machine_bytes.specs.Exact.{IsExact}
@@ -211,7 +211,7 @@ FormIsExact = (units : List LogicalUnit) (chunk : ℕ) → length units < 65535 
 abbrev pub new_like : Machine → ℕ → Machine
 new_like machine chunk =
     let units = map quiet (shapes_of machine.units) in
-    opening units machine.set chunk (chunk * greatest_block units)
+    opening units machine.set chunk (chunk_room chunk (greatest_block units))
 
 -- So a device's bytes, loaded into a new one like it, are that device, the bytes that don't matter being 0.
 abbrev pub DeviceIsLoaded : Type 0

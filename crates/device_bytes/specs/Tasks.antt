@@ -8,7 +8,7 @@ use Rattle.uas_tasks.specs.declared.Failure.{Failure}
 use Rattle.uas_tasks.specs.declared.Failure.TheVariants.{Busy}
 use Rattle.uas_tasks.specs.declared.Job.{Job}
 use Rattle.uas_tasks.specs.declared.JobKind.{JobKind}
-use Rattle.uas_tasks.specs.declared.JobKind.TheVariants.{Reads, ReadsBeforeBad, Writes, Compares, Verifies, Synchronizes, WritesAndVerifies}
+use Rattle.uas_tasks.specs.declared.JobKind.TheVariants.{Reads, ReadsBeforeBad, Writes, Compares, Verifies, Synchronizes, WritesAndVerifies, WritesSame, Zeroes, Unmaps, TellsStatus}
 use Rattle.uas_tasks.specs.declared.Stage.{Stage}
 use Rattle.uas_tasks.specs.declared.Stage.TheVariants.{Asking, Waiting, Moving}
 use Rattle.uas_tasks.specs.declared.Task.{Task}
@@ -17,7 +17,9 @@ use Rattle.machine_bytes.specs.Forms.{Form, flag, mapped, nothing, number, optio
 use Rattle.device_bytes.specs.Failures.{failure_form, sense_form}
 
 -- what a command does with its blocks: 0 Reads, 1 Writes and whether through, 2 Compares, 3 Verifies, 4 Synchronizes, 5 WritesAndVerifies,
--- whether it compares and whether the chunk is written, 6 ReadsBeforeBad
+-- whether it compares and whether the chunk is written, 6 ReadsBeforeBad, 7 WritesSame and 8 Zeroes, whether it unmaps and whether through,
+-- 9 Unmaps, the bytes of its list (2), the descriptor's index (1), its first block (8), how many (4) and whether through, 10 TellsStatus and how
+-- many bytes at most (1)
 abbrev pub kind_number : JobKind → ℕ
 kind_number Reads = 0
 kind_number (Writes through) = 1
@@ -26,6 +28,10 @@ kind_number Verifies = 3
 kind_number Synchronizes = 4
 kind_number (WritesAndVerifies compares has_written) = 5
 kind_number ReadsBeforeBad = 6
+kind_number (WritesSame unmaps through) = 7
+kind_number (Zeroes unmaps through) = 8
+kind_number (Unmaps list index block count through) = 9
+kind_number (TellsStatus most) = 10
 
 abbrev pub writes_of : Bool → JobKind
 writes_of through = Writes through
@@ -38,6 +44,10 @@ through_of Verifies = false
 through_of Synchronizes = false
 through_of (WritesAndVerifies compares has_written) = false
 through_of ReadsBeforeBad = false
+through_of (WritesSame unmaps through) = false
+through_of (Zeroes unmaps through) = false
+through_of (Unmaps list index block count through) = false
+through_of (TellsStatus most) = false
 
 abbrev pub verifies_of : Bool × Bool → JobKind
 verifies_of flags = WritesAndVerifies flags.0 flags.1
@@ -50,6 +60,41 @@ flags_of Verifies = (false, false)
 flags_of Synchronizes = (false, false)
 flags_of (WritesAndVerifies compares has_written) = (compares, has_written)
 flags_of ReadsBeforeBad = (false, false)
+flags_of (WritesSame unmaps through) = (false, false)
+flags_of (Zeroes unmaps through) = (false, false)
+flags_of (Unmaps list index block count through) = (false, false)
+flags_of (TellsStatus most) = (false, false)
+
+abbrev pub same_of : Bool × Bool → JobKind
+same_of flags = WritesSame flags.0 flags.1
+
+abbrev pub same_flags : JobKind → Bool × Bool
+same_flags (WritesSame unmaps through) = (unmaps, through)
+same_flags kind = (false, false)
+
+abbrev pub zeroes_of : Bool × Bool → JobKind
+zeroes_of flags = Zeroes flags.0 flags.1
+
+abbrev pub zeroes_flags : JobKind → Bool × Bool
+zeroes_flags (Zeroes unmaps through) = (unmaps, through)
+zeroes_flags kind = (false, false)
+
+abbrev pub unmaps_of : ℕ × (ℕ × (ℕ × (ℕ × Bool))) → JobKind
+unmaps_of parts = Unmaps parts.0 parts.1.0 parts.1.1.0 parts.1.1.1.0 parts.1.1.1.1
+
+abbrev pub unmaps_parts : JobKind → ℕ × (ℕ × (ℕ × (ℕ × Bool)))
+unmaps_parts (Unmaps list index block count through) = (list, (index, (block, (count, through))))
+unmaps_parts kind = (0, (0, (0, (0, false))))
+
+abbrev pub status_of : ℕ → JobKind
+status_of most = TellsStatus most
+
+abbrev pub status_most : JobKind → ℕ
+status_most (TellsStatus most) = most
+status_most kind = 0
+
+abbrev pub unmaps_form : Form (ℕ × (ℕ × (ℕ × (ℕ × Bool))))
+unmaps_form = pair (number 2) (pair (number 1) (pair (number 8) (pair (number 4) flag)))
 
 abbrev pub kind_part : ℕ → Form JobKind
 kind_part zero = nothing Reads
@@ -58,10 +103,14 @@ kind_part (suc (suc zero)) = nothing Compares
 kind_part (suc (suc (suc zero))) = nothing Verifies
 kind_part (suc (suc (suc (suc zero)))) = nothing Synchronizes
 kind_part (suc (suc (suc (suc (suc zero))))) = mapped verifies_of flags_of (pair flag flag)
-kind_part (suc (suc (suc (suc (suc (suc k)))))) = nothing ReadsBeforeBad
+kind_part (suc (suc (suc (suc (suc (suc zero)))))) = nothing ReadsBeforeBad
+kind_part (suc (suc (suc (suc (suc (suc (suc zero))))))) = mapped same_of same_flags (pair flag flag)
+kind_part (suc (suc (suc (suc (suc (suc (suc (suc zero)))))))) = mapped zeroes_of zeroes_flags (pair flag flag)
+kind_part (suc (suc (suc (suc (suc (suc (suc (suc (suc zero))))))))) = mapped unmaps_of unmaps_parts unmaps_form
+kind_part (suc (suc (suc (suc (suc (suc (suc (suc (suc (suc k)))))))))) = mapped status_of status_most (number 1)
 
 abbrev pub kind_form : Form JobKind
-kind_form = tagged 7 kind_number kind_part
+kind_form = tagged 11 kind_number kind_part
 
 -- its blocks: kind, bytes of a block (2), first block (8), how many (8), how many are done (8)
 abbrev pub job_form : Form Job

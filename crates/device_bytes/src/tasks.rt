@@ -1,6 +1,7 @@
 //! A task: its command's blocks, its stage, its answer.
 ghost use Rattle.std.specs.Prelude.{◌≡◌, ◌<◌, IfSome};
-ghost use Rattle.device_bytes.specs.Tasks.{answer_form, job_form, kind_form, stage_form, task_form, unit_form};
+ghost use Rattle.machine_bytes.specs.Forms.{flag, mapped, pair};
+ghost use Rattle.device_bytes.specs.Tasks.{answer_form, job_form, kind_form, stage_form, task_form, unit_form, unmaps_form, unmaps_of, unmaps_parts};
 ghost use Rattle.device_bytes.specs.Devices.{IsNumbered};
 
 use crate::failures::{read_failure, read_sense, write_failure, write_sense};
@@ -27,13 +28,44 @@ fn write_kind(place: Place, cells: &mut [u8], kind: JobKind) -> Place
             place.flag(cells, has_written)
         }
         JobKind::ReadsBeforeBad => place.kind(cells, 6),
+        JobKind::WritesSame { unmaps, through } => {
+            let place = place.kind(cells, 7);
+            write_flags(place, cells, unmaps, through)
+        }
+        JobKind::Zeroes { unmaps, through } => {
+            let place = place.kind(cells, 8);
+            write_flags(place, cells, unmaps, through)
+        }
+        JobKind::Unmaps {
+            bytes,
+            index,
+            block,
+            count,
+            through,
+        } => {
+            let place = place.kind(cells, 9);
+            let place = place.u16(cells, bytes);
+            let place = place.u8(cells, index);
+            let place = place.u64(cells, block);
+            let place = place.u32(cells, count);
+            place.flag(cells, through)
+        }
+        JobKind::TellsStatus { most } => place.kind(cells, 10).u8(cells, most),
     }
+}
+
+fn write_flags(place: Place, cells: &mut [u8], first: bool, second: bool) -> Place
+    ensures cells { (cells.new, result) ≡ (pair flag flag).write (cells.old, place) (first, second) }
+    ensures has { (pair flag flag).Has (first, second) }
+{
+    let place = place.flag(cells, first);
+    place.flag(cells, second)
 }
 
 fn read_kind(reader: &mut Reader) -> Option<JobKind>
     ensures { (result, reader.new) ≡ kind_form.read reader.old }
 {
-    match reader.below(7)? {
+    match reader.below(11)? {
         0 => Some(JobKind::Reads),
         1 => {
             let through = reader.flag()?;
@@ -43,15 +75,52 @@ fn read_kind(reader: &mut Reader) -> Option<JobKind>
         3 => Some(JobKind::Verifies),
         4 => Some(JobKind::Synchronizes),
         5 => {
-            let compares = reader.flag()?;
-            let has_written = reader.flag()?;
+            let (compares, has_written) = read_flags(reader)?;
             Some(JobKind::WritesAndVerifies {
                 compares,
                 has_written,
             })
         }
-        _ => Some(JobKind::ReadsBeforeBad),
+        6 => Some(JobKind::ReadsBeforeBad),
+        7 => {
+            let (unmaps, through) = read_flags(reader)?;
+            Some(JobKind::WritesSame { unmaps, through })
+        }
+        8 => {
+            let (unmaps, through) = read_flags(reader)?;
+            Some(JobKind::Zeroes { unmaps, through })
+        }
+        9 => read_unmaps(reader),
+        _ => {
+            let most = reader.u8()?;
+            Some(JobKind::TellsStatus { most })
+        }
     }
+}
+
+fn read_flags(reader: &mut Reader) -> Option<(bool, bool)>
+    ensures { (result, reader.new) ≡ (pair flag flag).read reader.old }
+{
+    let first = reader.flag()?;
+    let second = reader.flag()?;
+    Some((first, second))
+}
+
+fn read_unmaps(reader: &mut Reader) -> Option<JobKind>
+    ensures { (result, reader.new) ≡ (mapped unmaps_of unmaps_parts unmaps_form).read reader.old }
+{
+    let bytes = reader.u16()?;
+    let index = reader.u8()?;
+    let block = reader.u64()?;
+    let count = reader.u32()?;
+    let through = reader.flag()?;
+    Some(JobKind::Unmaps {
+        bytes,
+        index,
+        block,
+        count,
+        through,
+    })
 }
 
 fn write_job(place: Place, cells: &mut [u8], job: &Job) -> Place

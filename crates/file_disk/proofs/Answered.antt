@@ -26,7 +26,8 @@ use Rattle.uas_tasks.specs.declared.Wants.TheVariants.{Ends}
 use Rattle.uas_tasks.specs.Soundness.{MayGive, MayTake}
 use Rattle.uas_tasks.specs.declared.slot.Out.{Out}
 use Rattle.uas_tasks.specs.Machine.{Machine, answer_on, answered, bytes_out, gave, given as given_of, next_of, out_of_number, slot_of, took, wanted, without_task}
-use Rattle.uas_tasks.specs.Slots.{SlotState, chunk_bytes, ended_good, moved_on, next_chunk}
+use Rattle.uas_tasks.specs.Jobs.{chunk_bytes, ended_good, moved_on, next_chunk}
+use Rattle.uas_tasks.specs.Slots.{SlotState}
 use Rattle.uas_tasks.specs.Stale.{is_stale}
 use Rattle.file_disk.specs.Device.{IsAt, IsWholeBlocks, asking, blocks_of, buffer_of, ended, job_of, moving}
 use Rattle.file_disk.proofs.Steps.{asked_at, is_at, machine_at, out_at, out_there, served_at, slot_at, tag_back, waiting_at, whole}

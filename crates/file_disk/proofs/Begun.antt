@@ -24,7 +24,8 @@ use Rattle.uas_tasks.specs.declared.JobKind.TheVariants.{Reads, Writes, Synchron
 use Rattle.uas_tasks.specs.declared.Task.{Task}
 use Rattle.uas_tasks.specs.declared.Task.TheVariants.{Blocks}
 use Rattle.uas_tasks.specs.Machine.{Machine, on_its_tag, executed, received, slot_of}
-use Rattle.uas_tasks.specs.Slots.{SlotState, first_stage, job_task, started_work, with_task}
+use Rattle.uas_tasks.specs.Jobs.{first_stage}
+use Rattle.uas_tasks.specs.Slots.{SlotState, job_task, started_work, with_task}
 use Rattle.uas_tasks.proofs.Received.{received-command}
 use Rattle.file_disk.specs.declared.cdb.Operation.{Operation}
 use Rattle.file_disk.specs.declared.cdb.Operation.TheVariants.{Read, Write, Synchronize}

@@ -11,7 +11,7 @@ use Rattle.host_commands.specs.Shapes.{Shape, host_set, plain_shape, serial_numb
 use Rattle.uas_profile.specs.declared.TheConstants.{GREATEST_TAG}
 use Rattle.uas_tasks.specs.declared.LogicalUnit.{LogicalUnit}
 use Rattle.uas_tasks.specs.Machine.{Machine, greatest_block, made, no_slot, opening, quiet}
-use Rattle.uas_tasks.specs.Slots.{SlotState, fresh_slot}
+use Rattle.uas_tasks.specs.Slots.{SlotState, fresh_slot, chunk_room}
 use Rattle.uas_tasks.specs.Stale.{is_stale}
 use Rattle.file_disk.specs.Device.{IsAt, shape_of}
 
@@ -60,9 +60,9 @@ opening_at blocks =
     }
 
 pub opened : (blocks : ℕ) (shape : Shape) (set : CommandSet) (tasks : Machine) → shape ≡ shape_of blocks → set ≡ Host 128
-    → tasks ≡ opening (map quiet (shape ∷ [])) set 128 (128 * greatest_block (map quiet (shape ∷ []))) → IsAt blocks tasks None
+    → tasks ≡ opening (map quiet (shape ∷ [])) set 128 (chunk_room 128 (greatest_block (map quiet (shape ∷ [])))) → IsAt blocks tasks None
 opened blocks shape set tasks shape_is set_is is =
     let same : tasks ≡ opening (quiet (shape_of blocks) ∷ []) (Host 128) 128 65536 =
-    is ∙ ap (λ (s : Shape). opening (map quiet (s ∷ [])) set 128 (128 * greatest_block (map quiet (s ∷ [])))) shape_is
+    is ∙ ap (λ (s : Shape). opening (map quiet (s ∷ [])) set 128 (chunk_room 128 (greatest_block (map quiet (s ∷ []))))) shape_is
     ∙ ap (λ (t : CommandSet). opening (quiet (shape_of blocks) ∷ []) t 128 65536) set_is in
     subst (λ (m : Machine). IsAt blocks m None) (sym same) (opening_at blocks)

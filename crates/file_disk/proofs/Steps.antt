@@ -26,7 +26,8 @@ use Rattle.uas_tasks.specs.declared.Task.{Task}
 use Rattle.uas_tasks.specs.declared.Task.TheVariants.{Blocks}
 use Rattle.uas_tasks.specs.declared.slot.Out.{Out}
 use Rattle.uas_tasks.specs.Machine.{answer_fault, Machine, answered, answered_out, next_of, no_slot, out_of_number, quiet, slot_of}
-use Rattle.uas_tasks.specs.Slots.{SlotState, answered_slot, chunk_bytes, request_bytes, request_of}
+use Rattle.uas_tasks.specs.Jobs.{chunk_bytes, request_bytes, request_of}
+use Rattle.uas_tasks.specs.Slots.{SlotState, answered_slot}
 use Rattle.uas_tasks.specs.Stale.{is_stale}
 use Rattle.file_disk.specs.Device.{IsAt, asking, moving, shape_of}
 

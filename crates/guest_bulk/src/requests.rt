@@ -4,7 +4,7 @@ ghost use Rattle.guest_bulk.specs.Through.{through};
 
 use uas_tasks::Request;
 
-/// A request as it is asked for a host of Bulk-Only Transport: a Write goes through, since such hosts don't flush (own).
+/// A request as it is asked for a host of Bulk-Only Transport: what changes blocks goes through, since such hosts don't flush (own).
 pub fn through(request: Request) -> Request
     ensures { result ≡ through request }
 {
@@ -20,9 +20,43 @@ pub fn through(request: Request) -> Request
             count,
             through: true,
         },
+        Request::Zero {
+            unit,
+            block,
+            count,
+            ..
+        } => Request::Zero {
+            unit,
+            block,
+            count,
+            through: true,
+        },
+        Request::Discard {
+            unit,
+            block,
+            count,
+            ..
+        } => Request::Discard {
+            unit,
+            block,
+            count,
+            through: true,
+        },
+        Request::WriteSame {
+            unit,
+            block,
+            count,
+            ..
+        } => Request::WriteSame {
+            unit,
+            block,
+            count,
+            through: true,
+        },
         Request::Read { .. }
         | Request::Compare { .. }
         | Request::Verify { .. }
-        | Request::Sync { .. } => request,
+        | Request::Sync { .. }
+        | Request::Status { .. } => request,
     }
 }

@@ -19,10 +19,11 @@ use Rattle.uas_tasks.specs.declared.Wants.TheVariants.{Absent, Waits}
 use Rattle.uas_tasks.specs.declared.slot.Out.{Out}
 use Rattle.uas_tasks.specs.declared.Job.{Job}
 use Rattle.uas_tasks.specs.declared.JobKind.{JobKind}
-use Rattle.uas_tasks.specs.declared.JobKind.TheVariants.{Reads, ReadsBeforeBad, Writes, Compares, Verifies, Synchronizes, WritesAndVerifies}
+use Rattle.uas_tasks.specs.declared.JobKind.TheVariants.{Reads, ReadsBeforeBad, Writes, Compares, Verifies, Synchronizes, WritesAndVerifies, WritesSame, Zeroes, Unmaps, TellsStatus}
 use Rattle.uas_tasks.specs.declared.Stage.{Stage}
 use Rattle.uas_tasks.specs.declared.Stage.TheVariants.{Asking, Waiting, Moving}
-use Rattle.uas_tasks.specs.Slots.{SlotState, answered_slot, is_wrong_length, moved_way, slot_wants, spared_slot, stage_wants, task_wants, is_tag}
+use Rattle.uas_tasks.specs.Jobs.{moved_way, stage_wants}
+use Rattle.uas_tasks.specs.Slots.{SlotState, answered_slot, is_tag, is_wrong_length, slot_wants, spared_slot, task_wants}
 use Rattle.uas_tasks.specs.Machine.{Machine, aborted_on, answer_fault, answered_out, answered_unless, dropped, executed, executed_on, has_task, managed, on_its_tag, queried_on, received, reset_on, slot_of, wanted, responded, with_answer, with_slot, with_task_on}
 use Rattle.uas_tasks.proofs.Keeping.{wanted-free}
 use Rattle.guest_tasks.specs.declared.GuestTasks.{GuestTasks}
@@ -45,6 +46,10 @@ way_wants Compares bytes absent = false≢true absent
 way_wants Verifies bytes absent = false≢true absent
 way_wants Synchronizes bytes absent = false≢true absent
 way_wants (WritesAndVerifies compares has_written) bytes absent = false≢true absent
+way_wants (WritesSame unmaps through) bytes absent = false≢true absent
+way_wants (Zeroes unmaps through) bytes absent = false≢true absent
+way_wants (Unmaps list index block count through) bytes absent = false≢true absent
+way_wants (TellsStatus most) bytes absent = false≢true absent
 
 stage_some : (chunk : ℕ) (job : Job) (out : Bool) (stage : Stage) → is_absent (cond out Waits (stage_wants chunk job stage)) ≡ true → ⊥
 stage_some chunk job true stage absent = false≢true absent

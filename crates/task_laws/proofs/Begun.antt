@@ -32,7 +32,8 @@ use Rattle.uas_target.proofs.Sound.{missing_sound}
 use Rattle.uas_tasks.specs.declared.JobKind.{JobKind}
 use Rattle.uas_tasks.specs.declared.JobKind.TheVariants.{Reads, Writes}
 use Rattle.uas_tasks.specs.declared.Task.TheVariants.{Giving, Blocks, Ended}
-use Rattle.uas_tasks.specs.Slots.{SlotState, first_stage, giving_slot, job_task, started_none, started_work, with_task}
+use Rattle.uas_tasks.specs.Jobs.{first_stage}
+use Rattle.uas_tasks.specs.Slots.{SlotState, giving_slot, job_task, started_none, started_work, with_task}
 use Rattle.task_laws.specs.Same.{SameSlot, SameWork, job_at, work_on}
 use Rattle.task_laws.proofs.Works.{same_work}
 

@@ -26,7 +26,8 @@ use Rattle.uas_target.proofs.Counts.{slice_get-counts_of}
 use Rattle.uas_tasks.specs.declared.JobKind.{JobKind}
 use Rattle.uas_tasks.specs.declared.Task.{Task}
 use Rattle.uas_tasks.specs.declared.Task.TheVariants.{Blocks, Ended}
-use Rattle.uas_tasks.specs.Slots.{SlotState, first_stage, next_chunk}
+use Rattle.uas_tasks.specs.Jobs.{first_stage, next_chunk}
+use Rattle.uas_tasks.specs.Slots.{SlotState}
 use Rattle.task_laws.specs.Backed.{Backed}
 use Rattle.task_laws.specs.Same.{SameSlot, SameWork, job_at, work_on}
 use Rattle.task_laws.proofs.Cases.{slot_with}

@@ -8,7 +8,7 @@ use Rattle.host_commands.specs.Shapes.{Shape}
 use Rattle.uas_profile.specs.declared.TheConstants.{CHUNK_BLOCKS, CHUNK_BYTES, GREATEST_TAG}
 use Rattle.uas_target.specs.Soundness.{counts_of}
 use Rattle.uas_tasks.specs.Machine.{greatest_block, is_long, is_long_block, made, quiet}
-use Rattle.uas_tasks.specs.Slots.{fresh_slot}
+use Rattle.uas_tasks.specs.Slots.{fresh_slot, chunk_room}
 use Rattle.task_laws.specs.Laws.{OpeningsAreSame}
 use Rattle.task_laws.specs.Same.{AreNew, Same, SameTasks, SameUnits}
 
@@ -42,7 +42,7 @@ none_long (unit ∷ units) (shape ∷ shapes) new =
 none_long [] (shape ∷ shapes) new = absurd new
 none_long (unit ∷ units) [] new = absurd new
 
-room_of : (units : List BlockMaps) (shapes : List Shape) → AreNew units shapes → CHUNK_BLOCKS * greatest_block (map quiet shapes) ≡ CHUNK_BYTES
+room_of : (units : List BlockMaps) (shapes : List Shape) → AreNew units shapes → chunk_room CHUNK_BLOCKS (greatest_block (map quiet shapes)) ≡ CHUNK_BYTES
 room_of units shapes new = ap (λ b. CHUNK_BLOCKS * cond b 4096 512) (none_long units shapes new)
 
 new_slots : (counts : List ℕ) (many room : ℕ) → room ≡ CHUNK_BYTES → SameTasks counts (replicate many None) (replicate many (fresh_slot CHUNK_BLOCKS room))
@@ -52,10 +52,10 @@ new_slots counts (suc many) room is =
 
 opened : (many : ℕ) (units : List BlockMaps) (shapes : List Shape) → AreNew units shapes → many ≡ GREATEST_TAG →
     Same (record { units = units; tasks = replicate many None })
-    (record { machine = made many (map quiet shapes) Profile CHUNK_BLOCKS (CHUNK_BLOCKS * greatest_block (map quiet shapes)); maps = units })
+    (record { machine = made many (map quiet shapes) Profile CHUNK_BLOCKS (chunk_room CHUNK_BLOCKS (greatest_block (map quiet shapes))); maps = units })
 unfolding made
 opened many units shapes new is =
-    let room : ℕ = CHUNK_BLOCKS * greatest_block (map quiet shapes) in
+    let room : ℕ = chunk_room CHUNK_BLOCKS (greatest_block (map quiet shapes)) in
     record {
       set = refl;
       units = new_units units shapes new;

@@ -20,7 +20,7 @@ use Rattle.uas_target.specs.Soundness.{counts_of}
 use Rattle.uas_target.specs.Tasks.{task_wants as target_wants}
 use Rattle.uas_tasks.specs.declared.Job.{Job}
 use Rattle.uas_tasks.specs.declared.JobKind.{JobKind}
-use Rattle.uas_tasks.specs.declared.JobKind.TheVariants.{Reads, ReadsBeforeBad, Writes, Compares, Verifies, Synchronizes, WritesAndVerifies}
+use Rattle.uas_tasks.specs.declared.JobKind.TheVariants.{Reads, ReadsBeforeBad, Writes, Compares, Verifies, Synchronizes, WritesAndVerifies, WritesSame, Zeroes, Unmaps, TellsStatus}
 use Rattle.uas_tasks.specs.declared.Stage.TheVariants.{Asking, Waiting, Moving}
 use Rattle.uas_tasks.specs.declared.Task.{Task}
 use Rattle.uas_tasks.specs.declared.Task.TheVariants.{Giving, Blocks, Ended, Failed, Held}
@@ -29,7 +29,8 @@ use Rattle.uas_tasks.specs.declared.Wants.TheVariants.{Absent, Asks, Waits, Give
 use Rattle.uas_tasks.specs.declared.slot.Out.{Out}
 use Rattle.uas_tasks.specs.Machine.{Machine, no_slot, slot_of}
 use Rattle.uas_tasks.specs.Machine as tasks
-use Rattle.uas_tasks.specs.Slots.{SlotState, chunk_bytes, gave_chunk, gave_slot, moved_way, next_bytes, next_chunk, slot_wants, took_slot}
+use Rattle.uas_tasks.specs.Jobs.{came, chunk_bytes, gave_chunk, moved_way, next_chunk}
+use Rattle.uas_tasks.specs.Slots.{SlotState, gave_slot, next_bytes, slot_wants, took_slot}
 use Rattle.uas_tasks.proofs.Places.{there}
 use Rattle.device_server.specs.declared.Answer.TheVariants.{Good}
 use Rattle.uas_tasks.proofs.Keeping.{wanted-free}
@@ -124,6 +125,11 @@ reading_on slot unit job at few rest Verifies is some wants = gives_apart _ Wait
 reading_on slot unit job at few rest Synchronizes is some wants = gives_apart _ Waits (few + rest) tt wants
 reading_on slot unit job at few rest (WritesAndVerifies compares has_written) is some wants =
     gives_apart _ (Takes (chunk_bytes slot.chunk job - at)) (few + rest) tt wants
+reading_on slot unit job at few rest (WritesSame unmaps through) is some wants = gives_apart _ (Takes (chunk_bytes slot.chunk job - at)) (few + rest) tt wants
+reading_on slot unit job at few rest (Zeroes unmaps through) is some wants = gives_apart _ Waits (few + rest) tt wants
+reading_on slot unit job at few rest (Unmaps list index block count through) is some wants =
+    gives_apart _ (Takes (chunk_bytes slot.chunk job - at)) (few + rest) tt wants
+reading_on slot unit job at few rest (TellsStatus most) is some wants = gives_apart _ Waits (few + rest) tt wants
 
 task_on : (slot : SlotState) (out : Option Out) (task : Task) (few rest : ℕ) → 0 < rest → slot_wants (slot_at_task slot out task) ≡ Gives (few + rest) →
     GivesOn (slot_at_task slot out task) few rest
@@ -226,7 +232,7 @@ took_all machine tag slot number job at (part ∷ parts) rest some here is size 
     let first : Machine = tasks.took machine tag part in
     let took_is : took_slot (slot_of machine tag) part ≡ moved =
     ap (λ s. took_slot s part) is
-    ∙ ap (λ b. slot_with (Some (cond b (Blocks number job (Moving (at + length part))) (Blocks number job Asking))) filled)
+    ∙ ap (λ b. slot_with (Some (cond b (Blocks number job (Moving (at + length part))) (came job.kind filled.bytes number job))) filled)
     (lt-ltb (at + length part) all (omega (arith, size, sizes, positive))) in
     let under : slot_of first tag ≡ moved = slot_under-with machine.slots tag (took_slot (slot_of machine tag) part) here ∙ took_is in
     let there_still : IsThere tag first.slots =
@@ -236,7 +242,7 @@ took_all machine tag slot number job at (part ∷ parts) rest some here is size 
     took_all first tag filled number job (at + length part) parts rest some there_still under (omega (arith, size, sizes)) (omega (arith, long, room)) in
     let by_slots : List SlotState → Machine = λ slots. record { units = machine.units; set = machine.set; slots = slots } in
     let by_bytes : ℕ → List ℕ → SlotState = λ n bytes.
-    slot_with (Some (cond (nat_lt n all) (Blocks number job (Moving n)) (Blocks number job Asking))) (record slot { bytes = bytes }) in
+    slot_with (Some (cond (nat_lt n all) (Blocks number job (Moving n)) (came job.kind bytes number job))) (record slot { bytes = bytes }) in
     let both : took_slot moved left ≡ took_slot shown (part ++ left) =
     ap₂ by_bytes (omega (arith, sizes_left)) (bytes_on slot.bytes at part left (omega (arith, size, sizes, room))) in
     later

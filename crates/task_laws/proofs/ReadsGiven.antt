@@ -38,7 +38,8 @@ use Rattle.uas_tasks.specs.declared.Wants.{Wants}
 use Rattle.uas_tasks.specs.declared.Wants.TheVariants.{Absent, Asks, Gives, Takes, Ends}
 use Rattle.uas_tasks.specs.declared.slot.Out.{Out}
 use Rattle.uas_tasks.specs.Machine.{slot_of, no_slot}
-use Rattle.uas_tasks.specs.Slots.{SlotState, gave_slot, next_chunk, slot_wants}
+use Rattle.uas_tasks.specs.Jobs.{next_chunk}
+use Rattle.uas_tasks.specs.Slots.{SlotState, gave_slot, slot_wants}
 use Rattle.uas_tasks.proofs.Places.{there}
 use Rattle.uas_tasks.specs.Machine as tasks
 use Rattle.task_laws.specs.Backed.{Backed, all_given, backed_gave, backed_given, gave_all, settled, with_machine}

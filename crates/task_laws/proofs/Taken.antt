@@ -42,7 +42,8 @@ use Rattle.uas_tasks.specs.declared.Task.TheVariants.{Blocks, Ended}
 use Rattle.uas_tasks.specs.declared.slot.Out.{Out}
 use Rattle.uas_tasks.specs.Machine.{Machine, slot_of, with_slot_under}
 use Rattle.uas_tasks.specs.Machine as tasks
-use Rattle.uas_tasks.specs.Slots.{SlotState, next_chunk, took_slot}
+use Rattle.uas_tasks.specs.Jobs.{next_chunk}
+use Rattle.uas_tasks.specs.Slots.{SlotState, took_slot}
 use Rattle.task_laws.specs.Backed.{Backed, backed_fits, backed_took, done_at_once, done_soon, has_failed, is_check, with_machine}
 use Rattle.task_laws.specs.Same.{Same, SameSlot, SameUnit, SameWork, job_at, work_on}
 use Rattle.task_laws.proofs.Cases.{SlotCases, slot_cases, slot_with}

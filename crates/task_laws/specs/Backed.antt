@@ -1,11 +1,11 @@
 -- The device without blocks, and behind it somebody who keeps the blocks and does each request at once.
-use Rattle.std.specs.Prelude.{ℕ, ◌*◌, Bool, true, false, not, if◌then◌else◌, List, [], ◌∷◌, ◌++◌, slice_get, slice_set, map, unwrap_or, bytes_eq, Option, Some, None, Result}
+use Rattle.std.specs.Prelude.{ℕ, zero, suc, ◌*◌, replicate, Bool, true, false, not, if◌then◌else◌, List, [], ◌∷◌, ◌++◌, slice_get, slice_set, map, unwrap_or, bytes_eq, Option, Some, None, Result}
 use Rattle.block_unit.specs.BlockMaps.{BlockMaps, blocks_read, meets_bad, synced, written}
 use Rattle.device_server.specs.declared.Answer.TheVariants.{Check, Good}
 use Rattle.host_commands.specs.declared.CommandSet.TheVariants.{Profile}
 use Rattle.host_commands.specs.Shapes.{Shape}
 use Rattle.uas_iu.specs.declared.Iu.{Iu}
-use Rattle.uas_profile.specs.declared.TheConstants.{CHUNK_BLOCKS}
+use Rattle.uas_profile.specs.declared.TheConstants.{BLOCK_BYTES, CHUNK_BLOCKS}
 use Rattle.uas_target.specs.declared.DeviceAnswer.{DeviceAnswer}
 use Rattle.uas_target.specs.declared.DeviceAnswer.TheVariants.{Response, Status}
 use Rattle.uas_target.specs.declared.Overlap.{Overlap}
@@ -17,16 +17,17 @@ use Rattle.uas_target.specs.Fields.{tag_in}
 use Rattle.uas_tasks.specs.declared.Next.{Next}
 use Rattle.uas_tasks.specs.declared.Next.TheVariants.{Absent as NextAbsent, Asks as NextAsks, Waits as NextWaits, Gives as NextGives, Takes as NextTakes, Ends as NextEnds}
 use Rattle.uas_tasks.specs.declared.Outcome.{Outcome}
-use Rattle.uas_tasks.specs.declared.Outcome.TheVariants.{Done, Differs, MediumError}
+use Rattle.uas_tasks.specs.declared.Outcome.TheVariants.{Done, Differs, MediumError, Mapped}
 use Rattle.uas_tasks.specs.declared.Request.{Request}
-use Rattle.uas_tasks.specs.declared.Request.TheVariants.{Read, Write, Compare, Verify, Sync}
+use Rattle.uas_tasks.specs.declared.Request.TheVariants.{Read, Write, Compare, Verify, Sync, Zero, Discard, WriteSame, Status as AsksStatus}
 use Rattle.uas_tasks.specs.declared.Task.{Task}
 use Rattle.uas_tasks.specs.declared.Task.TheVariants.{Blocks, Ended, Failed, Giving, Held}
 use Rattle.uas_tasks.specs.declared.Wants.{Wants}
 use Rattle.uas_tasks.specs.declared.Wants.TheVariants.{Absent, Asks, Waits, Gives, Takes, Ends}
 use Rattle.uas_tasks.specs.declared.slot.Out.{Out}
 use Rattle.uas_tasks.specs.Machine.{Machine, answer_on, answered, bytes_out, gave, given, greatest_block, next_of, opening, quiet, received, reset_machine, slot_of, took, wanted, without_task}
-use Rattle.uas_tasks.specs.Slots.{SlotState, asked_slot, is_read}
+use Rattle.uas_tasks.specs.Outcomes.{is_read}
+use Rattle.uas_tasks.specs.Slots.{SlotState, asked_slot, chunk_room}
 use Rattle.uas_tasks.specs.Stale.{unit_in}
 
 -- the device, and the blocks of each of its logical units, by number
@@ -40,7 +41,7 @@ with_machine backed machine = record backed { machine = machine }
 -- a new device of the profile's command set, with chunks of 8 blocks, over these blocks
 abbrev pub backed_opening : List Shape → List BlockMaps → Backed
 backed_opening shapes units = record {
-  machine = opening (map quiet shapes) Profile CHUNK_BLOCKS (CHUNK_BLOCKS * greatest_block (map quiet shapes));
+  machine = opening (map quiet shapes) Profile CHUNK_BLOCKS (chunk_room CHUNK_BLOCKS (greatest_block (map quiet shapes)));
   maps = units;
 }
 
@@ -50,8 +51,13 @@ backed_opening shapes units = record {
 abbrev pub unless_bad : BlockMaps → ℕ → ℕ → BlockMaps × Outcome × List ℕ → BlockMaps × Outcome × List ℕ
 unless_bad maps block count after = if meets_bad maps block count then (maps, MediumError, []) else after
 
+-- one block on each of so many
+abbrev pub repeated : ℕ → List ℕ → List ℕ
+repeated zero block = []
+repeated (suc count) block = block ++ repeated count block
+
 -- The blocks once a request with these bytes was done on them, what came of it, and the bytes that it brings. A synchronization takes
--- no notice of bad blocks. Worked, of 10 blocks of which 4 is bad: a Read of 2 blocks from 3 on is MediumError and brings nothing, of 2
+-- no notice of bad blocks; no block that was given back is kept apart from one of zeros, so all are mapped. Worked, of 10 blocks of which 4 is bad: a Read of 2 blocks from 3 on is MediumError and brings nothing, of 2
 -- from 5 on it is Done and brings 1,024 bytes; a Sync of 2 from 3 on is Done.
 abbrev pub done_at_once : BlockMaps → Request → List ℕ → BlockMaps × Outcome × List ℕ
 done_at_once maps (Read unit block count) bytes = unless_bad maps block count (maps, Done, blocks_read maps block count)
@@ -60,6 +66,10 @@ done_at_once maps (Compare unit block count) bytes =
     unless_bad maps block count (maps, if bytes_eq bytes (blocks_read maps block count) then Done else Differs, [])
 done_at_once maps (Verify unit block count) bytes = unless_bad maps block count (maps, Done, [])
 done_at_once maps (Sync unit block count) bytes = (synced maps block count, Done, [])
+done_at_once maps (Zero unit block count through) bytes = unless_bad maps block count (written maps block (replicate (BLOCK_BYTES * count) 0) through, Done, [])
+done_at_once maps (Discard unit block count through) bytes = unless_bad maps block count (written maps block (replicate (BLOCK_BYTES * count) 0) through, Done, [])
+done_at_once maps (WriteSame unit block count through) bytes = unless_bad maps block count (written maps block (repeated count bytes) through, Done, [])
+done_at_once maps (AsksStatus unit block count) bytes = unless_bad maps block count (maps, Mapped true count, [])
 
 -- the request of a number was done so, and is answered
 abbrev pub answered_with : Backed → ℕ → Request → BlockMaps × Outcome × List ℕ → Backed

@@ -5,6 +5,8 @@ use Rattle.std.proofs.Common.{refl, sym, ◌∙◌}
 use Rattle.std.proofs.lemmas.Bool.{false≢true}
 use Rattle.std.proofs.lemmas.Option.{slice_get_within}
 use Rattle.std.specs.Prelude.{MatchOption, is_some, IsSome, nat_lt, ◌==◌, ◌&&◌, option_and_then, option_map, slice_get, slice_index}
+use Rattle.std.specs.Prelude.{take, min}
+use Rattle.std.specs.List.{list_all}
 use Rattle.std.specs.Option.{option_map_or}
 use Rattle.scsi_cmd.specs.declared.Sense.{Sense}
 use Rattle.host_commands.specs.declared.Attention.{Attention}
@@ -14,6 +16,7 @@ use Rattle.host_commands.specs.declared.UnitAttention.{UnitAttention}
 use Rattle.host_commands.specs.declared.Work.{Work}
 use Rattle.host_commands.specs.declared.Work.TheVariants.{Nothing, Gives as GivesWork, Reads as ReadsWork, Writes as WritesWork, Synchronizes as SynchronizesWork}
 use Rattle.host_commands.specs.declared.Work.TheVariants.{Verifies as VerifiesWork, Compares as ComparesWork, WritesAndVerifies as WritesAndVerifiesWork}
+use Rattle.host_commands.specs.declared.Work.TheVariants.{Unmaps as UnmapsWork, WritesSame as WritesSameWork, TellsStatus as TellsStatusWork}
 use Rattle.host_commands.specs.Commands.{attention_of}
 use Rattle.host_commands.specs.Data.{given_bytes}
 use Rattle.host_commands.specs.Meaning.{asked_of}
@@ -22,10 +25,10 @@ use Rattle.uas_target.specs.declared.DeviceAnswer.TheVariants.{Status}
 use Rattle.device_server.specs.declared.Answer.TheVariants.{Good}
 use Rattle.uas_tasks.specs.declared.Job.{Job}
 use Rattle.uas_tasks.specs.declared.JobKind.{JobKind}
-use Rattle.uas_tasks.specs.declared.JobKind.TheVariants.{Reads, ReadsBeforeBad, Writes, Compares, Verifies, Synchronizes, WritesAndVerifies}
+use Rattle.uas_tasks.specs.declared.JobKind.TheVariants.{Reads, ReadsBeforeBad, Writes, Compares, Verifies, Synchronizes, WritesAndVerifies, WritesSame, Zeroes, Unmaps, TellsStatus}
 use Rattle.uas_tasks.specs.declared.LogicalUnit.{LogicalUnit}
 use Rattle.uas_tasks.specs.declared.Outcome.{Outcome}
-use Rattle.uas_tasks.specs.declared.Outcome.TheVariants.{Done, Differs, MediumError, NotReady, DiffersAt, MediumErrorAt, NoSpace, WriteProtected, Aborted, Busy}
+use Rattle.uas_tasks.specs.declared.Outcome.TheVariants.{Done, Differs, MediumError, NotReady, DiffersAt, MediumErrorAt, NoSpace, WriteProtected, Aborted, Busy, Mapped}
 use Rattle.uas_tasks.specs.declared.Stage.{Stage}
 use Rattle.uas_tasks.specs.declared.Stage.TheVariants.{Asking, Waiting, Moving}
 use Rattle.uas_tasks.specs.declared.Task.{Task}
@@ -34,13 +37,19 @@ use Rattle.uas_tasks.specs.declared.Wants.{Wants}
 use Rattle.uas_tasks.specs.declared.Wants.TheVariants.{Absent, Asks, Waits, Ends}
 use Rattle.uas_tasks.specs.declared.slot.Out.{Out}
 use Rattle.uas_tasks.specs.Machine.{Machine, begun, begun_as, is_held, reported_as, slot_of, wanted}
-use Rattle.uas_tasks.specs.Slots.{SlotState, after_answer, after_bad, after_outcome, answered_slot, asked_slot, blocks_synchronized, chunk_blocks, chunk_bytes, done_by, ended_good, first_stage}
-use Rattle.uas_tasks.specs.Slots.{done_slot, before_bad, brings as brings_some, failed_at, gave_chunk, gave_slot, gave_task, is_command_of, is_read, medium_error, job_task, moved_on, next_chunk, out_of, passed_out, passing_out, request_of, slot_wants, spared_slot, stage_wants}
+use Rattle.uas_tasks.specs.Jobs.{after_bad, after_outcome, chunk_blocks, chunk_bytes, done_by, ended_good, first_stage}
+use Rattle.uas_tasks.specs.Slots.{SlotState, after_answer, answered_slot, asked_slot, blocks_synchronized}
+use Rattle.uas_tasks.specs.Jobs.{before_bad, failed_at, gave_chunk, medium_error, moved_on, next_chunk, request_of, stage_wants}
+use Rattle.uas_tasks.specs.Outcomes.{brings as brings_some, is_read}
+use Rattle.uas_tasks.specs.Slots.{done_slot, gave_slot, gave_task, is_command_of, job_task, out_of, passed_out, passing_out, slot_wants, spared_slot}
 use Rattle.uas_tasks.specs.Slots.{started, started_none, started_none_work, started_work, task_waits, task_wants, took_slot, took_task, waiting, with_task}
 use Rattle.uas_tasks.specs.Soundness.{IsAnswer, IsJobOf, IsJobOn, IsTaskWithin, IsUnit, IsWithin, StartsOn}
 use Rattle.uas_tasks.specs.Stale.{stale_unit, unit_written}
 use Rattle.uas_tasks.proofs.Counts.{Keeps}
+use Rattle.uas_tasks.specs.Jobs.{came, giving_task, is_zero, told_status, unmapped}
+use Rattle.uas_tasks.specs.Slots.{bytes_taken, same_kind}
 use Rattle.uas_tasks.proofs.Sound.{after_bad-so}
+use Rattle.uas_tasks.proofs.Descriptors.{unmapped-so}
 
 -- A TASK THAT WAITS FOR NO ANSWER, of a logical unit that is there
 
@@ -85,6 +94,10 @@ first_stage-rests shapes unit job Compares there = (refl, there)
 first_stage-rests shapes unit job Verifies there = (refl, there)
 first_stage-rests shapes unit job Synchronizes there = (refl, there)
 first_stage-rests shapes unit job (WritesAndVerifies compares has_written) there = (refl, there)
+first_stage-rests shapes unit job (WritesSame unmaps through) there = (refl, there)
+first_stage-rests shapes unit job (Zeroes unmaps through) there = (refl, there)
+first_stage-rests shapes unit job (Unmaps list index block count through) there = (refl, there)
+first_stage-rests shapes unit job (TellsStatus most) there = (refl, there)
 
 either-rests : (shapes : List Shape) (b : Bool) (one other : Task) → Rests shapes one → Rests shapes other → Rests shapes (cond b one other)
 either-rests shapes true one other first second = first
@@ -104,6 +117,10 @@ gave_chunk-rests shapes chunk unit job Compares there = next_chunk-rests shapes 
 gave_chunk-rests shapes chunk unit job Verifies there = next_chunk-rests shapes chunk unit job there
 gave_chunk-rests shapes chunk unit job Synchronizes there = next_chunk-rests shapes chunk unit job there
 gave_chunk-rests shapes chunk unit job (WritesAndVerifies compares has_written) there = next_chunk-rests shapes chunk unit job there
+gave_chunk-rests shapes chunk unit job (WritesSame unmaps through) there = next_chunk-rests shapes chunk unit job there
+gave_chunk-rests shapes chunk unit job (Zeroes unmaps through) there = next_chunk-rests shapes chunk unit job there
+gave_chunk-rests shapes chunk unit job (Unmaps list index block count through) there = next_chunk-rests shapes chunk unit job there
+gave_chunk-rests shapes chunk unit job (TellsStatus most) there = next_chunk-rests shapes chunk unit job there
 
 -- BYTES THAT MOVE
 
@@ -140,18 +157,40 @@ pub gave-keeps : (shapes : List Shape) (slot : SlotState) (moved : ℕ) → IsWi
 gave-keeps shapes slot moved =
     task-keeps shapes slot (gave_slot slot moved) refl (gave_task-stays shapes slot.chunk (length slot.given) moved slot.task)
 
-took_task-stays : (shapes : List Shape) (chunk moved : ℕ) (task : Option Task) → IfSome task (IsTaskWithin shapes) →
-    (waits (option_map (took_task chunk moved) task) ≡ waits task) × IfSome (option_map (took_task chunk moved) task) (IsTaskWithin shapes)
-took_task-stays shapes chunk moved None within = (refl, tt)
-took_task-stays shapes chunk moved (Some (Giving unit at)) within = (refl, within)
-took_task-stays shapes chunk moved (Some (Blocks unit job stage)) within =
-    moved_on-stays shapes chunk moved unit job (Blocks unit job Asking) stage (λ there. (refl, there)) within
-took_task-stays shapes chunk moved (Some (Ended unit answer)) within = (refl, within)
-took_task-stays shapes chunk moved (Some (Failed unit failure)) within = (refl, within)
-took_task-stays shapes chunk moved (Some (Held unit code)) within = (refl, within)
+-- the last byte came: what is asked is of the same logical unit
+unmapped-rests : (shapes : List Shape) (buffer : List ℕ) (bytes from : ℕ) (through : Bool) (unit : ℕ) (job : Job) → IsJobOf shapes unit job →
+    Rests shapes (unmapped buffer bytes from through unit job)
+unmapped-rests shapes buffer bytes from through unit job there =
+    unmapped-so (Rests shapes) buffer bytes from through unit job (λ index block count on. (refl, there)) (refl, job_there shapes unit job there)
+    (λ sense. (refl, job_there shapes unit job there))
+
+came-rests : (shapes : List Shape) (buffer : List ℕ) (unit : ℕ) (job : Job) (kind : JobKind) → IsJobOf shapes unit job → Rests shapes (came kind buffer unit job)
+came-rests shapes buffer unit job Reads there = (refl, there)
+came-rests shapes buffer unit job ReadsBeforeBad there = (refl, there)
+came-rests shapes buffer unit job (Writes through) there = (refl, there)
+came-rests shapes buffer unit job Compares there = (refl, there)
+came-rests shapes buffer unit job Verifies there = (refl, there)
+came-rests shapes buffer unit job Synchronizes there = (refl, there)
+came-rests shapes buffer unit job (WritesAndVerifies compares has_written) there = (refl, there)
+came-rests shapes buffer unit job (WritesSame unmaps through) there =
+    either-rests shapes (list_all is_zero (take job.block_bytes buffer)) (Blocks unit (record job { kind = Zeroes unmaps through }) Asking) (Blocks unit job Asking)
+    (refl, there) (refl, there)
+came-rests shapes buffer unit job (Zeroes unmaps through) there = (refl, there)
+came-rests shapes buffer unit job (Unmaps list index block count through) there = unmapped-rests shapes buffer list 0 through unit job there
+came-rests shapes buffer unit job (TellsStatus most) there = (refl, there)
+
+took_task-stays : (shapes : List Shape) (chunk moved : ℕ) (buffer : List ℕ) (task : Option Task) → IfSome task (IsTaskWithin shapes) →
+    (waits (option_map (took_task chunk moved buffer) task) ≡ waits task) × IfSome (option_map (took_task chunk moved buffer) task) (IsTaskWithin shapes)
+took_task-stays shapes chunk moved buffer None within = (refl, tt)
+took_task-stays shapes chunk moved buffer (Some (Giving unit at)) within = (refl, within)
+took_task-stays shapes chunk moved buffer (Some (Blocks unit job stage)) within =
+    moved_on-stays shapes chunk moved unit job (came job.kind buffer unit job) stage (came-rests shapes buffer unit job job.kind) within
+took_task-stays shapes chunk moved buffer (Some (Ended unit answer)) within = (refl, within)
+took_task-stays shapes chunk moved buffer (Some (Failed unit failure)) within = (refl, within)
+took_task-stays shapes chunk moved buffer (Some (Held unit code)) within = (refl, within)
 
 pub took-keeps : (shapes : List Shape) (slot : SlotState) (new : List ℕ) → IsWithin shapes slot → Keeps shapes slot (took_slot slot new)
-took-keeps shapes slot new = task-keeps shapes slot (took_slot slot new) refl (took_task-stays shapes slot.chunk (length new) slot.task)
+took-keeps shapes slot new = task-keeps shapes slot (took_slot slot new) refl (took_task-stays shapes slot.chunk (length new) (bytes_taken slot new) slot.task)
 
 -- A REQUEST IS ASKED: none was out, and the task waits for this one
 
@@ -184,6 +223,11 @@ request_of-written many unit chunk job Synchronizes there = tt
 request_of-written many unit chunk job (WritesAndVerifies compares false) there = there
 request_of-written many unit chunk job (WritesAndVerifies true true) there = tt
 request_of-written many unit chunk job (WritesAndVerifies false true) there = tt
+request_of-written many unit chunk job (WritesSame unmaps through) there = there
+request_of-written many unit chunk job (Zeroes true through) there = there
+request_of-written many unit chunk job (Zeroes false through) there = there
+request_of-written many unit chunk job (Unmaps list index block count through) there = there
+request_of-written many unit chunk job (TellsStatus most) there = tt
 
 asked_task : (shapes : List Shape) (chunk : ℕ) (task : Option Task) → IfSome task (IsTaskWithin shapes) →
     IfSome (option_map waiting task) (IsTaskWithin shapes)
@@ -296,6 +340,16 @@ work-keeps shapes slot unit shape (WritesAndVerifiesWork lba count compares) the
     (job-rests shapes unit (WritesAndVerifies compares false) shape lba count there on)
 work-keeps shapes slot unit shape (ComparesWork lba count) there on still =
     rests-keeps shapes slot (started_work slot unit shape (ComparesWork lba count)) refl still (job-rests shapes unit Compares shape lba count there on)
+work-keeps shapes slot unit shape (UnmapsWork list through) there on still =
+    rests-keeps shapes slot (started_work slot unit shape (UnmapsWork list through)) refl still
+    (job-rests shapes unit (Unmaps list 0 0 0 through) shape 0 shape.blocks there (omega arith))
+work-keeps shapes slot unit shape (WritesSameWork lba count takes unmaps through) there on still =
+    rests-keeps shapes slot (started_work slot unit shape (WritesSameWork lba count takes unmaps through)) refl still
+    (job-rests shapes unit (same_kind takes unmaps through) shape lba count there on)
+work-keeps shapes slot unit shape (TellsStatusWork lba count allocation) there on still =
+    rests-keeps shapes slot (started_work slot unit shape (TellsStatusWork lba count allocation)) refl still
+    (either-rests shapes (allocation == 0) (ended_good unit) (job_task unit (TellsStatus (min allocation 24)) shape.block_length lba count)
+    (refl, shape_there shapes unit shape there) (job-rests shapes unit (TellsStatus (min allocation 24)) shape lba count there on))
 
 started-keeps : (shapes : List Shape) (slot : SlotState) (unit : ℕ) (shape : Shape) (asked : Result Work Sense) → slice_get shapes unit ≡ Some shape →
     IfOk asked (StartsOn shape.blocks) → waits slot.task ≡ false → Keeps shapes slot (started slot unit shape asked)
@@ -327,6 +381,11 @@ none-keeps shapes slot (VerifiesWork lba count) still = rests-keeps shapes slot 
 none-keeps shapes slot (WritesAndVerifiesWork lba count compares) still =
     rests-keeps shapes slot (started_none_work slot (WritesAndVerifiesWork lba count compares)) refl still (refl, tt)
 none-keeps shapes slot (ComparesWork lba count) still = rests-keeps shapes slot (started_none_work slot (ComparesWork lba count)) refl still (refl, tt)
+none-keeps shapes slot (UnmapsWork list through) still = rests-keeps shapes slot (started_none_work slot (UnmapsWork list through)) refl still (refl, tt)
+none-keeps shapes slot (WritesSameWork lba count takes unmaps through) still =
+    rests-keeps shapes slot (started_none_work slot (WritesSameWork lba count takes unmaps through)) refl still (refl, tt)
+none-keeps shapes slot (TellsStatusWork lba count allocation) still =
+    rests-keeps shapes slot (started_none_work slot (TellsStatusWork lba count allocation)) refl still (refl, tt)
 
 pub started_none-keeps : (shapes : List Shape) (slot : SlotState) (asked : Result Work Sense) → waits slot.task ≡ false → Keeps shapes slot (started_none slot asked)
 started_none-keeps shapes slot (Ok work) still = none-keeps shapes slot work still
@@ -340,14 +399,14 @@ job_before : (found : Option Shape) (block : ℕ) (job : Job) → job.lba + job.
 job_before None block job more most on = on
 job_before (Some shape) block job more most on = (on.0, omega (arith, on.1, more, most))
 
-after_answer-within : (shapes : List Shape) (outcome : Outcome) (chunk : ℕ) (task : Option Task) → IfSome task (IsTaskWithin shapes) →
-    IfSome (option_map (after_answer outcome chunk) task) (IsTaskWithin shapes)
-after_answer-within shapes outcome chunk None within = tt
-after_answer-within shapes outcome chunk (Some (Giving unit at)) within = within
-after_answer-within shapes outcome chunk (Some (Blocks unit job Asking)) within = within
-after_answer-within shapes outcome chunk (Some (Blocks unit job Waiting)) within = by_outcome outcome
+after_answer-within : (shapes : List Shape) (outcome : Outcome) (chunk : ℕ) (buffer : List ℕ) (task : Option Task) → IfSome task (IsTaskWithin shapes) →
+    IfSome (option_map (after_answer outcome chunk buffer) task) (IsTaskWithin shapes)
+after_answer-within shapes outcome chunk buffer None within = tt
+after_answer-within shapes outcome chunk buffer (Some (Giving unit at)) within = within
+after_answer-within shapes outcome chunk buffer (Some (Blocks unit job Asking)) within = within
+after_answer-within shapes outcome chunk buffer (Some (Blocks unit job Waiting)) within = by_outcome outcome
   where
-    done : (kind : JobKind) → IsTaskWithin shapes (done_by kind chunk unit job)
+    done : (kind : JobKind) → IsTaskWithin shapes (done_by kind chunk buffer unit job)
     done Reads = within
     done ReadsBeforeBad = within
     done (Writes through) = (next_chunk-rests shapes chunk unit job within).1
@@ -356,8 +415,12 @@ after_answer-within shapes outcome chunk (Some (Blocks unit job Waiting)) within
     done Synchronizes = job_there shapes unit job within
     done (WritesAndVerifies compares false) = within
     done (WritesAndVerifies compares true) = (next_chunk-rests shapes chunk unit (record job { kind = WritesAndVerifies compares false }) within).1
+    done (WritesSame unmaps through) = job_there shapes unit job within
+    done (Zeroes unmaps through) = job_there shapes unit job within
+    done (Unmaps list index block count through) = (unmapped-rests shapes buffer list (index + 1) through unit job within).1
+    done (TellsStatus most) = job_there shapes unit job within
 
-    by_outcome : (outcome : Outcome) → IsTaskWithin shapes (after_outcome outcome chunk unit job)
+    by_outcome : (outcome : Outcome) → IsTaskWithin shapes (after_outcome outcome chunk buffer unit job)
     by_outcome Done = done job.kind
     by_outcome Differs = job_there shapes unit job within
     by_outcome MediumError = job_there shapes unit job within
@@ -370,14 +433,19 @@ after_answer-within shapes outcome chunk (Some (Blocks unit job Waiting)) within
     by_outcome WriteProtected = job_there shapes unit job within
     by_outcome Aborted = job_there shapes unit job within
     by_outcome Busy = job_there shapes unit job within
-after_answer-within shapes outcome chunk (Some (Blocks unit job (Moving at))) within = within
-after_answer-within shapes outcome chunk (Some (Ended unit answer)) within = within
-after_answer-within shapes outcome chunk (Some (Failed unit failure)) within = within
-after_answer-within shapes outcome chunk (Some (Held unit code)) within = within
+    by_outcome (Mapped mapped many) = giving_within (length (told_status job.kind job.lba mapped many))
+      where
+        giving_within : (many : ℕ) → IsTaskWithin shapes (giving_task (Some unit) many)
+        giving_within zero = job_there shapes unit job within
+        giving_within (suc many) = job_there shapes unit job within
+after_answer-within shapes outcome chunk buffer (Some (Blocks unit job (Moving at))) within = within
+after_answer-within shapes outcome chunk buffer (Some (Ended unit answer)) within = within
+after_answer-within shapes outcome chunk buffer (Some (Failed unit failure)) within = within
+after_answer-within shapes outcome chunk buffer (Some (Held unit code)) within = within
 
 pub answered-within : (shapes : List Shape) (slot : SlotState) (out : Out) (outcome : Outcome) (new : List ℕ) → IsWithin shapes slot →
     IsWithin shapes (answered_slot slot out outcome new)
-answered-within shapes slot out outcome new was = record { task = after_answer-within shapes outcome slot.chunk slot.task was.task; written = tt }
+answered-within shapes slot out outcome new was = record { task = after_answer-within shapes outcome slot.chunk slot.bytes slot.task was.task; written = tt }
 
 -- and nothing is stale
 none-either : (b : Bool) (unit : Option ℕ) → unit ≡ None → cond b None unit ≡ None
@@ -396,7 +464,7 @@ pub passed-keeps : (shapes : List Shape) (slot : SlotState) (out : Out) → IsSo
 passed-keeps shapes slot out some was =
     let waits_is : waits slot.task ≡ true = waits_if (waits slot.task) (is_read out.request) (brings_some Done) out.len some in
     let none : stale_unit slot ≡ None = rw waits_is refl in
-    let within : IsWithin shapes (done_slot slot) = record { task = after_answer-within shapes Done slot.chunk slot.task was.task; written = tt } in
+    let within : IsWithin shapes (done_slot slot) = record { task = after_answer-within shapes Done slot.chunk slot.bytes slot.task was.task; written = tt } in
     let gave = gave-keeps shapes (done_slot slot) out.len within in
     record {
       within = λ before. gave.within within;

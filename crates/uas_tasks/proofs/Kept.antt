@@ -13,7 +13,7 @@ use Rattle.scsi_cmd.specs.Buffers.{with_bytes_at}
 use Rattle.host_commands.specs.Shapes.{block_bytes}
 use Rattle.uas_tasks.specs.declared.Job.{Job}
 use Rattle.uas_tasks.specs.declared.JobKind.{JobKind}
-use Rattle.uas_tasks.specs.declared.JobKind.TheVariants.{Reads, ReadsBeforeBad, Writes, Compares, Verifies, Synchronizes, WritesAndVerifies}
+use Rattle.uas_tasks.specs.declared.JobKind.TheVariants.{Reads, ReadsBeforeBad, Writes, Compares, Verifies, Synchronizes, WritesAndVerifies, WritesSame, Zeroes, Unmaps, TellsStatus}
 use Rattle.uas_tasks.specs.declared.LogicalUnit.{LogicalUnit}
 use Rattle.uas_tasks.specs.declared.saved.Span.{Span}
 use Rattle.uas_tasks.specs.declared.saved.TagState.{TagState}
@@ -22,13 +22,17 @@ use Rattle.uas_tasks.specs.declared.Stage.TheVariants.{Asking, Waiting, Moving}
 use Rattle.uas_tasks.specs.declared.Task.{Task}
 use Rattle.uas_tasks.specs.declared.Task.TheVariants.{Giving, Blocks, Ended, Failed, Held}
 use Rattle.uas_tasks.specs.Machine.{no_slot, slot_under}
-use Rattle.uas_tasks.specs.Saved.{AreSavable, IsSavable, RestoredAreKept, TagsAreRestored, asking_span, buffer_again, given_again, is_job_of, is_pending, is_stage, is_task, is_unit, kept_bytes}
+use Rattle.uas_tasks.specs.Saved.{AreSavable, IsSavable, RestoredAreKept, TagsAreRestored, asking_span, buffer_again, given_again, is_job_of, is_kind, is_pending, is_stage, is_task, is_unit, kept_bytes}
 use Rattle.uas_tasks.specs.Saved.{moving_span, part_of, restored_slot, stage_span, tag_state, task_kept}
-use Rattle.uas_tasks.specs.Slots.{SlotState, chunk_blocks, chunk_bytes, fresh_slot, request_bytes}
-use Rattle.uas_tasks.specs.Soundness.{EachFits, IsSoundJob, FitsRoom, IsJobOf, IsSoundMachine, IsSoundSlot, IsSoundStage, IsSoundTask, IsTaskWithin, IsUnit, IsWithin, lengths_of, shapes_of}
+use Rattle.uas_tasks.specs.Jobs.{chunk_blocks, chunk_bytes, request_bytes}
+use Rattle.uas_tasks.specs.Slots.{SlotState, fresh_slot}
+use Rattle.uas_tasks.specs.Soundness.{EachFits, IsSoundJob, IsSoundKind, FitsRoom, IsJobOf, IsSoundMachine, IsSoundSlot, IsSoundStage, IsSoundTask, IsTaskWithin, IsUnit, IsWithin, lengths_of, shapes_of}
+use Rattle.host_commands.specs.declared.TheConstants.{MOST_UNMAP_BYTES}
+use Rattle.uas_tasks.specs.Jobs.{kind_bytes, most_blocks}
+use Rattle.uas_tasks.specs.Slots.{chunk_room}
 use Rattle.uas_tasks.proofs.Keeping.{waits}
 use Rattle.uas_tasks.proofs.Places.{shapes_many}
-use Rattle.uas_tasks.proofs.Restoring.{apart, task_fits}
+use Rattle.uas_tasks.proofs.Restoring.{apart, kind_of, task_fits}
 
 -- A PART OF A CHUNK
 
@@ -39,6 +43,10 @@ asking-within (Writes through) bytes = omega arith
 asking-within Compares bytes = omega arith
 asking-within Verifies bytes = omega arith
 asking-within Synchronizes bytes = omega arith
+asking-within (WritesSame unmaps through) bytes = omega arith
+asking-within (Zeroes unmaps through) bytes = omega arith
+asking-within (Unmaps list index block count through) bytes = omega arith
+asking-within (TellsStatus most) bytes = omega arith
 asking-within (WritesAndVerifies compares has_written) bytes = either compares has_written
   where
     either : (compares has_written : Bool) → 0 + request_bytes (WritesAndVerifies compares has_written) bytes ≤ bytes
@@ -55,6 +63,10 @@ moving-within Compares at bytes within = omega arith
 moving-within Verifies at bytes within = omega arith
 moving-within Synchronizes at bytes within = omega arith
 moving-within (WritesAndVerifies compares has_written) at bytes within = omega arith
+moving-within (WritesSame unmaps through) at bytes within = omega arith
+moving-within (Zeroes unmaps through) at bytes within = omega arith
+moving-within (Unmaps list index block count through) at bytes within = omega arith
+moving-within (TellsStatus most) at bytes within = omega arith
 
 stage-within : (chunk : ℕ) (job : Job) (stage : Stage) → IsSoundStage chunk job stage →
     (stage_span chunk job stage).from + (stage_span chunk job stage).many ≤ chunk_bytes chunk job
@@ -62,19 +74,49 @@ stage-within chunk job Asking sound = asking-within job.kind (chunk_bytes chunk 
 stage-within chunk job Waiting sound = omega arith
 stage-within chunk job (Moving at) sound = moving-within job.kind at (chunk_bytes chunk job) (omega (arith, sound.0))
 
-chunk-fits : (chunk room : ℕ) (job : Job) → chunk * job.block_bytes ≤ room → chunk_bytes chunk job ≤ room
-chunk-fits chunk room job fits =
-    let less : chunk_blocks chunk job ≤ chunk = omega arith in
+-- a chunk has at most so many blocks
+pub blocks-most : (chunk : ℕ) (kind : JobKind) → most_blocks kind chunk ≤ chunk
+blocks-most chunk Reads = omega arith
+blocks-most chunk ReadsBeforeBad = omega arith
+blocks-most chunk (Writes through) = omega arith
+blocks-most chunk Compares = omega arith
+blocks-most chunk Verifies = omega arith
+blocks-most chunk Synchronizes = omega arith
+blocks-most chunk (WritesAndVerifies compares has_written) = omega arith
+blocks-most chunk (WritesSame unmaps through) = omega arith
+blocks-most chunk (Zeroes unmaps through) = omega arith
+blocks-most chunk (Unmaps list index block count through) = omega arith
+blocks-most chunk (TellsStatus most) = omega arith
+
+-- its bytes are those of its blocks, or a list
+kind-bytes : (P : ℕ → Type 0) (blocks all : ℕ) (kind : JobKind) → IsSoundKind all kind → P blocks → ((list : ℕ) → list ≤ MOST_UNMAP_BYTES → P list) →
+    P (kind_bytes kind blocks)
+kind-bytes P blocks all Reads is own list = own
+kind-bytes P blocks all ReadsBeforeBad is own list = own
+kind-bytes P blocks all (Writes through) is own list = own
+kind-bytes P blocks all Compares is own list = own
+kind-bytes P blocks all Verifies is own list = own
+kind-bytes P blocks all Synchronizes is own list = own
+kind-bytes P blocks all (WritesAndVerifies compares has_written) is own list = own
+kind-bytes P blocks all (WritesSame unmaps through) is own list = own
+kind-bytes P blocks all (Zeroes unmaps through) is own list = own
+kind-bytes P blocks all (Unmaps bytes index block count through) is own list = list bytes is.1.0
+kind-bytes P blocks all (TellsStatus most) is own list = own
+
+pub chunk-fits : (chunk room : ℕ) (job : Job) → IsSoundKind job.count job.kind → chunk_room chunk job.block_bytes ≤ room → chunk_bytes chunk job ≤ room
+chunk-fits chunk room job is fits =
+    let less : chunk_blocks chunk job ≤ chunk = omega (arith, blocks-most chunk job.kind) in
     let all = mul-le job.block_bytes (chunk_blocks chunk job) job.block_bytes chunk (omega arith) less in
     let turned : job.block_bytes * chunk ≡ chunk * job.block_bytes = grind arith in
-    omega (arith, all, turned, fits)
+    kind-bytes (λ bytes. bytes ≤ room) (job.block_bytes * chunk_blocks chunk job) job.count job.kind is (omega (arith, all, turned, fits))
+    (λ list most. omega (arith, most, fits))
 
 length-part : (span : Span) (bytes : List ℕ) → span.from + span.many ≤ length bytes → length (part_of span bytes) ≡ span.many
 length-part span bytes within = length-take-le span.many (drop span.from bytes) (omega (arith, length-drop span.from bytes))
 
-stage-fits : (chunk room : ℕ) (job : Job) (stage : Stage) → IsSoundStage chunk job stage → chunk * job.block_bytes ≤ room →
+stage-fits : (chunk room : ℕ) (job : Job) (stage : Stage) → IsSoundStage chunk job stage → IsSoundKind job.count job.kind → chunk_room chunk job.block_bytes ≤ room →
     (stage_span chunk job stage).from + (stage_span chunk job stage).many ≤ room
-stage-fits chunk room job stage sound fits = omega (arith, stage-within chunk job stage sound, chunk-fits chunk room job fits)
+stage-fits chunk room job stage sound is fits = omega (arith, stage-within chunk job stage sound, chunk-fits chunk room job is fits)
 
 -- WHAT IS KEPT IS A STATE
 
@@ -82,12 +124,26 @@ unit-is : (units : List LogicalUnit) (unit : Option ℕ) → IsUnit (length (sha
 unit-is units None there = refl
 unit-is units (Some number) there = lt-ltb number (length units) (rw (← shapes_many units) there)
 
-job-is : (units : List LogicalUnit) (number : ℕ) (job : Job) → IsJobOf (shapes_of units) number job → job.done < job.count → is_job_of units number job ≡ true
-job-is [] number job on left = absurd on
-job-is (unit ∷ units) zero job on left =
-    and_from _ _ (and_from _ _ (eq-eqb job.block_bytes (block_bytes unit.shape.block_length) on.0) (le-leb (job.lba + job.count) unit.shape.blocks on.1))
-    (lt-ltb job.done job.count left)
-job-is (unit ∷ units) (suc number) job on left = job-is units number job on left
+kind-is : (blocks : ℕ) (kind : JobKind) → IsSoundKind blocks kind → is_kind blocks kind ≡ true
+kind-is blocks Reads is = refl
+kind-is blocks ReadsBeforeBad is = refl
+kind-is blocks (Writes through) is = refl
+kind-is blocks Compares is = refl
+kind-is blocks Verifies is = refl
+kind-is blocks Synchronizes is = refl
+kind-is blocks (WritesAndVerifies compares has_written) is = refl
+kind-is blocks (WritesSame unmaps through) is = refl
+kind-is blocks (Zeroes unmaps through) is = refl
+kind-is blocks (Unmaps list index block count through) is =
+    and_from _ _ (and_from _ _ (lt-ltb 0 list is.0) (le-leb list MOST_UNMAP_BYTES is.1.0)) (le-leb (block + count) blocks is.1.1)
+kind-is blocks (TellsStatus most) is = refl
+
+job-is : (units : List LogicalUnit) (number : ℕ) (job : Job) → IsJobOf (shapes_of units) number job → job.done < job.count → IsSoundKind job.count job.kind → is_job_of units number job ≡ true
+job-is [] number job on left is = absurd on
+job-is (unit ∷ units) zero job on left is =
+    and_from _ _ (and_from _ _ (and_from _ _ (eq-eqb job.block_bytes (block_bytes unit.shape.block_length) on.0) (le-leb (job.lba + job.count) unit.shape.blocks on.1))
+    (lt-ltb job.done job.count left)) (kind-is job.count job.kind is)
+job-is (unit ∷ units) (suc number) job on left is = job-is units number job on left is
 
 stage-is : (chunk unit : ℕ) (job : Job) (stage : Stage) → waits (Some (Blocks unit job stage)) ≡ false → IsSoundStage chunk job stage → is_stage chunk job stage ≡ true
 stage-is chunk unit job Asking still sound = refl
@@ -102,9 +158,9 @@ task-is units chunk given bytes (Giving unit at) few sound fits within still =
     and_from _ _ (and_from _ _ (unit-is units unit within) (lt-ltb 0 (length (drop at given)) (omega (arith, left, sound))))
     (le-leb (at + length (drop at given)) 604 (omega (arith, left, sound, few)))
 task-is units chunk given bytes (Blocks unit job stage) few sound fits within still =
-    and_from _ _ (and_from _ _ (job-is units unit job within sound.0.left) (stage-is chunk unit job stage still sound.1))
+    and_from _ _ (and_from _ _ (job-is units unit job within sound.0.left sound.0.kind) (stage-is chunk unit job stage still sound.1))
     (eq-eqb (length (part_of (stage_span chunk job stage) bytes)) (stage_span chunk job stage).many
-    (length-part (stage_span chunk job stage) bytes (stage-fits chunk (length bytes) job stage sound.1 fits)))
+    (length-part (stage_span chunk job stage) bytes (stage-fits chunk (length bytes) job stage sound.1 sound.0.kind fits)))
 task-is units chunk given bytes (Ended unit answer) few sound fits within still = and_from _ _ (unit-is units unit within) refl
 task-is units chunk given bytes (Failed unit failure) few sound fits within still =
     and_from _ _ (lt-ltb unit (length units) (rw (← shapes_many units) within)) refl
@@ -124,7 +180,10 @@ slot-savable units slot sound within still = by_task slot.task sound.task sound.
 
 -- and at most a chunk
 chunk-few : (chunk : ℕ) (job : Job) → chunk ≤ 128 → IsSoundJob job → chunk_bytes chunk job ≤ 524288
-chunk-few chunk job most sound = mul-le job.block_bytes (chunk_blocks chunk job) 4096 128 sound.most (omega (arith, most))
+chunk-few chunk job most sound =
+    kind-bytes (λ bytes. bytes ≤ 524288) (job.block_bytes * chunk_blocks chunk job) job.count job.kind sound.kind
+    (mul-le job.block_bytes (chunk_blocks chunk job) 4096 128 sound.most (omega (arith, most, blocks-most chunk job.kind)))
+    (λ list few. omega (arith, few))
 
 task-few : (chunk : ℕ) (given bytes : List ℕ) (task : Task) → chunk ≤ 128 → length given ≤ 604 → IsSoundTask chunk (length given) task →
     length (task_kept chunk given bytes task) ≤ 524288
@@ -181,7 +240,7 @@ task-again units chunk room bytes (Giving unit at) fits is = drop_at (replicate 
 task-again units chunk room bytes (Blocks unit job stage) fits is =
     let parts = and_parts _ _ is in
     part-again (stage_span chunk job stage) room bytes
-    (stage-fits chunk room job stage (stage-sound chunk job stage (and_parts _ _ parts.0).1) (task_fits units chunk room (length bytes) (Blocks unit job stage) fits is))
+    (stage-fits chunk room job stage (stage-sound chunk job stage (and_parts _ _ parts.0).1) (kind_of units unit job (and_parts _ _ parts.0).0) (task_fits units chunk room (length bytes) (Blocks unit job stage) fits is))
     (eqb-true (length bytes) (stage_span chunk job stage).many parts.1)
 task-again units chunk room bytes (Ended unit answer) fits is = sym (none-left bytes (and_parts _ _ is).1)
 task-again units chunk room bytes (Failed unit failure) fits is = sym (none-left bytes (and_parts _ _ is).1)

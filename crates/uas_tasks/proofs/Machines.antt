@@ -16,7 +16,7 @@ use Rattle.uas_tasks.specs.declared.Task.TheVariants.{Held}
 use Rattle.uas_tasks.specs.declared.Wants.TheVariants.{Asks}
 use Rattle.uas_tasks.specs.Machine.{Machine, aborted_on, attentive, begun, completed, executed_on, greatest_block, has_stale, has_task, made, managed, next_asked, next_by, no_slot}
 use Rattle.uas_tasks.specs.Machine.{queried_on, reset_on, responded, slot_of, slot_under, with_slot_under, without_command}
-use Rattle.uas_tasks.specs.Slots.{SlotState, asked_slot, fresh_slot, has_command, is_tag, spared, spared_slot}
+use Rattle.uas_tasks.specs.Slots.{SlotState, asked_slot, fresh_slot, has_command, is_tag, spared, spared_slot, chunk_room}
 use Rattle.uas_tasks.specs.Soundness.{IsAnswer, IsSoundMachine, IsWithin, shapes_of}
 use Rattle.uas_tasks.proofs.Counts.{Keeps}
 use Rattle.uas_tasks.proofs.Keeping.{free_still, waits}
@@ -200,7 +200,7 @@ asked_there units set slots tag place read now told under written so is = rw (wr
 -- A NEW DEVICE
 
 pub opening_made : (many : ℕ) (units shaped : List LogicalUnit) (set : CommandSet) (slots : List SlotState) (chunk room : ℕ) → units ≡ shaped →
-    slots ≡ replicate many (fresh_slot chunk room) → room ≡ chunk * greatest_block units →
-    ◌≡◌ {A = Machine} (record { units = units; set = set; slots = slots }) (made many shaped set chunk (chunk * greatest_block shaped))
+    slots ≡ replicate many (fresh_slot chunk room) → room ≡ chunk_room chunk (greatest_block units) →
+    ◌≡◌ {A = Machine} (record { units = units; set = set; slots = slots }) (made many shaped set chunk (chunk_room chunk (greatest_block shaped)))
 unfolding made
 opening_made many units shaped set slots chunk room units_is slots_is room_is = rw (slots_is, room_is, units_is) refl

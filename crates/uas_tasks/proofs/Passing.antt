@@ -12,7 +12,7 @@ use Rattle.uas_tasks.specs.declared.AnswerFault.{AnswerFault}
 use Rattle.uas_tasks.specs.declared.AnswerFault.TheVariants.{NotOut}
 use Rattle.uas_tasks.specs.declared.Job.{Job}
 use Rattle.uas_tasks.specs.declared.JobKind.{JobKind}
-use Rattle.uas_tasks.specs.declared.JobKind.TheVariants.{Reads, ReadsBeforeBad, Writes, Compares, Verifies, Synchronizes, WritesAndVerifies}
+use Rattle.uas_tasks.specs.declared.JobKind.TheVariants.{Reads, ReadsBeforeBad, Writes, Compares, Verifies, Synchronizes, WritesAndVerifies, WritesSame, Zeroes, Unmaps, TellsStatus}
 use Rattle.uas_tasks.specs.declared.Next.{Next}
 use Rattle.uas_tasks.specs.declared.Next.TheVariants.{Absent as NextAbsent, Asks as NextAsks, Waits as NextWaits, Gives as NextGives, Takes as NextTakes, Ends as NextEnds}
 use Rattle.uas_tasks.specs.declared.Outcome.{Outcome}
@@ -26,7 +26,8 @@ use Rattle.uas_tasks.specs.declared.Wants.TheVariants.{Absent, Asks, Waits, Give
 use Rattle.uas_tasks.specs.declared.slot.Out.{Out}
 use Rattle.uas_tasks.specs.Laws.{AsksNotOf, LastAnswerFrees, NothingStalePasses, WhatIsAskedLaterLandsLater}
 use Rattle.uas_tasks.specs.Machine.{Machine, answer_fault, answer_on, answered_out, answered_unless, has_stale, is_held, next_by, no_slot, number_of, out_of_number, slot_of, slot_under, wanted, with_slot, with_slot_under}
-use Rattle.uas_tasks.specs.Slots.{SlotState, after_answer, answered_slot, asked_slot, moved_way, out_of, request_of, slot_wants, stage_wants, task_wants}
+use Rattle.uas_tasks.specs.Jobs.{moved_way, request_of, stage_wants}
+use Rattle.uas_tasks.specs.Slots.{SlotState, after_answer, answered_slot, asked_slot, out_of, slot_wants, task_wants}
 use Rattle.uas_tasks.specs.Stale.{held_by, is_stale, unit_in}
 use Rattle.uas_tasks.proofs.Counts.{any_counted, one}
 use Rattle.uas_tasks.proofs.Keeping.{answered-stale, asked-stale}
@@ -44,6 +45,11 @@ request_unit unit chunk job Synchronizes = refl
 request_unit unit chunk job (WritesAndVerifies compares false) = refl
 request_unit unit chunk job (WritesAndVerifies true true) = refl
 request_unit unit chunk job (WritesAndVerifies false true) = refl
+request_unit unit chunk job (WritesSame unmaps through) = refl
+request_unit unit chunk job (Zeroes true through) = refl
+request_unit unit chunk job (Zeroes false through) = refl
+request_unit unit chunk job (Unmaps list index block count through) = refl
+request_unit unit chunk job (TellsStatus most) = refl
 
 -- where a slot that isn't held is asked, its request is of a logical unit without a stale one
 asks_free : (stale : ℕ → Bool) (slot : SlotState) → slot_wants slot ≡ Asks → option_map_or stale (option_and_then held_by slot.task) false ≡ false →
@@ -64,6 +70,10 @@ asks_free stale slot asks free out is = by_task slot.chunk (length slot.given) s
         by_kind Verifies bytes is = let it : ⊥ = cc in it
         by_kind Synchronizes bytes is = let it : ⊥ = cc in it
         by_kind (WritesAndVerifies compares has_written) bytes is = let it : ⊥ = cc in it
+        by_kind (WritesSame unmaps through) bytes is = let it : ⊥ = cc in it
+        by_kind (Zeroes unmaps through) bytes is = let it : ⊥ = cc in it
+        by_kind (Unmaps list index block count through) bytes is = let it : ⊥ = cc in it
+        by_kind (TellsStatus most) bytes is = let it : ⊥ = cc in it
 
     by_task : (chunk given : ℕ) (own : Option Out) (task : Option Task) → option_map_or (task_wants chunk (is_some own) given) task Absent ≡ Asks →
         option_map_or stale (option_and_then held_by task) false ≡ false → option_and_then (out_of chunk) task ≡ Some out → stale (unit_in out.request) ≡ false
@@ -188,7 +198,7 @@ by_fault machine number tag outcome bytes held code count is task out None done 
     (last_gone number machine.slots tag (answered_slot (slot_of machine tag) out outcome bytes) count is
     (ap (is_at number) (answered-stale (slot_of machine tag) out outcome bytes)))
     (under_so (λ s. s.task ≡ Some (Held number code)) (λ s. answered_slot s out outcome bytes)
-    (λ s was. ap (option_map (after_answer outcome s.chunk)) was) machine.slots tag held task)
+    (λ s was. ap (option_map (after_answer outcome s.chunk s.bytes)) was) machine.slots tag held task)
 
 freed : (machine : Machine) (number tag : ℕ) (outcome : Outcome) (bytes : List ℕ) (held code : ℕ) → count_by (is_stale number) machine.slots ≡ 1 →
     is_stale number (slot_of machine tag) ≡ true → (slot_of machine held).task ≡ Some (Held number code) → (out : Option Out) →

@@ -16,7 +16,7 @@ use Rattle.uas_profile.specs.declared.TheConstants.{GREATEST_TAG, MAX_UNITS}
 use Rattle.uas_tasks.specs.declared.LogicalUnit.{LogicalUnit}
 use Rattle.uas_tasks.specs.declared.slot.Out.{Out}
 use Rattle.uas_tasks.specs.Machine.{attentive, greatest_block, is_long, is_long_block, no_slot, number_of, out_on, powered, slot_under, stale_from, with_slot_under}
-use Rattle.uas_tasks.specs.Slots.{SlotState, fresh_slot}
+use Rattle.uas_tasks.specs.Slots.{SlotState, fresh_slot, chunk_room}
 use Rattle.uas_tasks.specs.Soundness.{AreCounted, AreSized, EachFits, HasRoom, IsSoundMachine, IsWithin, IsWritten, lengths_of, shapes_of}
 use Rattle.uas_tasks.specs.Stale.{is_stale, stale_unit}
 use Rattle.uas_tasks.proofs.Counts.{AreCounted-kept, Keeps}
@@ -86,10 +86,10 @@ sized_written : (size : ℕ) (units : List LogicalUnit) (slots : List SlotState)
     AreSized size units (slice_set slots place now)
 sized_written size units slots place read now within is chunk len sized =
     let one : read.chunk ≡ size = ap (λ (s : SlotState). s.chunk) is ∙ sized.chunks place read within in
-    let two : length read.bytes ≡ size * greatest_block units = ap (λ (s : SlotState). length s.bytes) is ∙ sized.buffers place read within in
+    let two : length read.bytes ≡ chunk_room size (greatest_block units) = ap (λ (s : SlotState). length s.bytes) is ∙ sized.buffers place read within in
     record {
       chunks = All-set (λ (s : SlotState). s.chunk ≡ size) slots place now (chunk ∙ one) sized.chunks;
-      buffers = All-set (λ (s : SlotState). length s.bytes ≡ size * greatest_block units) slots place now (len ∙ two) sized.buffers;
+      buffers = All-set (λ (s : SlotState). length s.bytes ≡ chunk_room size (greatest_block units)) slots place now (len ∙ two) sized.buffers;
     }
 
 -- where a slot is written that keeps its chunk and its buffer's length, and the stale requests are counted then
@@ -168,16 +168,16 @@ shapes_of-set units number read after is same =
 
 -- a chunk of the logical unit of a number has room in a slot
 unit_room : (units : List LogicalUnit) (number : ℕ) (read : LogicalUnit) (slot : SlotState) → HasRoom (lengths_of units) slot → number < length units →
-    slot.chunk * block_bytes (slice_index_or units number read).shape.block_length ≤ length slot.bytes
+    chunk_room slot.chunk (block_bytes (slice_index_or units number read).shape.block_length) ≤ length slot.bytes
 unit_room [] number read slot room within = absurd (omega arith)
 unit_room (unit ∷ units) zero read slot room within = room.0
 unit_room (unit ∷ units) (suc number) read slot room within = unit_room units number read slot room.1 (omega arith)
 
 pub room_of : (units : List LogicalUnit) (stale : List ℕ) (slots : List SlotState) (place number : ℕ) (read : SlotState) (unit : LogicalUnit) →
     IsSoundMachine units stale slots → place < length slots → read ≡ slice_index_or slots place read → number < length units → unit ≡ slice_index_or units number unit →
-    read.chunk * block_bytes unit.shape.block_length ≤ length read.bytes
+    chunk_room read.chunk (block_bytes unit.shape.block_length) ≤ length read.bytes
 room_of units stale slots place number read unit sound within is there unit_is =
-    let P : LogicalUnit → Type 0 = λ u. read.chunk * block_bytes u.shape.block_length ≤ length read.bytes in
+    let P : LogicalUnit → Type 0 = λ u. chunk_room read.chunk (block_bytes u.shape.block_length) ≤ length read.bytes in
     subst P (sym unit_is) (unit_room units number unit read (room_at units stale slots place read sound within is) there)
 
 pub shapes_many : (units : List LogicalUnit) → length (shapes_of units) ≡ length units
@@ -212,9 +212,9 @@ IsSoundMachine-map units stale after slots f sound chunk bytes keeps many counte
     record {
       chunks = All-map (λ (s : SlotState). s.chunk ≡ sound.sized.0) f slots
           (All-weaker (λ (s : SlotState). s.chunk ≡ sound.sized.0) (λ (s : SlotState). (f s).chunk ≡ sound.sized.0) (λ s it. chunk s ∙ it) slots sound.sized.1.chunks);
-      buffers = All-map (λ (s : SlotState). length s.bytes ≡ sound.sized.0 * greatest_block units) f slots
-          (All-weaker (λ (s : SlotState). length s.bytes ≡ sound.sized.0 * greatest_block units)
-          (λ (s : SlotState). length (f s).bytes ≡ sound.sized.0 * greatest_block units) (λ s it. ap length (bytes s) ∙ it) slots sound.sized.1.buffers);
+      buffers = All-map (λ (s : SlotState). length s.bytes ≡ chunk_room sound.sized.0 (greatest_block units)) f slots
+          (All-weaker (λ (s : SlotState). length s.bytes ≡ chunk_room sound.sized.0 (greatest_block units))
+          (λ (s : SlotState). length (f s).bytes ≡ chunk_room sound.sized.0 (greatest_block units)) (λ s it. ap length (bytes s) ∙ it) slots sound.sized.1.buffers);
     },
   );
 }
@@ -244,24 +244,24 @@ map-all f items now many is all =
 
 -- A NEW DEVICE
 
-long_fits : (chunk : ℕ) (units : List LogicalUnit) → EachFits chunk (chunk * 4096) (lengths_of units)
+long_fits : (chunk : ℕ) (units : List LogicalUnit) → EachFits chunk (chunk_room chunk 4096) (lengths_of units)
 long_fits chunk [] = tt
 long_fits chunk (unit ∷ units) =
-    (elim unit.shape.block_length as (λ l. chunk * block_bytes l ≤ chunk * 4096) [ Bytes512 ↦ omega arith | Bytes4096 ↦ omega arith ], long_fits chunk units)
+    (elim unit.shape.block_length as (λ l. chunk_room chunk (block_bytes l) ≤ chunk_room chunk 4096) [ Bytes512 ↦ omega arith | Bytes4096 ↦ omega arith ], long_fits chunk units)
 
-short_block : (chunk : ℕ) (block_length : BlockLength) → is_long_block block_length ≡ false → chunk * block_bytes block_length ≤ chunk * 512
+short_block : (chunk : ℕ) (block_length : BlockLength) → is_long_block block_length ≡ false → chunk_room chunk (block_bytes block_length) ≤ chunk_room chunk 512
 short_block chunk Bytes512 short = omega arith
 short_block chunk Bytes4096 short = let no : ◌≡◌ {A = Bool} true false = short in let it : ⊥ = cc in absurd it
 
-short_fits : (chunk : ℕ) (units : List LogicalUnit) → list_any is_long units ≡ false → EachFits chunk (chunk * 512) (lengths_of units)
+short_fits : (chunk : ℕ) (units : List LogicalUnit) → list_any is_long units ≡ false → EachFits chunk (chunk_room chunk 512) (lengths_of units)
 short_fits chunk [] none = tt
 short_fits chunk (unit ∷ units) none =
     let parts = or_parts (is_long unit) (list_any is_long units) none in
     (short_block chunk unit.shape.block_length parts.0, short_fits chunk units parts.1)
 
-each_fits : (chunk : ℕ) (units : List LogicalUnit) → EachFits chunk (chunk * greatest_block units) (lengths_of units)
+each_fits : (chunk : ℕ) (units : List LogicalUnit) → EachFits chunk (chunk_room chunk (greatest_block units)) (lengths_of units)
 each_fits chunk units =
-    elim (list_any is_long units) as (λ b. list_any is_long units ≡ b → EachFits chunk (chunk * cond b 4096 512) (lengths_of units)) [
+    elim (list_any is_long units) as (λ b. list_any is_long units ≡ b → EachFits chunk (chunk_room chunk (cond b 4096 512)) (lengths_of units)) [
       | true ↦ λ long. long_fits chunk units
       | false ↦ λ none. short_fits chunk units none
     ] refl
@@ -285,12 +285,12 @@ fresh_counted many count chunk room number =
     zeros (suc many) (suc number) = zeros many number
 
 -- fresh slots have room for a chunk of each logical unit
-pub opening_sound : (units : List LogicalUnit) (chunk room : ℕ) → length units ≤ MAX_UNITS → room ≡ chunk * greatest_block units →
+pub opening_sound : (units : List LogicalUnit) (chunk room : ℕ) → length units ≤ MAX_UNITS → room ≡ chunk_room chunk (greatest_block units) →
     IsSoundMachine units (replicate (length units) 0) (replicate GREATEST_TAG (fresh_slot chunk room))
 opening_sound units chunk room most is =
     let P : SlotState → Type 0 = HasRoom (lengths_of units) in
     let bytes : List ℕ = replicate room 0 in
-    let long : length bytes ≡ chunk * greatest_block units = length_replicate room 0 ∙ is in
+    let long : length bytes ≡ chunk_room chunk (greatest_block units) = length_replicate room 0 ∙ is in
     let fits : EachFits chunk (length bytes) (lengths_of units) = rw long (each_fits chunk units) in
     record {
       most_units = most;
@@ -303,7 +303,7 @@ opening_sound units chunk room most is =
         chunk,
         record {
           chunks = All-replicate (λ (s : SlotState). s.chunk ≡ chunk) GREATEST_TAG (fresh_slot chunk room) refl;
-          buffers = All-replicate (λ (s : SlotState). length s.bytes ≡ chunk * greatest_block units) GREATEST_TAG (fresh_slot chunk room) long;
+          buffers = All-replicate (λ (s : SlotState). length s.bytes ≡ chunk_room chunk (greatest_block units)) GREATEST_TAG (fresh_slot chunk room) long;
         },
       );
     }

@@ -9,6 +9,8 @@ use Rattle.scsi_cmd.specs.Laws.{written_at-fits}
 use Rattle.scsi_cmd.proofs.Buffers.{with_bytes_at-whole}
 use Rattle.host_commands.specs.Shapes.{Shape, block_bytes}
 use Rattle.uas_tasks.specs.declared.Job.{Job}
+use Rattle.uas_tasks.specs.declared.JobKind.{JobKind}
+use Rattle.uas_tasks.specs.declared.JobKind.TheVariants.{Reads, ReadsBeforeBad, Writes, Compares, Verifies, Synchronizes, WritesAndVerifies, WritesSame, Zeroes, Unmaps, TellsStatus}
 use Rattle.uas_tasks.specs.declared.LogicalUnit.{LogicalUnit}
 use Rattle.uas_tasks.specs.declared.saved.TagState.{TagState}
 use Rattle.uas_tasks.specs.declared.Stage.{Stage}
@@ -16,9 +18,10 @@ use Rattle.uas_tasks.specs.declared.Stage.TheVariants.{Asking, Waiting, Moving}
 use Rattle.uas_tasks.specs.declared.Task.{Task}
 use Rattle.uas_tasks.specs.declared.Task.TheVariants.{Giving, Blocks, Ended, Failed, Held}
 use Rattle.uas_tasks.specs.Machine.{Machine, slot_of}
-use Rattle.uas_tasks.specs.Saved.{is_free, is_job_of, is_job_on, is_stage, is_tag_state, is_task, is_unit, may_restore, restored_slot}
-use Rattle.uas_tasks.specs.Slots.{SlotState, is_tag}
-use Rattle.uas_tasks.specs.Soundness.{EachFits, FitsRoom, IsJobOf, IsJobOn, IsUnit, lengths_of, shapes_of}
+use Rattle.uas_tasks.specs.Saved.{is_free, is_job_of, is_job_on, is_kind, is_stage, is_tag_state, is_task, is_unit, may_restore, restored_slot}
+use Rattle.host_commands.specs.declared.TheConstants.{MOST_UNMAP_BYTES}
+use Rattle.uas_tasks.specs.Slots.{SlotState, chunk_room, is_tag}
+use Rattle.uas_tasks.specs.Soundness.{EachFits, FitsRoom, IsJobOf, IsJobOn, IsSoundKind, IsUnit, lengths_of, shapes_of}
 use Rattle.uas_tasks.proofs.Counts.{Keeps}
 use Rattle.uas_tasks.proofs.Keeping.{Rests, rests-keeps, waits}
 use Rattle.uas_tasks.proofs.Places.{shapes_many}
@@ -41,8 +44,29 @@ apart is = let it : ⊥ = cc in absurd it
 
 job_on : (job : Job) (shape : Shape) → is_job_on job shape ≡ true → IsJobOn job shape
 job_on job shape is =
-    let parts = and_parts _ _ (and_parts _ _ is).0 in
+    let parts = and_parts _ _ (and_parts _ _ (and_parts _ _ is).0).0 in
     (eqb-true job.block_bytes (block_bytes shape.block_length) parts.0, leb-true (job.lba + job.count) shape.blocks parts.1)
+
+kind_on : (blocks : ℕ) (kind : JobKind) → is_kind blocks kind ≡ true → IsSoundKind blocks kind
+kind_on blocks Reads is = tt
+kind_on blocks ReadsBeforeBad is = tt
+kind_on blocks (Writes through) is = tt
+kind_on blocks Compares is = tt
+kind_on blocks Verifies is = tt
+kind_on blocks Synchronizes is = tt
+kind_on blocks (WritesAndVerifies compares has_written) is = tt
+kind_on blocks (WritesSame unmaps through) is = tt
+kind_on blocks (Zeroes unmaps through) is = tt
+kind_on blocks (Unmaps list index block count through) is =
+    let parts = and_parts _ _ is in
+    let first = and_parts _ _ parts.0 in
+    (ltb-true 0 list first.0, (leb-true list MOST_UNMAP_BYTES first.1, leb-true (block + count) blocks parts.1))
+kind_on blocks (TellsStatus most) is = tt
+
+pub kind_of : (units : List LogicalUnit) (number : ℕ) (job : Job) → is_job_of units number job ≡ true → IsSoundKind job.count job.kind
+kind_of [] number job is = apart is
+kind_of (unit ∷ units) zero job is = kind_on job.count job.kind (and_parts _ _ is).1
+kind_of (unit ∷ units) (suc number) job is = kind_of units number job is
 
 job_of : (units : List LogicalUnit) (number : ℕ) (job : Job) → is_job_of units number job ≡ true → IsJobOf (shapes_of units) number job
 job_of [] number job is = apart is
@@ -54,7 +78,7 @@ unit_of units None is = tt
 unit_of units (Some number) is = rw shapes_many (ltb-true number (length units) is)
 
 job_fits : (chunk room : ℕ) (units : List LogicalUnit) (number : ℕ) (job : Job) → EachFits chunk room (lengths_of units) → is_job_of units number job ≡ true →
-    chunk * job.block_bytes ≤ room
+    chunk_room chunk job.block_bytes ≤ room
 job_fits chunk room [] number job fits is = apart is
 job_fits chunk room (unit ∷ units) zero job fits is =
     rw (job_on job unit.shape is).0 fits.0

@@ -35,7 +35,8 @@ use Rattle.uas_tasks.specs.declared.Task.TheVariants.{Ended, Held}
 use Rattle.uas_tasks.specs.declared.Wants.{Wants}
 use Rattle.uas_tasks.specs.declared.Wants.TheVariants.{Absent, Asks, Waits, Gives, Takes, Ends}
 use Rattle.uas_tasks.specs.declared.slot.Out.{Out}
-use Rattle.uas_tasks.specs.Slots.{SlotState, answered_slot, asked_slot, fresh_slot, gave_slot, has_command, has_place, is_known, is_of, is_tag, is_wrong_length, next_bytes, passed_out, passing_out, slot_wants}
+use Rattle.uas_tasks.specs.Outcomes.{has_place, is_known, is_of}
+use Rattle.uas_tasks.specs.Slots.{SlotState, answered_slot, asked_slot, fresh_slot, gave_slot, has_command, is_tag, is_wrong_length, next_bytes, passed_out, passing_out, slot_wants}
 use Rattle.uas_tasks.specs.Slots.{spared_slot, started, started_none, task_answer, took_slot, with_task}
 use Rattle.uas_tasks.specs.Stale.{held_by, is_stale, stale_unit}
 

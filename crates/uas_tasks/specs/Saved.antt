@@ -4,13 +4,13 @@ use Rattle.std.specs.Prelude.{Option, None, is_some, option_and_then, option_map
 use Rattle.std.specs.List.{list_any}
 use Rattle.std.specs.Option.{option_map_or}
 use Rattle.scsi_cmd.specs.Buffers.{with_bytes_at}
-use Rattle.host_commands.specs.declared.TheConstants.{MOST_DATA_BYTES}
+use Rattle.host_commands.specs.declared.TheConstants.{MOST_DATA_BYTES, MOST_UNMAP_BYTES}
 use Rattle.host_commands.specs.declared.UnitAttention.{UnitAttention}
 use Rattle.host_commands.specs.Shapes.{Shape, block_bytes}
 use Rattle.uas_profile.specs.declared.TheConstants.{GREATEST_TAG, MAX_UNITS}
 use Rattle.uas_tasks.specs.declared.Job.{Job}
 use Rattle.uas_tasks.specs.declared.JobKind.{JobKind}
-use Rattle.uas_tasks.specs.declared.JobKind.TheVariants.{Reads, ReadsBeforeBad, Writes, Compares, Verifies, Synchronizes, WritesAndVerifies}
+use Rattle.uas_tasks.specs.declared.JobKind.TheVariants.{Reads, ReadsBeforeBad, Writes, Compares, Verifies, Synchronizes, WritesAndVerifies, WritesSame, Zeroes, Unmaps, TellsStatus}
 use Rattle.uas_tasks.specs.declared.LogicalUnit.{LogicalUnit}
 use Rattle.uas_tasks.specs.declared.Stage.{Stage}
 use Rattle.uas_tasks.specs.declared.Stage.TheVariants.{Asking, Waiting, Moving}
@@ -21,7 +21,8 @@ use Rattle.uas_tasks.specs.declared.saved.TagState.{TagState}
 use Rattle.uas_tasks.specs.declared.saved.Unsound.{Unsound}
 use Rattle.uas_tasks.specs.Machine.{Machine, slot_of, with_attention, with_slot}
 use Rattle.uas_tasks.specs.Soundness.{EachFits, IsSoundJob, IsSoundStage, lengths_of}
-use Rattle.uas_tasks.specs.Slots.{SlotState, chunk_bytes, fresh_slot, is_moved, is_tag, request_bytes, task_waits}
+use Rattle.uas_tasks.specs.Jobs.{chunk_bytes, is_moved, request_bytes}
+use Rattle.uas_tasks.specs.Slots.{SlotState, fresh_slot, is_tag, task_waits}
 
 -- WHETHER A REQUEST IS OUT
 
@@ -37,7 +38,7 @@ has_request_out machine = list_any is_pending machine.slots
 abbrev pub no_span : Span
 no_span = record { from = 0; many = 0 }
 
--- of a command that is to ask: the bytes that its request takes to the backend. A Read takes none there.
+-- of a command that is to ask: the bytes that its request takes to the backend, and of UNMAP its list. A Read takes none there.
 abbrev pub asking_span : JobKind → ℕ → Span
 asking_span Reads bytes = no_span
 asking_span ReadsBeforeBad bytes = no_span
@@ -47,6 +48,10 @@ asking_span Verifies bytes = record { from = 0; many = request_bytes Verifies by
 asking_span Synchronizes bytes = record { from = 0; many = request_bytes Synchronizes bytes }
 asking_span (WritesAndVerifies compares has_written) bytes =
     record { from = 0; many = request_bytes (WritesAndVerifies compares has_written) bytes }
+asking_span (WritesSame unmaps through) bytes = record { from = 0; many = request_bytes (WritesSame unmaps through) bytes }
+asking_span (Zeroes unmaps through) bytes = no_span
+asking_span (Unmaps list index block count through) bytes = record { from = 0; many = bytes }
+asking_span (TellsStatus most) bytes = no_span
 
 -- of one whose bytes move: those that the host hasn't got yet, or those that came from it
 abbrev pub moving_span : JobKind → ℕ → ℕ → Span
@@ -57,6 +62,10 @@ moving_span Compares at bytes = record { from = 0; many = at }
 moving_span Verifies at bytes = no_span
 moving_span Synchronizes at bytes = no_span
 moving_span (WritesAndVerifies compares has_written) at bytes = record { from = 0; many = at }
+moving_span (WritesSame unmaps through) at bytes = record { from = 0; many = at }
+moving_span (Zeroes unmaps through) at bytes = no_span
+moving_span (Unmaps list index block count through) at bytes = record { from = 0; many = at }
+moving_span (TellsStatus most) at bytes = no_span
 
 -- of a chunk buffer
 abbrev pub stage_span : ℕ → Job → Stage → Span
@@ -89,9 +98,15 @@ tag_state slot = record { task = slot.task; turn = slot.turn }
 abbrev pub is_unit : ℕ → Option ℕ → Bool
 is_unit many unit = option_map_or (λ number. nat_lt number many) unit true
 
+-- a list of UNMAP, of which the blocks of a descriptor are asked: some of so many
+abbrev pub is_kind : ℕ → JobKind → Bool
+is_kind blocks (Unmaps list index block count through) = nat_lt 0 list && nat_le list MOST_UNMAP_BYTES && nat_le (block + count) blocks
+is_kind blocks kind = true
+
 -- blocks of a logical unit, some of which are left
 abbrev pub is_job_on : Job → Shape → Bool
-is_job_on job shape = job.block_bytes == block_bytes shape.block_length && nat_le (job.lba + job.count) shape.blocks && nat_lt job.done job.count
+is_job_on job shape =
+    job.block_bytes == block_bytes shape.block_length && nat_le (job.lba + job.count) shape.blocks && nat_lt job.done job.count && is_kind job.count job.kind
 
 abbrev pub is_job_of : List LogicalUnit → ℕ → Job → Bool
 is_job_of units number job = option_map_or (λ unit. is_job_on job unit.shape) (slice_get units number) false

@@ -1,20 +1,18 @@
 -- What the device has for one tag, and what each call makes of it.
-use Rattle.std.specs.Prelude.{ℕ, ◌+◌, ◌-◌, ◌*◌, ◌/◌, ◌%◌, ◌^◌, ◌==◌, nat_lt, nat_le, min, Bool, true, false, not, ◌&&◌, if◌then◌else◌, List, [], length, take, drop, replicate}
+use Rattle.std.specs.Prelude.{ℕ, ◌+◌, ◌-◌, ◌*◌, ◌%◌, ◌^◌, ◌==◌, nat_lt, nat_le, min, max, Bool, true, false, not, ◌&&◌, if◌then◌else◌, List, [], length, take, drop, replicate}
 use Rattle.std.specs.Prelude.{Option, Some, None, is_some, option_map, option_and_then, Result, Ok, Err}
 use Rattle.std.specs.Option.{option_map_or}
 use Rattle.scsi_cmd.specs.Buffers.{with_bytes_at}
 use Rattle.scsi_cmd.specs.declared.Sense.{Sense}
-use Rattle.scsi_cmd.specs.Sense.{unrecovered_read_error, write_error}
 use Rattle.device_server.specs.declared.Answer.TheVariants.{Good, Check}
 use Rattle.host_commands.specs.declared.BlockLength.{BlockLength}
+use Rattle.host_commands.specs.declared.TheConstants.{MOST_UNMAP_BYTES}
 use Rattle.host_commands.specs.declared.Work.{Work}
 use Rattle.host_commands.specs.declared.Work.TheVariants.{Nothing, Gives as GivesWork, Reads as ReadsWork, Writes as WritesWork, Synchronizes as SynchronizesWork}
 use Rattle.host_commands.specs.declared.Work.TheVariants.{Verifies as VerifiesWork, Compares as ComparesWork, WritesAndVerifies as WritesAndVerifiesWork}
+use Rattle.host_commands.specs.declared.Work.TheVariants.{Unmaps as UnmapsWork, WritesSame as WritesSameWork, TellsStatus as TellsStatusWork}
 use Rattle.host_commands.specs.Data.{given_bytes}
 use Rattle.host_commands.specs.Shapes.{Shape, block_bytes}
-use Rattle.host_commands.specs.declared.CommandSet.{CommandSet}
-use Rattle.host_commands.specs.declared.CommandSet.TheVariants.{Profile, Host, Disk}
-use Rattle.host_sense.specs.declared.Detail.TheVariants.{Information}
 use Rattle.host_sense.specs.declared.SenseFormat.TheVariants.{Fixed}
 use Rattle.host_sense.specs.Formats.{sense_data_bytes}
 use Rattle.uas_iu.specs.declared.Iu.{Iu}
@@ -26,18 +24,18 @@ use Rattle.uas_tasks.specs.declared.Failure.{Failure}
 use Rattle.uas_tasks.specs.declared.Failure.TheVariants.{Sensed, Busy as AsBusy}
 use Rattle.uas_tasks.specs.declared.Job.{Job}
 use Rattle.uas_tasks.specs.declared.JobKind.{JobKind}
-use Rattle.uas_tasks.specs.declared.JobKind.TheVariants.{Reads, ReadsBeforeBad, Writes, Compares, Verifies, Synchronizes, WritesAndVerifies}
+use Rattle.uas_tasks.specs.declared.JobKind.TheVariants.{Reads, Writes, Compares, Verifies, Synchronizes, WritesAndVerifies, WritesSame, Zeroes, Unmaps, TellsStatus}
 use Rattle.uas_tasks.specs.declared.Outcome.{Outcome}
-use Rattle.uas_tasks.specs.declared.Outcome.TheVariants.{Done, Differs, MediumError, NotReady, DiffersAt, MediumErrorAt, NoSpace, WriteProtected, Aborted, Busy}
-use Rattle.uas_tasks.specs.declared.Request.{Request}
-use Rattle.uas_tasks.specs.declared.Request.TheVariants.{Read, Write, Compare, Verify, Sync}
+use Rattle.uas_tasks.specs.declared.Outcome.TheVariants.{Done, Mapped}
 use Rattle.uas_tasks.specs.declared.Stage.{Stage}
 use Rattle.uas_tasks.specs.declared.Stage.TheVariants.{Asking, Waiting, Moving}
 use Rattle.uas_tasks.specs.declared.Task.{Task}
 use Rattle.uas_tasks.specs.declared.Task.TheVariants.{Giving, Blocks, Ended, Failed, Held}
 use Rattle.uas_tasks.specs.declared.Wants.{Wants}
-use Rattle.uas_tasks.specs.declared.Wants.TheVariants.{Absent, Asks, Waits, Gives, Takes, Ends}
+use Rattle.uas_tasks.specs.declared.Wants.TheVariants.{Absent, Waits, Gives, Ends}
 use Rattle.uas_tasks.specs.declared.slot.Out.{Out}
+use Rattle.uas_tasks.specs.Jobs.{after_outcome, came, chunk_bytes, ended_check, ended_good, first_stage, gave_chunk, giving_task, moved_on, request_bytes, request_of, stage_wants, told_status}
+use Rattle.uas_tasks.specs.Outcomes.{brings, brought, is_read}
 
 -- the tags that a task may have: 1 to 240 (GREATEST_TAG)
 abbrev pub is_tag : ℕ → Bool
@@ -61,30 +59,11 @@ fresh_slot chunk room = record { chunk = chunk; task = None; turn = 0; out = Non
 abbrev pub with_task : SlotState → Option Task → SlotState
 with_task slot task = record slot { task = task }
 
--- THE CHUNK: of 20 blocks with a chunk of 8 these are 8, 8 and 4
-
-abbrev pub chunk_blocks : ℕ → Job → ℕ
-chunk_blocks chunk job = min chunk (job.count - job.done)
-
-abbrev pub chunk_bytes : ℕ → Job → ℕ
-chunk_bytes chunk job = job.block_bytes * chunk_blocks chunk job
+-- the bytes of a chunk buffer, for blocks of so many bytes: a chunk of them, or an UNMAP's list
+abbrev pub chunk_room : ℕ → ℕ → ℕ
+chunk_room chunk block = max MOST_UNMAP_BYTES (chunk * block)
 
 -- WHAT THE TAG WANTS
-
--- bytes that move, to the host or from it; VERIFY without data and SYNCHRONIZE CACHE move none
-abbrev pub moved_way : JobKind → ℕ → Wants
-moved_way Reads bytes = Gives bytes
-moved_way ReadsBeforeBad bytes = Gives bytes
-moved_way (Writes through) bytes = Takes bytes
-moved_way Compares bytes = Takes bytes
-moved_way Verifies bytes = Waits
-moved_way Synchronizes bytes = Waits
-moved_way (WritesAndVerifies compares has_written) bytes = Takes bytes
-
-abbrev pub stage_wants : ℕ → Job → Stage → Wants
-stage_wants chunk job Asking = Asks
-stage_wants chunk job Waiting = Waits
-stage_wants chunk job (Moving at) = moved_way job.kind (chunk_bytes chunk job - at)
 
 -- while a request is out, its own or one of a task that is gone, a command on blocks waits
 abbrev pub task_wants : ℕ → Bool → ℕ → Task → Wants
@@ -96,29 +75,6 @@ task_wants chunk out given (Held unit code) = Ends
 
 abbrev pub slot_wants : SlotState → Wants
 slot_wants slot = option_map_or (task_wants slot.chunk (is_some slot.out) (length slot.given)) slot.task Absent
-
--- THE REQUEST
-
-abbrev pub request_of : JobKind → ℕ → ℕ → Job → Request
-request_of Reads unit chunk job = Read unit (job.lba + job.done) (chunk_blocks chunk job)
-request_of ReadsBeforeBad unit chunk job = Read unit (job.lba + job.done) (chunk_blocks chunk job)
-request_of (Writes through) unit chunk job = Write unit (job.lba + job.done) (chunk_blocks chunk job) through
-request_of Compares unit chunk job = Compare unit (job.lba + job.done) (chunk_blocks chunk job)
-request_of Verifies unit chunk job = Verify unit job.lba job.count
-request_of Synchronizes unit chunk job = Sync unit job.lba job.count
-request_of (WritesAndVerifies compares false) unit chunk job = Write unit (job.lba + job.done) (chunk_blocks chunk job) true
-request_of (WritesAndVerifies true true) unit chunk job = Compare unit (job.lba + job.done) (chunk_blocks chunk job)
-request_of (WritesAndVerifies false true) unit chunk job = Verify unit (job.lba + job.done) (chunk_blocks chunk job)
-
--- how many bytes of the chunk buffer belong to it
-abbrev pub request_bytes : JobKind → ℕ → ℕ
-request_bytes Reads bytes = bytes
-request_bytes ReadsBeforeBad bytes = bytes
-request_bytes (Writes through) bytes = bytes
-request_bytes Compares bytes = bytes
-request_bytes Verifies bytes = 0
-request_bytes Synchronizes bytes = 0
-request_bytes (WritesAndVerifies compares has_written) bytes = if has_written && not compares then 0 else bytes
 
 abbrev pub out_of : ℕ → Task → Option Out
 out_of chunk (Giving unit at) = None
@@ -143,141 +99,18 @@ asked_slot slot = record slot {
   out = option_and_then (out_of slot.chunk) slot.task;
 }
 
--- ITS ANSWER
-
--- a command has ended
-abbrev pub ended_good : ℕ → Task
-ended_good unit = Ended (Some unit) (Status Good)
-
-abbrev pub ended_check : ℕ → Sense → Task
-ended_check unit sense = Ended (Some unit) (Status (Check sense))
-
--- it has failed at a block, or at a byte of its data
-abbrev pub failed_at : ℕ → Sense → ℕ → Task
-failed_at unit sense place = Failed unit (Sensed (record { sense = sense; detail = Information place }))
-
--- LOGICAL UNIT NOT READY, CAUSE NOT REPORTABLE
-abbrev pub not_ready : Sense
-not_ready = record { key = 2; asc = 0x04; ascq = 0 }
-
--- MISCOMPARE DURING VERIFY OPERATION
-abbrev pub miscompare : Sense
-miscompare = record { key = 0x0e; asc = 0x1d; ascq = 0 }
-
--- SPACE ALLOCATION FAILED WRITE PROTECT
-abbrev pub no_space : Sense
-no_space = record { key = 7; asc = 0x27; ascq = 7 }
-
--- WRITE PROTECTED
-abbrev pub write_protected : Sense
-write_protected = record { key = 7; asc = 0x27; ascq = 0 }
-
--- LOGICAL UNIT COMMUNICATION FAILURE of ABORTED COMMAND
-abbrev pub aborted_command : Sense
-aborted_command = record { key = 0x0b; asc = 0x08; ascq = 0 }
-
--- a medium error, of a command that reads blocks or writes them
-abbrev pub medium_error : JobKind → Sense
-medium_error Reads = unrecovered_read_error
-medium_error ReadsBeforeBad = unrecovered_read_error
-medium_error (Writes through) = write_error
-medium_error Compares = unrecovered_read_error
-medium_error Verifies = unrecovered_read_error
-medium_error Synchronizes = write_error
-medium_error (WritesAndVerifies compares false) = write_error
-medium_error (WritesAndVerifies compares true) = unrecovered_read_error
-
--- a command on blocks begins with a request, or with bytes from the host
-abbrev pub first_stage : JobKind → Stage
-first_stage Reads = Asking
-first_stage ReadsBeforeBad = Asking
-first_stage (Writes through) = Moving 0
-first_stage Compares = Moving 0
-first_stage Verifies = Asking
-first_stage Synchronizes = Asking
-first_stage (WritesAndVerifies compares has_written) = Moving 0
-
--- the kinds whose bytes move; those of a WRITE AND VERIFY do before its chunk is written
-abbrev pub is_moved : JobKind → Bool
-is_moved Reads = true
-is_moved ReadsBeforeBad = true
-is_moved (Writes through) = true
-is_moved Compares = true
-is_moved Verifies = false
-is_moved Synchronizes = false
-is_moved (WritesAndVerifies compares has_written) = not has_written
-
--- those with which a chunk begins
-abbrev pub is_begun : JobKind → Bool
-is_begun Reads = true
-is_begun ReadsBeforeBad = true
-is_begun (Writes through) = true
-is_begun Compares = true
-is_begun Verifies = true
-is_begun Synchronizes = true
-is_begun (WritesAndVerifies compares has_written) = not has_written
-
--- the chunk is done: the next one, or the end
-abbrev pub next_chunk : ℕ → ℕ → Job → Task
-next_chunk chunk unit job =
-    let done = job.done + chunk_blocks chunk job in
-    if nat_lt done job.count then Blocks unit (record job { done = done }) (first_stage job.kind) else ended_good unit
-
--- The blocks of a READ were read and its bytes go to the host; a WRITE's chunk is done; that of a WRITE AND VERIFY is written, and then found so;
--- the others asked for all at once.
-abbrev pub done_by : JobKind → ℕ → ℕ → Job → Task
-done_by Reads chunk unit job = Blocks unit job (Moving 0)
-done_by ReadsBeforeBad chunk unit job = Blocks unit job (Moving 0)
-done_by (Writes through) chunk unit job = next_chunk chunk unit job
-done_by Compares chunk unit job = next_chunk chunk unit job
-done_by Verifies chunk unit job = ended_good unit
-done_by Synchronizes chunk unit job = ended_good unit
-done_by (WritesAndVerifies compares false) chunk unit job = Blocks unit (record job { kind = WritesAndVerifies compares true }) Asking
-done_by (WritesAndVerifies compares true) chunk unit job = next_chunk chunk unit (record job { kind = WritesAndVerifies compares false })
-
--- A block can't be read or written. The blocks of a READ before it that were brought are given first: they are the last of the job then.
--- Worked: of a READ of blocks 8 to 23, of which 12 is bad, 8 to 11 are given, and it ends with 3/11/00 at block 12.
-abbrev pub is_reading : JobKind → Bool
-is_reading Reads = true
-is_reading ReadsBeforeBad = false
-is_reading (Writes through) = false
-is_reading Compares = false
-is_reading Verifies = false
-is_reading Synchronizes = false
-is_reading (WritesAndVerifies compares has_written) = false
-
-abbrev pub before_bad : ℕ → ℕ → Job → Task
-before_bad block unit job = Blocks unit (record job { kind = ReadsBeforeBad; count = block - job.lba }) (Moving 0)
-
-abbrev pub after_bad : ℕ → Bool → ℕ → Job → Task
-after_bad block brings unit job =
-    if brings && is_reading job.kind && nat_lt (job.lba + job.done) block && nat_le block (job.lba + job.count) then before_bad block unit job
-    else failed_at unit (medium_error job.kind) block
-
-abbrev pub after_outcome : Outcome → ℕ → ℕ → Job → Task
-after_outcome Done chunk unit job = done_by job.kind chunk unit job
-after_outcome Differs chunk unit job = ended_check unit miscompare
-after_outcome MediumError chunk unit job = ended_check unit (medium_error job.kind)
-after_outcome NotReady chunk unit job = ended_check unit not_ready
-after_outcome (DiffersAt byte) chunk unit job = failed_at unit miscompare (job.block_bytes * job.done + byte)
-after_outcome (MediumErrorAt block brings) chunk unit job = after_bad block brings unit job
-after_outcome NoSpace chunk unit job = ended_check unit no_space
-after_outcome WriteProtected chunk unit job = ended_check unit write_protected
-after_outcome Aborted chunk unit job = ended_check unit aborted_command
-after_outcome Busy chunk unit job = Failed unit AsBusy
-
-abbrev pub after_stage : Outcome → ℕ → ℕ → Job → Stage → Task
-after_stage outcome chunk unit job Asking = Blocks unit job Asking
-after_stage outcome chunk unit job Waiting = after_outcome outcome chunk unit job
-after_stage outcome chunk unit job (Moving at) = Blocks unit job (Moving at)
+abbrev pub after_stage : Outcome → ℕ → List ℕ → ℕ → Job → Stage → Task
+after_stage outcome chunk buffer unit job Asking = Blocks unit job Asking
+after_stage outcome chunk buffer unit job Waiting = after_outcome outcome chunk buffer unit job
+after_stage outcome chunk buffer unit job (Moving at) = Blocks unit job (Moving at)
 
 -- the task that waits goes on; of a task that is gone the outcome is dropped
-abbrev pub after_answer : Outcome → ℕ → Task → Task
-after_answer outcome chunk (Giving unit at) = Giving unit at
-after_answer outcome chunk (Blocks unit job stage) = after_stage outcome chunk unit job stage
-after_answer outcome chunk (Ended unit answer) = Ended unit answer
-after_answer outcome chunk (Failed unit failure) = Failed unit failure
-after_answer outcome chunk (Held unit code) = Held unit code
+abbrev pub after_answer : Outcome → ℕ → List ℕ → Task → Task
+after_answer outcome chunk buffer (Giving unit at) = Giving unit at
+after_answer outcome chunk buffer (Blocks unit job stage) = after_stage outcome chunk buffer unit job stage
+after_answer outcome chunk buffer (Ended unit answer) = Ended unit answer
+after_answer outcome chunk buffer (Failed unit failure) = Failed unit failure
+after_answer outcome chunk buffer (Held unit code) = Held unit code
 
 -- whether a task waits for an answer
 abbrev pub stage_waits : Stage → Bool
@@ -292,151 +125,46 @@ task_waits (Ended unit answer) = false
 task_waits (Failed unit failure) = false
 task_waits (Held unit code) = false
 
--- whether an answer brings the bytes of blocks: a Read that is done, or whose blocks before a bad one were read
-abbrev pub is_read : Request → Bool
-is_read (Read unit block count) = true
-is_read (Write unit block count through) = false
-is_read (Compare unit block count) = false
-is_read (Verify unit block count) = false
-is_read (Sync unit block count) = false
-
-abbrev pub brings : Outcome → Bool
-brings Done = true
-brings Differs = false
-brings MediumError = false
-brings NotReady = false
-brings (DiffersAt byte) = false
-brings (MediumErrorAt block before) = before
-brings NoSpace = false
-brings WriteProtected = false
-brings Aborted = false
-brings Busy = false
-
 abbrev pub brings_bytes : SlotState → Out → Outcome → Bool
 brings_bytes slot out outcome = option_map_or task_waits slot.task false && is_read out.request && brings outcome
 
 abbrev pub filled : SlotState → Out → Outcome → List ℕ → List ℕ
 filled slot out outcome new = if brings_bytes slot out outcome then with_bytes_at slot.bytes 0 new else slot.bytes
 
+-- the data of the device that are given once it is: what GET LBA STATUS is told
+abbrev pub outcome_given : Outcome → List ℕ → Job → List ℕ
+outcome_given (Mapped mapped count) given job = told_status job.kind job.lba mapped count
+outcome_given outcome given job = given
+
+abbrev pub stage_given : Outcome → List ℕ → Job → Stage → List ℕ
+stage_given outcome given job Asking = given
+stage_given outcome given job Waiting = outcome_given outcome given job
+stage_given outcome given job (Moving at) = given
+
+abbrev pub task_given : Outcome → List ℕ → Task → List ℕ
+task_given outcome given (Giving unit at) = given
+task_given outcome given (Blocks unit job stage) = stage_given outcome given job stage
+task_given outcome given (Ended unit answer) = given
+task_given outcome given (Failed unit failure) = given
+task_given outcome given (Held unit code) = given
+
+abbrev pub given_after : Outcome → SlotState → List ℕ
+given_after outcome slot = option_map_or (task_given outcome slot.given) slot.task slot.given
+
 -- its request is answered
 abbrev pub answered_slot : SlotState → Out → Outcome → List ℕ → SlotState
 answered_slot slot out outcome new = record slot {
-  task = option_map (after_answer outcome slot.chunk) slot.task;
+  task = option_map (after_answer outcome slot.chunk slot.bytes) slot.task;
   out = None;
+  given = given_after outcome slot;
   bytes = filled slot out outcome new;
 }
-
--- the first block of a request, and how many it has
-abbrev pub block_in : Request → ℕ
-block_in (Read unit block count) = block
-block_in (Write unit block count through) = block
-block_in (Compare unit block count) = block
-block_in (Verify unit block count) = block
-block_in (Sync unit block count) = block
-
-abbrev pub count_in : Request → ℕ
-count_in (Read unit block count) = count
-count_in (Write unit block count through) = count
-count_in (Compare unit block count) = count
-count_in (Verify unit block count) = count
-count_in (Sync unit block count) = count
-
--- how many bytes an answer brings that brings some: those of all blocks, or of the blocks before a bad one
-abbrev pub brought : Out → Outcome → ℕ
-brought out Done = out.len
-brought out Differs = 0
-brought out MediumError = 0
-brought out NotReady = 0
-brought out (DiffersAt byte) = 0
-brought out (MediumErrorAt block before) = (block - block_in out.request) * (out.len / count_in out.request)
-brought out NoSpace = 0
-brought out WriteProtected = 0
-brought out Aborted = 0
-brought out Busy = 0
 
 -- the bytes that it brings are not those of its blocks
 abbrev pub is_wrong_length : SlotState → Out → Outcome → ℕ → Bool
 is_wrong_length slot out outcome size = brings_bytes slot out outcome && not (size == brought out outcome)
 
--- WHICH ANSWERS A REQUEST CAN HAVE
-
--- a place, want of room and what may be tried again are told in the disk set alone
-abbrev pub is_disk : CommandSet → Bool
-is_disk Profile = false
-is_disk (Host maximum) = false
-is_disk Disk = true
-
-abbrev pub is_known : CommandSet → Outcome → Bool
-is_known set Done = true
-is_known set Differs = true
-is_known set MediumError = true
-is_known set NotReady = true
-is_known set (DiffersAt byte) = is_disk set
-is_known set (MediumErrorAt block before) = is_disk set
-is_known set NoSpace = is_disk set
-is_known set WriteProtected = is_disk set
-is_known set Aborted = is_disk set
-is_known set Busy = is_disk set
-
-abbrev pub is_compare : Request → Bool
-is_compare (Read unit block count) = false
-is_compare (Write unit block count through) = false
-is_compare (Compare unit block count) = true
-is_compare (Verify unit block count) = false
-is_compare (Sync unit block count) = false
-
--- room and leave to write are wanted by a Write, and by a Sync for what was written before
-abbrev pub is_writing : Request → Bool
-is_writing (Read unit block count) = false
-is_writing (Write unit block count through) = true
-is_writing (Compare unit block count) = false
-is_writing (Verify unit block count) = false
-is_writing (Sync unit block count) = true
-
-abbrev pub is_of : Request → Outcome → Bool
-is_of request Done = true
-is_of request Differs = true
-is_of request MediumError = true
-is_of request NotReady = true
-is_of request (DiffersAt byte) = is_compare request
-is_of request (MediumErrorAt block before) = true
-is_of request NoSpace = is_writing request
-is_of request WriteProtected = is_writing request
-is_of request Aborted = true
-is_of request Busy = true
-
--- its place is in the request: the block one of its blocks, the byte one of theirs
-abbrev pub has_place : Out → Outcome → Bool
-has_place out Done = true
-has_place out Differs = true
-has_place out MediumError = true
-has_place out NotReady = true
-has_place out (DiffersAt byte) = nat_lt byte out.len
-has_place out (MediumErrorAt block before) =
-    nat_le (block_in out.request) block && nat_lt block (block_in out.request + count_in out.request)
-has_place out NoSpace = true
-has_place out WriteProtected = true
-has_place out Aborted = true
-has_place out Busy = true
-
 -- BYTES TO THE HOST
-
--- so many bytes of a chunk that had moved `at`: the rest of it, or what comes then
-abbrev pub moved_on : ℕ → ℕ → ℕ → Job → Task → Stage → Task
-moved_on chunk moved unit job after Asking = Blocks unit job Asking
-moved_on chunk moved unit job after Waiting = Blocks unit job Waiting
-moved_on chunk moved unit job after (Moving at) =
-    if nat_lt (at + moved) (chunk_bytes chunk job) then Blocks unit job (Moving (at + moved)) else after
-
--- its last byte moved: the next chunk, or the end; of the blocks before a bad one the end is that one's
-abbrev pub gave_chunk : JobKind → ℕ → ℕ → Job → Task
-gave_chunk Reads chunk unit job = next_chunk chunk unit job
-gave_chunk ReadsBeforeBad chunk unit job = failed_at unit unrecovered_read_error (job.lba + job.count)
-gave_chunk (Writes through) chunk unit job = next_chunk chunk unit job
-gave_chunk Compares chunk unit job = next_chunk chunk unit job
-gave_chunk Verifies chunk unit job = next_chunk chunk unit job
-gave_chunk Synchronizes chunk unit job = next_chunk chunk unit job
-gave_chunk (WritesAndVerifies compares has_written) chunk unit job = next_chunk chunk unit job
 
 abbrev pub gave_task : ℕ → ℕ → ℕ → Task → Task
 gave_task chunk given moved (Giving unit at) =
@@ -473,7 +201,7 @@ passing_out slot out = if brings_bytes slot out Done then Some out.len else None
 
 -- it is done, and nothing was put into the chunk buffer
 abbrev pub done_slot : SlotState → SlotState
-done_slot slot = record slot { task = option_map (after_answer Done slot.chunk) slot.task; out = None }
+done_slot slot = record slot { task = option_map (after_answer Done slot.chunk slot.bytes) slot.task; out = None }
 
 -- and its bytes were given, all of them
 abbrev pub passed_out : SlotState → Out → SlotState
@@ -481,12 +209,12 @@ passed_out slot out = gave_slot (done_slot slot) out.len
 
 -- BYTES FROM THE HOST
 
-abbrev pub took_task : ℕ → ℕ → Task → Task
-took_task chunk moved (Giving unit at) = Giving unit at
-took_task chunk moved (Blocks unit job stage) = moved_on chunk moved unit job (Blocks unit job Asking) stage
-took_task chunk moved (Ended unit answer) = Ended unit answer
-took_task chunk moved (Failed unit failure) = Failed unit failure
-took_task chunk moved (Held unit code) = Held unit code
+abbrev pub took_task : ℕ → ℕ → List ℕ → Task → Task
+took_task chunk moved buffer (Giving unit at) = Giving unit at
+took_task chunk moved buffer (Blocks unit job stage) = moved_on chunk moved unit job (came job.kind buffer unit job) stage
+took_task chunk moved buffer (Ended unit answer) = Ended unit answer
+took_task chunk moved buffer (Failed unit failure) = Failed unit failure
+took_task chunk moved buffer (Held unit code) = Held unit code
 
 abbrev pub stage_taken : List ℕ → List ℕ → Stage → List ℕ
 stage_taken bytes new Asking = bytes
@@ -500,17 +228,17 @@ task_taken bytes new (Ended unit answer) = bytes
 task_taken bytes new (Failed unit failure) = bytes
 task_taken bytes new (Held unit code) = bytes
 
+-- the chunk buffer, with these bytes
+abbrev pub bytes_taken : SlotState → List ℕ → List ℕ
+bytes_taken slot new = option_map_or (task_taken slot.bytes new) slot.task slot.bytes
+
 abbrev pub took_slot : SlotState → List ℕ → SlotState
 took_slot slot new = record slot {
-  task = option_map (took_task slot.chunk (length new)) slot.task;
-  bytes = option_map_or (task_taken slot.bytes new) slot.task slot.bytes;
+  task = option_map (took_task slot.chunk (length new) (bytes_taken slot new)) slot.task;
+  bytes = bytes_taken slot new;
 }
 
 -- THE BEGINNING OF A COMMAND
-
--- data of the device; none are GOOD at once
-abbrev pub giving_task : Option ℕ → ℕ → Task
-giving_task unit many = if many == 0 then Ended unit (Status Good) else Giving unit 0
 
 abbrev pub giving_slot : SlotState → Option ℕ → List ℕ → SlotState
 giving_slot slot unit given = record slot { task = Some (giving_task unit (length given)); given = given }
@@ -525,6 +253,17 @@ job_task unit kind block_length lba count =
 abbrev pub blocks_synchronized : Shape → ℕ → ℕ → ℕ
 blocks_synchronized shape lba count = if count == 0 then shape.blocks - lba else count
 
+-- WRITE SAME takes its block, or is of zeros
+abbrev pub same_kind : Bool → Bool → Bool → JobKind
+same_kind true unmaps through = WritesSame unmaps through
+same_kind false unmaps through = Zeroes unmaps through
+
+-- GET LBA STATUS that is to give nothing asks nothing; it gives at most 24 bytes
+abbrev pub status_task : ℕ → Shape → ℕ → ℕ → ℕ → Task
+status_task unit shape lba count allocation =
+    if allocation == 0 then ended_good unit
+    else job_task unit (TellsStatus (min allocation 24)) shape.block_length lba count
+
 abbrev pub started_work : SlotState → ℕ → Shape → Work → SlotState
 started_work slot unit shape Nothing = with_task slot (Some (ended_good unit))
 started_work slot unit shape (GivesWork given allocation) = giving_slot slot (Some unit) (given_bytes given allocation)
@@ -536,6 +275,11 @@ started_work slot unit shape (VerifiesWork lba count) = with_task slot (Some (jo
 started_work slot unit shape (WritesAndVerifiesWork lba count compares) =
     with_task slot (Some (job_task unit (WritesAndVerifies compares false) shape.block_length lba count))
 started_work slot unit shape (ComparesWork lba count) = with_task slot (Some (job_task unit Compares shape.block_length lba count))
+started_work slot unit shape (UnmapsWork list through) =
+    with_task slot (Some (job_task unit (Unmaps list 0 0 0 through) shape.block_length 0 shape.blocks))
+started_work slot unit shape (WritesSameWork lba count takes unmaps through) =
+    with_task slot (Some (job_task unit (same_kind takes unmaps through) shape.block_length lba count))
+started_work slot unit shape (TellsStatusWork lba count allocation) = with_task slot (Some (status_task unit shape lba count allocation))
 
 abbrev pub started : SlotState → ℕ → Shape → Result Work Sense → SlotState
 started slot unit shape (Ok work) = started_work slot unit shape work
@@ -551,6 +295,9 @@ started_none_work slot (SynchronizesWork lba count) = with_task slot (Some (Ende
 started_none_work slot (VerifiesWork lba count) = with_task slot (Some (Ended None (Status Good)))
 started_none_work slot (WritesAndVerifiesWork lba count compares) = with_task slot (Some (Ended None (Status Good)))
 started_none_work slot (ComparesWork lba count) = with_task slot (Some (Ended None (Status Good)))
+started_none_work slot (UnmapsWork list through) = with_task slot (Some (Ended None (Status Good)))
+started_none_work slot (WritesSameWork lba count takes unmaps through) = with_task slot (Some (Ended None (Status Good)))
+started_none_work slot (TellsStatusWork lba count allocation) = with_task slot (Some (Ended None (Status Good)))
 
 abbrev pub started_none : SlotState → Result Work Sense → SlotState
 started_none slot (Ok work) = started_none_work slot work

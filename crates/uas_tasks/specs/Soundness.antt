@@ -4,11 +4,14 @@ use Rattle.host_commands.specs.declared.BlockLength.{BlockLength}
 use Rattle.host_commands.specs.declared.Work.{Work}
 use Rattle.host_commands.specs.declared.Work.TheVariants.{Nothing, Gives as GivesWork, Reads as ReadsWork, Writes as WritesWork, Synchronizes as SynchronizesWork}
 use Rattle.host_commands.specs.declared.Work.TheVariants.{Verifies as VerifiesWork, Compares as ComparesWork, WritesAndVerifies as WritesAndVerifiesWork}
+use Rattle.host_commands.specs.declared.Work.TheVariants.{Unmaps as UnmapsWork, WritesSame as WritesSameWork, TellsStatus as TellsStatusWork}
 use Rattle.host_commands.specs.Data.{IsOfDevice}
-use Rattle.host_commands.specs.declared.TheConstants.{MOST_DATA_BYTES}
+use Rattle.host_commands.specs.declared.TheConstants.{MOST_DATA_BYTES, MOST_UNMAP_BYTES}
 use Rattle.host_commands.specs.Shapes.{Shape, block_bytes}
 use Rattle.uas_profile.specs.declared.TheConstants.{GREATEST_TAG, MAX_UNITS}
 use Rattle.uas_tasks.specs.declared.Job.{Job}
+use Rattle.uas_tasks.specs.declared.JobKind.{JobKind}
+use Rattle.uas_tasks.specs.declared.JobKind.TheVariants.{Unmaps}
 use Rattle.uas_tasks.specs.declared.LogicalUnit.{LogicalUnit}
 use Rattle.uas_tasks.specs.declared.Stage.{Stage}
 use Rattle.uas_tasks.specs.declared.Stage.TheVariants.{Asking, Waiting, Moving}
@@ -17,8 +20,14 @@ use Rattle.uas_tasks.specs.declared.Task.TheVariants.{Giving, Blocks, Ended, Fai
 use Rattle.uas_tasks.specs.declared.Wants.{Wants}
 use Rattle.uas_tasks.specs.declared.Wants.TheVariants.{Absent, Asks, Waits, Gives, Takes, Ends}
 use Rattle.uas_tasks.specs.Machine.{greatest_block}
-use Rattle.uas_tasks.specs.Slots.{SlotState, chunk_bytes, is_moved}
+use Rattle.uas_tasks.specs.Jobs.{chunk_bytes, is_moved}
+use Rattle.uas_tasks.specs.Slots.{SlotState, chunk_room}
 use Rattle.uas_tasks.specs.Stale.{is_stale, writes_out}
+
+-- a list of UNMAP, and a descriptor of it that names some of so many blocks
+abbrev pub IsSoundKind : ℕ → JobKind → Type 0
+IsSoundKind blocks (Unmaps list index block count through) = (0 < list) × ((list ≤ MOST_UNMAP_BYTES) × (block + count ≤ blocks))
+IsSoundKind blocks kind = Unit {0}
 
 -- it has blocks left, which are below 2^48
 pub record IsSoundJob (job : Job) : Type 0 where
@@ -26,6 +35,7 @@ pub record IsSoundJob (job : Job) : Type 0 where
   pub left : job.done < job.count
   pub some : 0 < job.block_bytes
   pub most : job.block_bytes ≤ 4096
+  pub kind : IsSoundKind job.count job.kind
 
 -- bytes of the chunk are left to move, of a kind whose bytes move
 abbrev pub IsSoundStage : ℕ → Job → Stage → Type 0
@@ -60,10 +70,10 @@ IsAnswer many (Ended unit answer) = IsUnit many unit
 IsAnswer many (Failed unit failure) = ⊥
 IsAnswer many (Held unit code) = unit < many
 
--- a chunk of its blocks has room in the buffer
+-- a chunk of its blocks has room in the buffer, and a list
 abbrev pub FitsRoom : ℕ → ℕ → Task → Type 0
 FitsRoom chunk room (Giving unit at) = Unit {0}
-FitsRoom chunk room (Blocks unit job stage) = chunk * job.block_bytes ≤ room
+FitsRoom chunk room (Blocks unit job stage) = chunk_room chunk job.block_bytes ≤ room
 FitsRoom chunk room (Ended unit answer) = Unit {0}
 FitsRoom chunk room (Failed unit failure) = Unit {0}
 FitsRoom chunk room (Held unit code) = Unit {0}
@@ -104,6 +114,9 @@ StartsOn blocks (SynchronizesWork lba count) = lba + count ≤ blocks
 StartsOn blocks (VerifiesWork lba count) = lba + count ≤ blocks
 StartsOn blocks (ComparesWork lba count) = lba + count ≤ blocks
 StartsOn blocks (WritesAndVerifiesWork lba count compares) = lba + count ≤ blocks
+StartsOn blocks (UnmapsWork list through) = (0 < list) × (list ≤ MOST_UNMAP_BYTES)
+StartsOn blocks (WritesSameWork lba count takes unmaps through) = lba + count ≤ blocks
+StartsOn blocks (TellsStatusWork lba count allocation) = lba + count ≤ blocks
 
 -- the length of each logical unit's blocks
 abbrev pub lengths_of : List LogicalUnit → List BlockLength
@@ -112,7 +125,7 @@ lengths_of units = map (λ unit. unit.shape.block_length) units
 -- a chunk of so many blocks of each of these lengths has room in so many bytes
 abbrev pub EachFits : ℕ → ℕ → List BlockLength → Type 0
 EachFits chunk room [] = Unit {0}
-EachFits chunk room (block_length ∷ lengths) = (chunk * block_bytes block_length ≤ room) × EachFits chunk room lengths
+EachFits chunk room (block_length ∷ lengths) = (chunk_room chunk (block_bytes block_length) ≤ room) × EachFits chunk room lengths
 
 abbrev pub HasRoom : List BlockLength → SlotState → Type 0
 HasRoom lengths slot = EachFits slot.chunk (length slot.bytes) lengths
@@ -136,7 +149,7 @@ IsTaskWithin shapes (Ended unit answer) = IsUnit (length shapes) unit
 IsTaskWithin shapes (Failed unit failure) = unit < length shapes
 IsTaskWithin shapes (Held unit code) = unit < length shapes
 
--- a Write that is out is of one of so many
+-- a request that is out and changes blocks is of one of so many
 abbrev pub IsWritten : ℕ → SlotState → Type 0
 IsWritten many slot = IfSome (writes_out slot) (λ unit. unit < many)
 
@@ -160,7 +173,7 @@ counted_down stale (Some unit) = slice_set stale unit (slice_index_or stale unit
 -- chunks of so many blocks, and a buffer for one of the longest
 pub record AreSized (chunk : ℕ) (units : List LogicalUnit) (slots : List SlotState) : Type 0 where
   pub chunks : All (λ (slot : SlotState). slot.chunk ≡ chunk) slots
-  pub buffers : All (λ (slot : SlotState). length slot.bytes ≡ chunk * greatest_block units) slots
+  pub buffers : All (λ (slot : SlotState). length slot.bytes ≡ chunk_room chunk (greatest_block units)) slots
 
 -- at most MAX_UNITS logical units, a slot of the same size for each tag, and the count of stale requests of each logical unit
 pub record IsSoundMachine (units : List LogicalUnit) (stale : List ℕ) (slots : List SlotState) : Type 0 where

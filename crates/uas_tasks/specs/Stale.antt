@@ -1,9 +1,9 @@
--- Stale requests: a Write that is out, and that no task waits for any more. Until it is answered it may still change blocks.
+-- Stale requests: one that changes blocks (a Write, Zero, Discard or WriteSame), is out, and no task waits for it any more. Until it is answered it may still change blocks.
 use Rattle.std.specs.Prelude.{ℕ, Bool, false, ◌&&◌, if◌then◌else◌, Option, Some, None, option_and_then}
 use Rattle.std.specs.Option.{option_map_or}
 use Rattle.uas_target.specs.Tasks.{is_at}
 use Rattle.uas_tasks.specs.declared.Request.{Request}
-use Rattle.uas_tasks.specs.declared.Request.TheVariants.{Read, Write, Compare, Verify, Sync}
+use Rattle.uas_tasks.specs.declared.Request.TheVariants.{Read, Write, Compare, Verify, Sync, Zero, Discard, WriteSame, Status}
 use Rattle.uas_tasks.specs.declared.Stage.{Stage}
 use Rattle.uas_tasks.specs.declared.Stage.TheVariants.{Asking, Waiting, Moving}
 use Rattle.uas_tasks.specs.declared.Task.{Task}
@@ -17,6 +17,10 @@ unit_in (Write unit block count through) = unit
 unit_in (Compare unit block count) = unit
 unit_in (Verify unit block count) = unit
 unit_in (Sync unit block count) = unit
+unit_in (Zero unit block count through) = unit
+unit_in (Discard unit block count through) = unit
+unit_in (WriteSame unit block count through) = unit
+unit_in (Status unit block count) = unit
 
 -- that whose blocks it changes
 abbrev pub unit_written : Request → Option ℕ
@@ -25,8 +29,12 @@ unit_written (Write unit block count through) = Some unit
 unit_written (Compare unit block count) = None
 unit_written (Verify unit block count) = None
 unit_written (Sync unit block count) = None
+unit_written (Zero unit block count through) = Some unit
+unit_written (Discard unit block count through) = Some unit
+unit_written (WriteSame unit block count through) = Some unit
+unit_written (Status unit block count) = None
 
--- the logical unit of the Write that is out
+-- the logical unit of such a request
 abbrev pub writes_out : SlotState → Option ℕ
 writes_out slot = option_and_then (λ out. unit_written out.request) slot.out
 

@@ -1,18 +1,19 @@
 //! The calls on a tag's task and on requests.
-ghost use Rattle.std.specs.Prelude.{◌≡◌, ◌*◌, ◌≤◌, IfOk, IsSome, MatchOption, Some, false, length, map, replicate, true};
+ghost use Rattle.std.specs.Prelude.{◌≡◌, ◌≤◌, IfOk, IsSome, MatchOption, Some, false, length, map, replicate, true};
 ghost use Rattle.std.specs.List.{list_any};
 ghost use Rattle.std.specs.Option.{option_copied};
 ghost use Rattle.uas_profile.specs.declared.TheConstants.{GREATEST_TAG, MAX_UNITS};
 ghost use Rattle.uas_tasks.specs.Machine.{answered, attention_on, bytes_out, gave, given, greatest_block, is_long, next_asked, next_by, next_of, no_slot, opening};
 ghost use Rattle.uas_tasks.specs.Machine.{out_of_number, passed, passing, quiet, request_out, slot_of, slot_under, took, wanted, with_slot, without_task};
-ghost use Rattle.uas_tasks.specs.Slots.{answered_slot, fresh_slot, has_place, is_wrong_length, passed_out, passing_out};
+ghost use Rattle.uas_tasks.specs.Outcomes.{has_place};
+ghost use Rattle.uas_tasks.specs.Slots.{answered_slot, chunk_room, fresh_slot, is_wrong_length, passed_out, passing_out};
 ghost use Rattle.uas_tasks.specs.Soundness.{MayGive, MayTake};
 
 use crate::outcomes::{is_known, is_of};
 use crate::slot::{Out, Slot};
 use crate::stale::{count_down, number_of};
 use crate::{AnswerFault, LogicalUnit, Next, Outcome, Request, Tasks, Wants};
-use host_commands::{BlockLength, CommandSet, LogicalUnitShape};
+use host_commands::{BlockLength, CommandSet, LogicalUnitShape, MOST_UNMAP_BYTES};
 use std::alloc::{AllocError, Global};
 use uas_profile::GREATEST_TAG;
 
@@ -21,7 +22,7 @@ pub(crate) const TAG_PLACES: u64 = 256;
 
 impl Tasks {
     /// A device of these logical units, at most 15 (`MAX_UNITS`), without a task, that knows the commands of a set and moves
-    /// chunks of at most so many blocks, 1 to 128. The error is want of memory: each tag has a buffer of one chunk.
+    /// chunks of at most so many blocks, 1 to 128. The error is want of memory: each tag has a buffer of one chunk, of 520 bytes at least.
     pub fn new(
         alloc: Global,
         shapes: &[LogicalUnitShape],
@@ -31,10 +32,11 @@ impl Tasks {
         requires units { length shapes.now ≤ MAX_UNITS }
         requires some { 1 ≤ chunk }
         requires most { chunk ≤ 128 }
-        ensures { IfOk result (λ tasks. tasks ≡ opening (map quiet shapes.now) set chunk (chunk * greatest_block (map quiet shapes.now))) }
+        ensures { IfOk result (λ tasks. tasks ≡ opening (map quiet shapes.now) set chunk (chunk_room chunk (greatest_block (map quiet shapes.now)))) }
     {
         let units = quiet_units(alloc, shapes)?;
-        let room = usize::from(chunk) * greatest_block(&units);
+        let block = greatest_block(&units);
+        let room = chunk_room(chunk, block);
         let stale = vec![in alloc; 0; units.len()]?;
         let slots = fresh_slots(alloc, chunk, room)?;
         Ok(Tasks {
@@ -133,7 +135,8 @@ impl Tasks {
         }
     }
 
-    /// The bytes of the blocks of a Write or a Compare, while it is out; of another request there is nothing in them to read.
+    /// The bytes of the blocks of a Write or a Compare, and the block of a WriteSame, while it is out; of another request there is nothing in them to
+    /// read.
     pub fn request_bytes(&self, number: u64) -> Option<&[u8]>
         ensures { option_copied result ≡ bytes_out self.now number }
     {
@@ -237,6 +240,14 @@ impl Tasks {
             None => false,
         }
     }
+}
+
+/// The bytes of a chunk buffer, for blocks of so many bytes: a chunk of them, or an UNMAP's list.
+fn chunk_room(chunk: u16, block: usize) -> usize
+    requires { block ≤ 4096 }
+    ensures { result ≡ chunk_room chunk block }
+{
+    MOST_UNMAP_BYTES.max(usize::from(chunk) * block)
 }
 
 /// The request of a tag that is out now.

@@ -1,88 +1,17 @@
-//! Commands on blocks: their chunks, their requests and what comes of these.
+//! Commands on blocks: their chunks and their requests.
 ghost use Rattle.std.specs.Prelude.{◌≡◌, ℕ, ◌+◌, ◌*◌, ◌^◌, ◌<◌, ◌≤◌, IfSome, false, option_and_then, option_map, true};
 ghost use Rattle.std.specs.Option.{option_map_or};
 ghost use Rattle.host_commands.specs.Shapes.{block_bytes};
-ghost use Rattle.uas_tasks.specs.Slots.{after_answer, after_outcome, chunk_blocks, chunk_bytes, done_by, ended_check, ended_good, first_stage};
-ghost use Rattle.uas_tasks.specs.Slots.{after_bad, failed_at, gave_chunk, is_begun, is_read, is_reading, job_task, medium_error, moved_way, next_chunk};
-ghost use Rattle.uas_tasks.specs.Slots.{out_of, request_bytes, request_of, stage_wants, task_waits, waiting};
-ghost use Rattle.uas_tasks.specs.Soundness.{FitsRoom, IsSoundJob, IsSoundStage, IsSoundTask, IsSoundWork};
+ghost use Rattle.uas_tasks.specs.Jobs.{chunk_blocks, chunk_bytes, first_stage, is_begun, kind_bytes, most_blocks, moved_way, request_bytes, request_of, request_of_zeros, stage_wants};
+ghost use Rattle.uas_tasks.specs.Outcomes.{is_read};
+ghost use Rattle.uas_tasks.specs.Slots.{chunk_room, job_task, out_of, task_waits, waiting};
+ghost use Rattle.uas_tasks.specs.Soundness.{FitsRoom, IsSoundJob, IsSoundKind, IsSoundStage, IsSoundTask, IsSoundWork};
 ghost use Rattle.uas_tasks.specs.Stale.{unit_written};
 
+use crate::done::ended_good;
 use crate::slot::Out;
-use crate::{
-    Answer, Detail, DeviceAnswer, Failure, Job, JobKind, Outcome, Request, SenseData, Stage, Task,
-    Wants,
-};
+use crate::{Job, JobKind, Request, Stage, Task, Wants};
 use host_commands::BlockLength;
-use scsi_cmd::Sense;
-
-/// LOGICAL UNIT NOT READY (SPC).
-const NOT_READY: Sense = Sense {
-    key: 0x2,
-    asc: 0x04,
-    ascq: 0x00,
-};
-
-/// MISCOMPARE DURING VERIFY OPERATION (SPC).
-const MISCOMPARE: Sense = Sense {
-    key: 0xe,
-    asc: 0x1d,
-    ascq: 0x00,
-};
-
-/// SPACE ALLOCATION FAILED WRITE PROTECT (SBC).
-const NO_SPACE: Sense = Sense {
-    key: 0x7,
-    asc: 0x27,
-    ascq: 0x07,
-};
-
-/// WRITE PROTECTED (SPC).
-const WRITE_PROTECTED: Sense = Sense {
-    key: 0x7,
-    asc: 0x27,
-    ascq: 0x00,
-};
-
-/// LOGICAL UNIT COMMUNICATION FAILURE (SPC), with ABORTED COMMAND.
-const ABORTED_COMMAND: Sense = Sense {
-    key: 0xb,
-    asc: 0x08,
-    ascq: 0x00,
-};
-
-/// A command that has ended with GOOD.
-pub(crate) fn ended_good(unit: usize) -> Task
-    ensures { result ≡ ended_good unit }
-{
-    Task::Ended {
-        unit: Some(unit),
-        answer: DeviceAnswer::Status(Answer::Good),
-    }
-}
-
-/// A command that has ended with CHECK CONDITION and this sense.
-pub(crate) fn ended_check(unit: usize, sense: Sense) -> Task
-    ensures { result ≡ ended_check unit sense }
-{
-    Task::Ended {
-        unit: Some(unit),
-        answer: DeviceAnswer::Status(Answer::Check(sense)),
-    }
-}
-
-/// A command that has failed at a block, or at a byte of its data.
-fn failed_at(unit: usize, sense: Sense, place: u64) -> Task
-    ensures { result ≡ failed_at unit sense place }
-{
-    Task::Failed {
-        unit,
-        failure: Failure::Sensed(SenseData {
-            sense,
-            detail: Detail::Information(place),
-        }),
-    }
-}
 
 /// The task of a command on so many blocks from `lba` on, none of which are done; no blocks are GOOD at once.
 pub(crate) fn job_task(
@@ -94,9 +23,10 @@ pub(crate) fn job_task(
 ) -> Task
     requires on { lba + count ≤ 2 ^ 48 }
     requires begun { is_begun kind ≡ true }
+    requires kind { IsSoundKind count kind }
     ensures task { result ≡ job_task unit kind block_length lba count }
     ensures sound { (chunk given : ℕ) → 1 ≤ chunk → IsSoundTask chunk given result }
-    ensures fits { (chunk room : ℕ) → chunk * block_bytes block_length ≤ room → FitsRoom chunk room result }
+    ensures fits { (chunk room : ℕ) → chunk_room chunk (block_bytes block_length) ≤ room → FitsRoom chunk room result }
 {
     if count == 0 {
         return ended_good(unit);
@@ -115,26 +45,43 @@ pub(crate) fn job_task(
 }
 
 /// Where a command on blocks begins, and each of its chunks.
-fn first_stage(kind: JobKind) -> Stage
+pub(crate) fn first_stage(kind: JobKind) -> Stage
     ensures { result ≡ first_stage kind }
 {
     match kind {
-        JobKind::Reads | JobKind::ReadsBeforeBad | JobKind::Verifies | JobKind::Synchronizes =>
-            Stage::Asking,
-        JobKind::Writes { .. } | JobKind::Compares | JobKind::WritesAndVerifies { .. } => {
-            Stage::Moving { at: 0 }
-        }
+        JobKind::Reads
+        | JobKind::ReadsBeforeBad
+        | JobKind::Verifies
+        | JobKind::Synchronizes
+        | JobKind::Zeroes { .. }
+        | JobKind::TellsStatus { .. } => Stage::Asking,
+        JobKind::Writes { .. }
+        | JobKind::Compares
+        | JobKind::WritesAndVerifies { .. }
+        | JobKind::WritesSame { .. }
+        | JobKind::Unmaps { .. } => Stage::Moving { at: 0 },
     }
 }
 
 /// How many blocks the next chunk has.
-fn chunk_blocks(job: &Job, chunk: u16) -> u64
+pub(crate) fn chunk_blocks(job: &Job, chunk: u16) -> u64
     requires { IsSoundJob job.now }
     ensures blocks { result ≡ chunk_blocks chunk job.now }
     ensures most { result ≤ chunk }
     ensures left { job.now.done + result ≤ job.now.count }
 {
-    u64::from(chunk).min(job.count - job.done)
+    u64::from(most_blocks(job.kind, chunk)).min(job.count - job.done)
+}
+
+/// The most blocks of a chunk: of a WRITE SAME the one that it takes.
+fn most_blocks(kind: JobKind, chunk: u16) -> u16
+    ensures blocks { result ≡ most_blocks kind chunk }
+    ensures most { result ≤ chunk }
+{
+    match kind {
+        JobKind::WritesSame { .. } => chunk.min(1),
+        _ => chunk,
+    }
 }
 
 /// How many bytes the next chunk has.
@@ -142,7 +89,18 @@ pub(crate) fn chunk_bytes(job: &Job, chunk: u16) -> usize
     requires { IsSoundJob job.now }
     ensures { result ≡ chunk_bytes chunk job.now }
 {
-    usize::from(job.block_bytes) * chunk_blocks(job, chunk) as usize
+    let blocks = usize::from(job.block_bytes) * chunk_blocks(job, chunk) as usize;
+    kind_bytes(job.kind, blocks)
+}
+
+/// UNMAP takes its list, and all else blocks.
+fn kind_bytes(kind: JobKind, blocks: usize) -> usize
+    ensures { result ≡ kind_bytes kind blocks }
+{
+    match kind {
+        JobKind::Unmaps { bytes, .. } => usize::from(bytes),
+        _ => blocks,
+    }
 }
 
 /// What a command on blocks wants at a stage of its chunk, where no request is out.
@@ -163,10 +121,15 @@ fn moved_way(kind: JobKind, bytes: usize) -> Wants
 {
     match kind {
         JobKind::Reads | JobKind::ReadsBeforeBad => Wants::Gives(bytes),
-        JobKind::Writes { .. } | JobKind::Compares | JobKind::WritesAndVerifies { .. } => {
-            Wants::Takes(bytes)
-        }
-        JobKind::Verifies | JobKind::Synchronizes => Wants::Waits,
+        JobKind::Writes { .. }
+        | JobKind::Compares
+        | JobKind::WritesAndVerifies { .. }
+        | JobKind::WritesSame { .. }
+        | JobKind::Unmaps { .. } => Wants::Takes(bytes),
+        JobKind::Verifies
+        | JobKind::Synchronizes
+        | JobKind::Zeroes { .. }
+        | JobKind::TellsStatus { .. } => Wants::Waits,
     }
 }
 
@@ -227,6 +190,50 @@ fn request_of(unit: usize, job: &Job, chunk: u16) -> Request
             block: job.lba,
             count: job.count,
         },
+        JobKind::WritesSame { through, .. } => Request::WriteSame {
+            unit,
+            block: job.lba,
+            count: job.count,
+            through,
+        },
+        JobKind::Zeroes { unmaps, through } => request_of_zeros(unmaps, through, unit, job),
+        JobKind::Unmaps {
+            block,
+            count,
+            through,
+            ..
+        } => Request::Discard {
+            unit,
+            block,
+            count: u64::from(count),
+            through,
+        },
+        JobKind::TellsStatus { .. } => Request::Status {
+            unit,
+            block: job.lba,
+            count: job.count,
+        },
+    }
+}
+
+fn request_of_zeros(unmaps: bool, through: bool, unit: usize, job: &Job) -> Request
+    ensures { result ≡ request_of_zeros unmaps through unit job.now }
+{
+    let (block, count) = (job.lba, job.count);
+    if unmaps {
+        Request::Discard {
+            unit,
+            block,
+            count,
+            through,
+        }
+    } else {
+        Request::Zero {
+            unit,
+            block,
+            count,
+            through,
+        }
     }
 }
 
@@ -234,13 +241,20 @@ pub(crate) fn request_bytes(kind: JobKind, bytes: usize) -> usize
     ensures { result ≡ request_bytes kind bytes }
 {
     match kind {
-        JobKind::Reads | JobKind::ReadsBeforeBad | JobKind::Writes { .. } | JobKind::Compares =>
-            bytes,
+        JobKind::Reads
+        | JobKind::ReadsBeforeBad
+        | JobKind::Writes { .. }
+        | JobKind::Compares
+        | JobKind::WritesSame { .. } => bytes,
         JobKind::WritesAndVerifies {
             compares,
             has_written,
         } => if has_written && !compares { 0 } else { bytes },
-        JobKind::Verifies | JobKind::Synchronizes => 0,
+        JobKind::Verifies
+        | JobKind::Synchronizes
+        | JobKind::Zeroes { .. }
+        | JobKind::Unmaps { .. }
+        | JobKind::TellsStatus { .. } => 0,
     }
 }
 
@@ -255,168 +269,6 @@ pub(crate) fn waiting(task: Option<Task>) -> Option<Task>
             stage: Stage::Waiting,
         }),
         other => other,
-    }
-}
-
-/// The chunk is done: the next one, or the end.
-pub(crate) fn next_chunk(chunk: u16, unit: usize, job: Job) -> Task
-    requires { IsSoundJob job }
-    ensures { result ≡ next_chunk chunk unit job }
-{
-    let done = job.done + chunk_blocks(&job, chunk);
-    if done < job.count {
-        Task::Blocks {
-            unit,
-            job: Job { done, ..job },
-            stage: first_stage(job.kind),
-        }
-    } else {
-        ended_good(unit)
-    }
-}
-
-/// The last byte of a chunk to the host moved: the next chunk, or the end.
-pub(crate) fn gave_chunk(chunk: u16, unit: usize, job: Job) -> Task
-    requires { IsSoundJob job }
-    ensures { result ≡ gave_chunk job.kind chunk unit job }
-{
-    match job.kind {
-        JobKind::ReadsBeforeBad => failed_at(
-            unit,
-            Sense::UNRECOVERED_READ_ERROR,
-            job.lba + job.count,
-        ),
-        JobKind::Reads
-        | JobKind::Writes { .. }
-        | JobKind::Compares
-        | JobKind::Verifies
-        | JobKind::Synchronizes
-        | JobKind::WritesAndVerifies { .. } => next_chunk(chunk, unit, job),
-    }
-}
-
-/// A task whose request was answered; another one goes on as it was.
-pub(crate) fn after_answer(outcome: Outcome, chunk: u16, task: Option<Task>) -> Option<Task>
-    requires { IfSome task (IsSoundWork chunk) }
-    ensures { result ≡ option_map (after_answer outcome chunk) task }
-{
-    match task {
-        Some(
-            Task::Blocks {
-                unit,
-                job,
-                stage: Stage::Waiting,
-            },
-        ) => Some(after_outcome(outcome, chunk, unit, job)),
-        other => other,
-    }
-}
-
-fn after_outcome(outcome: Outcome, chunk: u16, unit: usize, job: Job) -> Task
-    requires { IsSoundJob job }
-    ensures { result ≡ after_outcome outcome chunk unit job }
-{
-    match outcome {
-        Outcome::Done => done_by(chunk, unit, job),
-        Outcome::Differs => ended_check(unit, MISCOMPARE),
-        Outcome::MediumError => ended_check(unit, medium_error(job.kind)),
-        Outcome::NotReady => ended_check(unit, NOT_READY),
-        Outcome::DiffersAt { byte } => failed_at(
-            unit,
-            MISCOMPARE,
-            u64::from(job.block_bytes) * job.done + u64::from(byte),
-        ),
-        Outcome::MediumErrorAt { block, brings } => after_bad(block, brings, unit, job),
-        Outcome::NoSpace => ended_check(unit, NO_SPACE),
-        Outcome::WriteProtected => ended_check(unit, WRITE_PROTECTED),
-        Outcome::Aborted => ended_check(unit, ABORTED_COMMAND),
-        Outcome::Busy => Task::Failed {
-            unit,
-            failure: Failure::Busy,
-        },
-    }
-}
-
-/// A block can't be read or written: the blocks of a READ before it are given first, where the answer brings them.
-fn after_bad(block: u64, brings: bool, unit: usize, job: Job) -> Task
-    requires { IsSoundJob job }
-    ensures { result ≡ after_bad block brings unit job }
-{
-    let has_some = job.lba + job.done < block && block <= job.lba + job.count;
-    if brings && is_reading(job.kind) && has_some {
-        Task::Blocks {
-            unit,
-            job: Job {
-                kind: JobKind::ReadsBeforeBad,
-                count: block - job.lba,
-                ..job
-            },
-            stage: Stage::Moving { at: 0 },
-        }
-    } else {
-        failed_at(unit, medium_error(job.kind), block)
-    }
-}
-
-fn is_reading(kind: JobKind) -> bool
-    ensures { result ≡ is_reading kind }
-{
-    matches!(kind, JobKind::Reads)
-}
-
-fn done_by(chunk: u16, unit: usize, job: Job) -> Task
-    requires { IsSoundJob job }
-    ensures { result ≡ done_by job.kind chunk unit job }
-{
-    match job.kind {
-        JobKind::Reads | JobKind::ReadsBeforeBad => Task::Blocks {
-            unit,
-            job,
-            stage: Stage::Moving { at: 0 },
-        },
-        JobKind::Writes { .. } | JobKind::Compares => next_chunk(chunk, unit, job),
-        JobKind::WritesAndVerifies {
-            compares,
-            has_written,
-        } => {
-            let job = Job {
-                kind: JobKind::WritesAndVerifies {
-                    compares,
-                    has_written: !has_written,
-                },
-                ..job
-            };
-            if has_written {
-                next_chunk(chunk, unit, job)
-            } else {
-                Task::Blocks {
-                    unit,
-                    job,
-                    stage: Stage::Asking,
-                }
-            }
-        }
-        JobKind::Verifies | JobKind::Synchronizes => ended_good(unit),
-    }
-}
-
-fn medium_error(kind: JobKind) -> Sense
-    ensures { result ≡ medium_error kind }
-{
-    match kind {
-        JobKind::Reads | JobKind::ReadsBeforeBad | JobKind::Compares | JobKind::Verifies => {
-            Sense::UNRECOVERED_READ_ERROR
-        }
-        JobKind::WritesAndVerifies {
-            has_written: true,
-            ..
-        } => Sense::UNRECOVERED_READ_ERROR,
-        JobKind::Writes { .. }
-        | JobKind::Synchronizes
-        | JobKind::WritesAndVerifies {
-            has_written: false,
-            ..
-        } => Sense::WRITE_ERROR,
     }
 }
 
@@ -445,7 +297,10 @@ pub(crate) fn unit_written(request: &Request) -> Option<usize>
     ensures { result ≡ unit_written request.now }
 {
     match request {
-        Request::Write { unit, .. } => Some(*unit),
+        Request::Write { unit, .. }
+        | Request::Zero { unit, .. }
+        | Request::Discard { unit, .. }
+        | Request::WriteSame { unit, .. } => Some(*unit),
         _ => None,
     }
 }

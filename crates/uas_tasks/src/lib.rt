@@ -12,10 +12,11 @@
 //! ```
 //!
 //! READ asks for one chunk of at most so many blocks, gives its bytes in any parts, and asks for the next one. WRITE, and VERIFY
-//! with data, takes a chunk in any parts and then asks; WRITE AND VERIFY asks twice. SYNCHRONIZE CACHE, START STOP UNIT and VERIFY without data ask once. What
+//! with data, takes a chunk in any parts and then asks; WRITE AND VERIFY asks twice. SYNCHRONIZE CACHE, START STOP UNIT, VERIFY without data and GET LBA STATUS
+//! ask once; WRITE SAME does once its block is there, for zeros where that is zeros; UNMAP takes its list, and asks for each descriptor in turn. What
 //! a failed request ends with:
 //!
-//! | Outcome | READ, VERIFY | WRITE, SYNCHRONIZE CACHE |
+//! | Outcome | READ, VERIFY, GET LBA STATUS | WRITE, WRITE SAME, UNMAP, SYNCHRONIZE CACHE |
 //! |---|---|---|
 //! | medium error | UNRECOVERED READ ERROR | WRITE ERROR |
 //! | not ready | LOGICAL UNIT NOT READY | the same |
@@ -32,7 +33,7 @@
 //! outcome is dropped. So a request is named by a number of its own: the tag in its lowest eight bits, and above them a count of
 //! the requests of that tag. Data of the device itself (INQUIRY and the like) need no chunk buffer and never wait.
 //!
-//! A Write that is out and that no task waits for any more is *stale*: it may still change blocks. While a logical unit has one, none of its
+//! A request that changes blocks, is out and that no task waits for any more is *stale*: it may still change them. While a logical unit has one, none of its
 //! requests is asked, and the Response of a function that ended a command there is held: both wait. So what a host is told, and what it does
 //! then, lands later (`nothing_stale_passes`). [`Tasks::stale`] names these requests, so that a caller may cancel them.
 //!
@@ -49,6 +50,7 @@
 
 mod answers;
 mod calls;
+mod done;
 mod jobs;
 mod laws;
 mod management;
@@ -60,6 +62,7 @@ mod shapes;
 mod slot;
 mod stale;
 mod starts;
+mod unmapping;
 
 pub use device_server::Answer;
 use host_commands::{CommandSet, LogicalUnitShape, UnitAttention};
@@ -112,12 +115,39 @@ pub enum Request {
         block: u64,
         count: u64,
     },
+    /// Write zeros; where it goes `through`, they are on the medium when it is done.
+    Zero {
+        unit: usize,
+        block: u64,
+        count: u64,
+        through: bool,
+    },
+    /// The same; their room may be given back.
+    Discard {
+        unit: usize,
+        block: u64,
+        count: u64,
+        through: bool,
+    },
+    /// Write one block, which is its data, on each of them; where it goes `through`, as a Write.
+    WriteSame {
+        unit: usize,
+        block: u64,
+        count: u64,
+        through: bool,
+    },
+    /// Tell how many from the first one on are all mapped, or all not.
+    Status {
+        unit: usize,
+        block: u64,
+        count: u64,
+    },
 }
 
 /// What came of a request; from `DiffersAt` on in the disk set alone.
 #[derive(Clone, Copy, Debug, PartialEq, Eq)]
 pub enum Outcome {
-    /// It is done.
+    /// It is done. Of all but a Status.
     Done,
     /// The blocks are other ones.
     Differs,
@@ -129,14 +159,16 @@ pub enum Outcome {
     DiffersAt { byte: u32 },
     /// This block is the first that can't be read or written; of a Read, whether the blocks before it come with the answer.
     MediumErrorAt { block: u64, brings: bool },
-    /// Of a Write or a Sync: there is no room for them.
+    /// Of what changes blocks, or a Sync: there is no room for them.
     NoSpace,
-    /// Of a Write or a Sync: nothing can be written.
+    /// Of the same: nothing can be written.
     WriteProtected,
     /// It was given up; a host may try it again.
     Aborted,
     /// It can't be done now; a host tries it again.
     Busy,
+    /// Of a Status: so many blocks, 1 at least, are all mapped, or all not.
+    Mapped { mapped: bool, count: u64 },
 }
 
 /// Why an answer to a request is refused: the first of these that holds.
@@ -146,7 +178,7 @@ pub enum AnswerFault {
     NotOut,
     #[error("a request of this kind, or of this command set, has no such outcome")]
     NoSuchOutcome,
-    #[error("the block, or the byte, isn't one of the request's")]
+    #[error("the block, or the byte, isn't one of the request's, or it hasn't so many blocks")]
     WrongPlace,
     #[error("other bytes than the blocks that were asked for have")]
     WrongLength,
@@ -164,6 +196,21 @@ pub enum JobKind {
     Synchronizes,
     /// Each chunk is written through and then verified, or compared; whether it has been written.
     WritesAndVerifies { compares: bool, has_written: bool },
+    /// It takes one block, and writes it on each: WRITE SAME. Of zeros it becomes `Zeroes`.
+    WritesSame { unmaps: bool, through: bool },
+    /// It writes zeros, and may give the room back where it `unmaps`.
+    Zeroes { unmaps: bool, through: bool },
+    /// It takes a list of so many bytes, and then discards `count` blocks from `block` on, which are those of the descriptor of this index. Its job is
+    /// all blocks of the logical unit.
+    Unmaps {
+        bytes: u16,
+        index: u8,
+        block: u64,
+        count: u32,
+        through: bool,
+    },
+    /// It tells whether blocks are mapped, in at most so many bytes.
+    TellsStatus { most: u8 },
 }
 
 /// The blocks of a command, `count` from `lba` on, of which `done` are done.

@@ -1,9 +1,11 @@
 //! Bytes that move, to the host or from it: data of the device, and chunks of blocks.
-ghost use Rattle.std.specs.Prelude.{◌≡◌, IfSome, option_map};
-ghost use Rattle.uas_tasks.specs.Slots.{gave_task, giving_task, moved_on, took_task};
-ghost use Rattle.uas_tasks.specs.Soundness.{IsSoundJob, IsSoundStage, IsSoundTask, IsSoundWork};
+ghost use Rattle.std.specs.Prelude.{◌≡◌, ◌≤◌, IfSome, length, option_map};
+ghost use Rattle.uas_tasks.specs.Jobs.{came, giving_task, moved_on};
+ghost use Rattle.uas_tasks.specs.Slots.{chunk_room, gave_task, took_task};
+ghost use Rattle.uas_tasks.specs.Soundness.{FitsRoom, IsSoundJob, IsSoundStage, IsSoundTask, IsSoundWork};
 
-use crate::jobs::{chunk_bytes, gave_chunk};
+use crate::done::{came, gave_chunk};
+use crate::jobs::chunk_bytes;
 use crate::{Answer, DeviceAnswer, Job, Stage, Task};
 
 /// A task that gives so many bytes of data of the device, or has ended where there are none.
@@ -45,21 +47,51 @@ pub(crate) fn gave_task(chunk: u16, given: usize, moved: usize, task: Option<Tas
     }
 }
 
-/// A task that took so many bytes of its chunk.
-pub(crate) fn took_task(chunk: u16, moved: usize, task: Option<Task>) -> Option<Task>
-    requires { IfSome task (IsSoundWork chunk) }
-    ensures { result ≡ option_map (took_task chunk moved) task }
+/// A task that took so many bytes of its chunk, which are in its chunk buffer.
+pub(crate) fn took_task(
+    chunk: u16,
+    moved: usize,
+    buffer: &[u8],
+    task: Option<Task>,
+) -> Option<Task>
+    requires sound { IfSome task (IsSoundWork chunk) }
+    requires some { 1 ≤ chunk }
+    requires fits { IfSome task (FitsRoom chunk (length buffer.now)) }
+    ensures { result ≡ option_map (took_task chunk moved buffer.now) task }
 {
     match task {
         Some(Task::Blocks { unit, job, stage }) => {
-            let after = Task::Blocks {
-                unit,
-                job,
-                stage: Stage::Asking,
-            };
-            Some(moved_on(chunk, moved, unit, job, after, stage))
+            Some(took_blocks(chunk, moved, buffer, unit, job, stage))
         }
         other => other,
+    }
+}
+
+fn took_blocks(
+    chunk: u16,
+    moved: usize,
+    buffer: &[u8],
+    unit: usize,
+    job: Job,
+    stage: Stage,
+) -> Task
+    requires job { IsSoundJob job }
+    requires stage { IsSoundStage chunk job stage }
+    requires some { 1 ≤ chunk }
+    requires fits { chunk_room chunk job.block_bytes ≤ length buffer.now }
+    ensures { result ≡ moved_on chunk moved unit job (came job.kind buffer.now unit job) stage }
+{
+    let Stage::Moving { at } = stage else {
+        return Task::Blocks { unit, job, stage };
+    };
+    if moved < chunk_bytes(&job, chunk) - at {
+        Task::Blocks {
+            unit,
+            job,
+            stage: Stage::Moving { at: at + moved },
+        }
+    } else {
+        came(buffer, unit, job)
     }
 }
 

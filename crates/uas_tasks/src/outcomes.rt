@@ -1,6 +1,6 @@
 //! Which answers a request can have, and what they bring.
 ghost use Rattle.std.specs.Prelude.{◌≡◌, ◌≤◌, true};
-ghost use Rattle.uas_tasks.specs.Slots.{block_in, brings, brought, count_in, has_place, is_known, is_of};
+ghost use Rattle.uas_tasks.specs.Outcomes.{block_in, brings, brought, count_in, has_place, is_known, is_of, is_status, is_writing};
 
 use crate::slot::Out;
 use crate::{Outcome, Request};
@@ -17,7 +17,8 @@ pub(crate) fn is_known(set: CommandSet, outcome: Outcome) -> bool
         | Outcome::NoSpace
         | Outcome::WriteProtected
         | Outcome::Aborted
-        | Outcome::Busy => matches!(set, CommandSet::Disk),
+        | Outcome::Busy
+        | Outcome::Mapped { .. } => matches!(set, CommandSet::Disk),
     }
 }
 
@@ -27,16 +28,38 @@ pub(crate) fn is_of(request: &Request, outcome: Outcome) -> bool
 {
     match outcome {
         Outcome::DiffersAt { .. } => matches!(request, Request::Compare { .. }),
-        Outcome::NoSpace | Outcome::WriteProtected => {
-            matches!(request, Request::Write { .. } | Request::Sync { .. })
-        }
-        Outcome::Done
-        | Outcome::Differs
+        Outcome::NoSpace | Outcome::WriteProtected => is_writing(request),
+        Outcome::Mapped { .. } => is_status(request),
+        Outcome::Done => !is_status(request),
+        Outcome::Differs
         | Outcome::MediumError
         | Outcome::NotReady
         | Outcome::MediumErrorAt { .. }
         | Outcome::Aborted
         | Outcome::Busy => true,
+    }
+}
+
+fn is_status(request: &Request) -> bool
+    ensures { result ≡ is_status request.now }
+{
+    matches!(request, Request::Status { .. })
+}
+
+/// Whether it wants room and leave to write.
+fn is_writing(request: &Request) -> bool
+    ensures { result ≡ is_writing request.now }
+{
+    match request {
+        Request::Write { .. }
+        | Request::Sync { .. }
+        | Request::Zero { .. }
+        | Request::Discard { .. }
+        | Request::WriteSame { .. } => true,
+        Request::Read { .. }
+        | Request::Compare { .. }
+        | Request::Verify { .. }
+        | Request::Status { .. } => false,
     }
 }
 
@@ -54,7 +77,8 @@ pub(crate) fn brings(outcome: Outcome) -> bool
         | Outcome::NoSpace
         | Outcome::WriteProtected
         | Outcome::Aborted
-        | Outcome::Busy => false,
+        | Outcome::Busy
+        | Outcome::Mapped { .. } => false,
     }
 }
 
@@ -68,7 +92,11 @@ impl Request {
             | Request::Write { block, .. }
             | Request::Compare { block, .. }
             | Request::Verify { block, .. }
-            | Request::Sync { block, .. } => *block,
+            | Request::Sync { block, .. }
+            | Request::Zero { block, .. }
+            | Request::Discard { block, .. }
+            | Request::WriteSame { block, .. }
+            | Request::Status { block, .. } => *block,
         }
     }
 
@@ -81,7 +109,11 @@ impl Request {
             | Request::Write { count, .. }
             | Request::Compare { count, .. }
             | Request::Verify { count, .. }
-            | Request::Sync { count, .. } => *count,
+            | Request::Sync { count, .. }
+            | Request::Zero { count, .. }
+            | Request::Discard { count, .. }
+            | Request::WriteSame { count, .. }
+            | Request::Status { count, .. } => *count,
         }
     }
 }
@@ -97,6 +129,7 @@ impl Out {
                 let first = self.request.block();
                 first <= block && block - first < self.request.count()
             }
+            Outcome::Mapped { count, .. } => count > 0 && count <= self.request.count(),
             Outcome::Done
             | Outcome::Differs
             | Outcome::MediumError
@@ -129,7 +162,8 @@ impl Out {
             | Outcome::NoSpace
             | Outcome::WriteProtected
             | Outcome::Aborted
-            | Outcome::Busy => 0,
+            | Outcome::Busy
+            | Outcome::Mapped { .. } => 0,
         }
     }
 }

@@ -3,17 +3,17 @@ ghost use Rattle.std.specs.Prelude.{◌≡◌, ◌+◌, ◌≤◌, ◌++◌, IfS
 ghost use Rattle.host_commands.specs.declared.TheConstants.{MOST_DATA_BYTES};
 ghost use Rattle.uas_profile.specs.declared.TheConstants.{MAX_UNITS};
 ghost use Rattle.uas_tasks.specs.Machine.{slot_of};
-ghost use Rattle.uas_tasks.specs.Saved.{AreSavable, IsRestorable, asking_span, has_request_out, is_free, is_job_of, is_job_on, is_stage, is_tag_state, is_task, is_unit, kept_bytes, may_restore, moving_span, no_span};
+ghost use Rattle.uas_tasks.specs.Saved.{AreSavable, IsRestorable, asking_span, has_request_out, is_free, is_job_of, is_job_on, is_kind, is_stage, is_tag_state, is_task, is_unit, kept_bytes, may_restore, moving_span, no_span};
 ghost use Rattle.uas_tasks.specs.Saved.{restored_attention, restored_slot, restored_tag, stage_span, tag_state, unit_attention, unit_shape};
-ghost use Rattle.uas_tasks.specs.Slots.{chunk_bytes, is_moved};
-ghost use Rattle.uas_tasks.specs.Soundness.{AreSized, IsSoundJob, IsSoundStage};
+ghost use Rattle.uas_tasks.specs.Jobs.{chunk_bytes, is_moved};
+ghost use Rattle.uas_tasks.specs.Soundness.{AreSized, IsSoundJob, IsSoundKind, IsSoundStage};
 
 use crate::jobs::{chunk_bytes, request_bytes};
 use crate::receiver::is_tag;
 use crate::slot::Slot;
 use crate::{Job, JobKind, LogicalUnit, Stage, Task, Tasks};
 use arrayvec::ArrayVec;
-use host_commands::{CommandSet, LogicalUnitShape, MOST_DATA_BYTES, UnitAttention};
+use host_commands::{CommandSet, LogicalUnitShape, MOST_DATA_BYTES, MOST_UNMAP_BYTES, UnitAttention};
 use scsi_cmd::Buffer;
 use thiserror::Error;
 
@@ -218,15 +218,43 @@ fn is_job_on(job: &Job, shape: &LogicalUnitShape) -> bool
         && job.lba <= shape.blocks()
         && job.count <= shape.blocks() - job.lba
         && job.done < job.count
+        && is_kind(job.count, job.kind)
+}
+
+fn is_kind(blocks: u64, kind: JobKind) -> bool
+    ensures kind { result ≡ is_kind blocks kind }
+    ensures sound { result ≡ true → IsSoundKind blocks kind }
+{
+    match kind {
+        JobKind::Unmaps {
+            bytes,
+            block,
+            count,
+            ..
+        } => {
+            bytes > 0
+                && usize::from(bytes) <= MOST_UNMAP_BYTES
+                && block <= blocks
+                && u64::from(count) <= blocks - block
+        }
+        _ => true,
+    }
 }
 
 fn is_moved(kind: JobKind) -> bool
     ensures { result ≡ is_moved kind }
 {
     match kind {
-        JobKind::Reads | JobKind::ReadsBeforeBad | JobKind::Writes { .. } | JobKind::Compares =>
-            true,
-        JobKind::Verifies | JobKind::Synchronizes => false,
+        JobKind::Reads
+        | JobKind::ReadsBeforeBad
+        | JobKind::Writes { .. }
+        | JobKind::Compares
+        | JobKind::WritesSame { .. }
+        | JobKind::Unmaps { .. } => true,
+        JobKind::Verifies
+        | JobKind::Synchronizes
+        | JobKind::Zeroes { .. }
+        | JobKind::TellsStatus { .. } => false,
         JobKind::WritesAndVerifies { has_written, .. } => !has_written,
     }
 }
@@ -254,7 +282,14 @@ fn asking_span(kind: JobKind, bytes: usize) -> Span
     ensures { result ≡ asking_span kind bytes }
 {
     match kind {
-        JobKind::Reads | JobKind::ReadsBeforeBad => no_span(),
+        JobKind::Reads
+        | JobKind::ReadsBeforeBad
+        | JobKind::Zeroes { .. }
+        | JobKind::TellsStatus { .. } => no_span(),
+        JobKind::Unmaps { .. } => Span {
+            from: 0,
+            many: bytes,
+        },
         _ => Span {
             from: 0,
             many: request_bytes(kind, bytes),
@@ -271,11 +306,18 @@ fn moving_span(kind: JobKind, at: usize, bytes: usize) -> Span
             from: at,
             many: bytes - at,
         },
-        JobKind::Writes { .. } | JobKind::Compares | JobKind::WritesAndVerifies { .. } => Span {
+        JobKind::Writes { .. }
+        | JobKind::Compares
+        | JobKind::WritesAndVerifies { .. }
+        | JobKind::WritesSame { .. }
+        | JobKind::Unmaps { .. } => Span {
             from: 0,
             many: at,
         },
-        JobKind::Verifies | JobKind::Synchronizes => no_span(),
+        JobKind::Verifies
+        | JobKind::Synchronizes
+        | JobKind::Zeroes { .. }
+        | JobKind::TellsStatus { .. } => no_span(),
     }
 }
 

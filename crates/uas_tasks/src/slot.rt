@@ -3,24 +3,27 @@ ghost use Rattle.std.specs.Prelude.{◌≡◌, ◌≤◌, if◌then◌else◌, I
 ghost use Rattle.scsi_cmd.specs.declared.Sense.{Sense};
 ghost use Rattle.scsi_cmd.specs.Buffers.{with_bytes_at};
 ghost use Rattle.host_commands.specs.Data.{IsOfDevice, given_bytes};
-ghost use Rattle.uas_tasks.specs.Slots.{SlotState, answered_slot, asked_slot, brings_bytes, filled, fresh_slot, gave_slot, giving_slot, has_place};
+ghost use Rattle.std.specs.Option.{option_map_or};
+ghost use Rattle.uas_tasks.specs.Outcomes.{has_place};
+ghost use Rattle.uas_tasks.specs.Slots.{SlotState, answered_slot, asked_slot, brings_bytes, fresh_slot, gave_slot, giving_slot, task_given};
 ghost use Rattle.uas_tasks.specs.Slots.{is_wrong_length, next_bytes, passed_out, passing_out, slot_wants, took_slot, with_task};
 ghost use Rattle.uas_tasks.specs.Soundness.{FitsRoom, IsSoundSlot, IsSoundTask, MayGive, MayTake};
-ghost use Rattle.uas_tasks.specs.Saved.{IsRestorable, is_pending, kept_bytes, restored_slot};
 ghost use Rattle.uas_tasks.specs.Stale.{held_by, stale_unit, stale_without, writes_out};
 ghost use Rattle.uas_tasks.specs.declared.Wants.{Wants};
 ghost use Rattle.uas_tasks.specs.declared.slot.Out.{Out};
 
-use crate::jobs::{after_answer, is_read, is_waiting, out_of, stage_wants, unit_written, waiting};
+use crate::done::{after_answer, told_status};
+use crate::jobs::{is_read, is_waiting, out_of, stage_wants, unit_written, waiting};
 use crate::moves::{gave_task, giving_task, took_task};
 use crate::outcomes::brings;
-use crate::saved::{TagState, clear, give_again, stage_span};
 use crate::{Answer, DeviceAnswer, Outcome, Request, Stage, Task, Wants};
 use arrayvec::ArrayVec;
 use host_commands::{Data, MOST_DATA_BYTES, write_data};
 use scsi_cmd::Buffer;
 use std::alloc::{AllocError, Global};
 use std::marker::Model;
+
+mod kept;
 
 /// A request that is out, and how many bytes of the chunk buffer belong to it.
 #[derive(Clone, Copy, Debug, PartialEq, Eq)]
@@ -40,7 +43,7 @@ pub(crate) struct Slot {
     out: Option<Out>,
     /// Data of the device that the task gives.
     given: ArrayVec<u8, MOST_DATA_BYTES>,
-    /// The bytes of one chunk of blocks.
+    /// The bytes of one chunk of blocks, or an UNMAP's list.
     buffer: Buffer,
 }
 
@@ -164,7 +167,7 @@ impl Slot {
         self.out
     }
 
-    /// The logical unit of the Write that is out.
+    /// The logical unit of the request that is out and changes blocks.
     fn writes_out(&self) -> Option<usize>
         ensures { result ≡ writes_out self.now }
     {
@@ -245,8 +248,10 @@ impl Slot {
         ensures len { length self.new.bytes ≡ length self.old.bytes }
     {
         let brings = self.brings_bytes(out, outcome);
+        let task = after_answer(outcome, self.chunk, self.buffer.as_slice(), self.task);
+        give_told(&mut self.given, outcome, &self.task);
         fill(&mut self.buffer, brings, bytes);
-        self.task = after_answer(outcome, self.chunk, self.task);
+        self.task = task;
         self.out = None;
     }
 
@@ -296,7 +301,7 @@ impl Slot {
     pub(crate) fn pass(&mut self, out: &Out)
         ensures slot { self.new ≡ passed_out self.old out.now }
     {
-        let done = after_answer(Outcome::Done, self.chunk, self.task);
+        let done = after_answer(Outcome::Done, self.chunk, self.buffer.as_slice(), self.task);
         self.set_done(done);
         self.task = gave_task(self.chunk, self.given.len(), out.len, self.task);
     }
@@ -326,53 +331,36 @@ impl Slot {
         {
             self.buffer.write_at(at, bytes);
         }
-        self.task = took_task(self.chunk, bytes.len(), self.task);
+        self.task = took_task(
+            self.chunk,
+            bytes.len(),
+            self.buffer.as_slice(),
+            self.task,
+        );
     }
 }
 
-impl Slot {
-    /// Whether it has a request out, or a task that waits for one.
-    pub(crate) fn is_pending(&self) -> bool
-        ensures pending { result ≡ is_pending self.now }
-        ensures sound { IsSoundSlot self.now }
-    {
-        self.out.is_some() || is_waiting(&self.task)
-    }
-
-    /// The bytes that matter while no request is out.
-    pub(crate) fn kept_bytes(&self) -> &[u8]
-        ensures { result.now ≡ kept_bytes self.now }
-    {
-        match &self.task {
-            Some(Task::Giving { at, .. }) => &self.given[*at..],
-            Some(Task::Blocks { job, stage, .. }) => {
-                let span = stage_span(self.chunk, job, *stage);
-                &self.buffer.as_slice()[span.from..span.from + span.many]
-            }
-            _ => &[],
+/// What a task that waits gives once it is told of mapped blocks.
+fn give_told(
+    given: &mut ArrayVec<u8, MOST_DATA_BYTES>,
+    outcome: Outcome,
+    task: &Option<Task>,
+)
+    ensures { given.new.items ≡ option_map_or (task_given outcome given.old.items) task.now given.old.items }
+{
+    if let Outcome::Mapped { mapped, count } = outcome {
+        if let Some(
+            Task::Blocks {
+                job,
+                stage: Stage::Waiting,
+                ..
+            },
+        ) = task
+        {
+            let told = told_status(job.kind, job.lba, mapped, count);
+            given.clear();
+            given.try_extend_from_slice(&told).unwrap();
         }
-    }
-
-    /// It has this state now, with these bytes and 0 where none matter, and no request out.
-    pub(crate) fn restore(&mut self, state: &TagState, bytes: &[u8])
-        requires sound { IfSome state.now.task (IsRestorable self.old.chunk (length bytes.now)) }
-        requires fits { IfSome state.now.task (FitsRoom self.old.chunk (length self.old.bytes)) }
-        ensures slot { self.new ≡ restored_slot self.old state.now bytes.now }
-        ensures len { length self.new.bytes ≡ length self.old.bytes }
-    {
-        self.given.clear();
-        clear(&mut self.buffer);
-        match &state.task {
-            Some(Task::Giving { at, .. }) => give_again(&mut self.given, *at, bytes),
-            Some(Task::Blocks { job, stage, .. }) => {
-                let span = stage_span(self.chunk, job, *stage);
-                self.buffer.write_at(span.from, bytes);
-            }
-            _ => (),
-        }
-        self.task = state.task;
-        self.turn = state.turn;
-        self.out = None;
     }
 }
 

@@ -1,13 +1,17 @@
 //! How a command begins: its unit attention, and what it asks.
-ghost use Rattle.std.specs.Prelude.{◌≡◌, ◌+◌, ◌*◌, ◌≤◌, IfOk, None, Some, length, true};
+ghost use Rattle.std.specs.Prelude.{◌≡◌, ℕ, ◌+◌, ◌<◌, ◌≤◌, IfOk, None, Some, length, true};
 ghost use Rattle.host_commands.specs.Meaning.{asked_of};
 ghost use Rattle.host_commands.specs.Shapes.{block_bytes};
+ghost use Rattle.host_commands.specs.declared.TheConstants.{MOST_UNMAP_BYTES};
+ghost use Rattle.host_commands.specs.declared.Work.{Work};
 ghost use Rattle.uas_profile.specs.declared.TheConstants.{MAX_UNITS};
 ghost use Rattle.uas_tasks.specs.Machine.{begun, kept_attention};
-ghost use Rattle.uas_tasks.specs.Slots.{blocks_synchronized, is_begun, job_task, started, started_none, started_work, with_task};
-ghost use Rattle.uas_tasks.specs.Soundness.{StartsOn};
+ghost use Rattle.uas_tasks.specs.Jobs.{is_begun};
+ghost use Rattle.uas_tasks.specs.Slots.{blocks_synchronized, chunk_room, job_task, same_kind, started, started_none, started_work, with_task};
+ghost use Rattle.uas_tasks.specs.Soundness.{IsSoundKind, StartsOn};
 
-use crate::jobs::{ended_check, ended_good, job_task};
+use crate::done::{ended_check, ended_good};
+use crate::jobs::job_task;
 use crate::slot::Slot;
 use crate::{Answer, DeviceAnswer, JobKind, LogicalUnit, Task};
 use host_commands::{
@@ -29,7 +33,7 @@ pub(crate) fn begin(
     cdb: &[u8; CDB_BYTES],
 ) -> Option<UnitAttention>
     requires most { count ≤ MAX_UNITS }
-    requires room { slot.old.chunk * block_bytes unit.now.shape.block_length ≤ length slot.old.bytes }
+    requires room { chunk_room slot.old.chunk (block_bytes unit.now.shape.block_length) ≤ length slot.old.bytes }
     ensures begun { (result, slot.new) ≡ begun unit.now number set.now count cdb.now slot.old }
     ensures on { IfOk (asked_of cdb.now set.now unit.now.shape count unit.now.attention) (StartsOn unit.now.shape.blocks) }
     ensures chunk { slot.new.chunk ≡ slot.old.chunk }
@@ -72,7 +76,7 @@ impl Slot {
         asked: &Result<Work, Sense>,
     )
         requires on { IfOk asked.now (StartsOn shape.now.blocks) }
-        requires room { self.old.chunk * block_bytes shape.now.block_length ≤ length self.old.bytes }
+        requires room { chunk_room self.old.chunk (block_bytes shape.now.block_length) ≤ length self.old.bytes }
         ensures started { self.new ≡ started self.old unit shape.now asked.now }
         ensures chunk { self.new.chunk ≡ self.old.chunk }
         ensures len { length self.new.bytes ≡ length self.old.bytes }
@@ -85,7 +89,7 @@ impl Slot {
 
     fn start_work(&mut self, unit: usize, shape: &LogicalUnitShape, work: &Work)
         requires on { StartsOn shape.now.blocks work.now }
-        requires room { self.old.chunk * block_bytes shape.now.block_length ≤ length self.old.bytes }
+        requires room { chunk_room self.old.chunk (block_bytes shape.now.block_length) ≤ length self.old.bytes }
         ensures started { self.new ≡ started_work self.old unit shape.now work.now }
         ensures chunk { self.new.chunk ≡ self.old.chunk }
         ensures len { length self.new.bytes ≡ length self.old.bytes }
@@ -125,7 +129,63 @@ impl Slot {
             Work::Compares { lba, count } => {
                 self.start_job(unit, shape, JobKind::Compares, lba, u64::from(count));
             }
+            Work::Unmaps { list, through } => self.start_list(unit, shape, list, through),
+            Work::WritesSame {
+                lba,
+                count,
+                takes,
+                unmaps,
+                through,
+            } => {
+                let kind = same_kind(takes, unmaps, through);
+                self.start_job(unit, shape, kind, lba, u64::from(count));
+            }
+            Work::TellsStatus {
+                lba,
+                count,
+                allocation,
+            } => self.start_status(unit, shape, lba, count, allocation),
         }
+    }
+
+    /// UNMAP takes its list; its job is all blocks of the logical unit.
+    fn start_list(&mut self, unit: usize, shape: &LogicalUnitShape, list: u16, through: bool)
+        requires some { 0 < list }
+        requires most { list ≤ MOST_UNMAP_BYTES }
+        requires room { chunk_room self.old.chunk (block_bytes shape.now.block_length) ≤ length self.old.bytes }
+        ensures { self.new ≡ started_work self.old unit shape.now (Work.Unmaps list through) }
+    {
+        let kind = JobKind::Unmaps {
+            bytes: list,
+            index: 0,
+            block: 0,
+            count: 0,
+            through,
+        };
+        self.start_job(unit, shape, kind, 0, shape.blocks());
+    }
+
+    /// GET LBA STATUS asks where it is to give something.
+    fn start_status(
+        &mut self,
+        unit: usize,
+        shape: &LogicalUnitShape,
+        lba: u64,
+        count: u32,
+        allocation: u32,
+    )
+        requires on { lba + count ≤ shape.now.blocks }
+        requires room { chunk_room self.old.chunk (block_bytes shape.now.block_length) ≤ length self.old.bytes }
+        ensures { self.new ≡ started_work self.old unit shape.now (Work.TellsStatus lba count allocation) }
+    {
+        if allocation == 0 {
+            self.set(Some(ended_good(unit)));
+            return;
+        }
+        let kind = JobKind::TellsStatus {
+            most: allocation.min(24) as u8,
+        };
+        self.start_job(unit, shape, kind, lba, u64::from(count));
     }
 
     fn start_job(
@@ -138,7 +198,8 @@ impl Slot {
     )
         requires on { lba + count ≤ shape.now.blocks }
         requires begun { is_begun kind ≡ true }
-        requires room { self.old.chunk * block_bytes shape.now.block_length ≤ length self.old.bytes }
+        requires kind { IsSoundKind count kind }
+        requires room { chunk_room self.old.chunk (block_bytes shape.now.block_length) ≤ length self.old.bytes }
         ensures { self.new ≡ with_task self.old (Some (job_task unit kind shape.now.block_length lba count)) }
     {
         // a chunk has a block, and a logical unit at most 2^48
@@ -167,6 +228,19 @@ fn ended_none(answer: Answer) -> Task
     Task::Ended {
         unit: None,
         answer: DeviceAnswer::Status(answer),
+    }
+}
+
+/// WRITE SAME takes its block, or is of zeros.
+fn same_kind(takes: bool, unmaps: bool, through: bool) -> JobKind
+    ensures kind { result ≡ same_kind takes unmaps through }
+    ensures begun { is_begun result ≡ true }
+    ensures sound { (count : ℕ) → IsSoundKind count result }
+{
+    if takes {
+        JobKind::WritesSame { unmaps, through }
+    } else {
+        JobKind::Zeroes { unmaps, through }
     }
 }
 

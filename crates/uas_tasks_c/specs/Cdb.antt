@@ -12,7 +12,7 @@ use Rattle.host_commands.specs.declared.Data.{Data}
 use Rattle.host_commands.specs.declared.UnitAttention.{UnitAttention}
 use Rattle.host_commands.specs.declared.UnitAttention.TheVariants.{PowerOn, Reset}
 use Rattle.host_commands.specs.declared.Work.{Work}
-use Rattle.host_commands.specs.declared.Work.TheVariants.{Nothing, Gives, Reads, Writes, Synchronizes, Verifies, Compares, WritesAndVerifies}
+use Rattle.host_commands.specs.declared.Work.TheVariants.{Nothing, Gives, Reads, Writes, Synchronizes, Verifies, Compares, WritesAndVerifies, Unmaps, WritesSame, TellsStatus}
 use Rattle.scsi_cmd.specs.declared.Sense.{Sense}
 use Rattle.uas_profile.specs.declared.TheConstants.{MAX_UNITS}
 use Rattle.uas_tasks_c.specs.declared.cdb.Asked.{Asked}
@@ -67,6 +67,9 @@ IsGiven (Does (Synchronizes lba count)) = Unit {0}
 IsGiven (Does (Verifies lba count)) = Unit {0}
 IsGiven (Does (Compares lba count)) = Unit {0}
 IsGiven (Does (WritesAndVerifies lba count compares)) = Unit {0}
+IsGiven (Does (Unmaps list through)) = Unit {0}
+IsGiven (Does (WritesSame lba count takes unmaps through)) = Unit {0}
+IsGiven (Does (TellsStatus lba count allocation)) = Unit {0}
 
 -- WHAT C IS TOLD
 
@@ -83,6 +86,9 @@ work_record (Synchronizes lba count) = record_with 4 lba count 0 0
 work_record (Verifies lba count) = record_with 5 lba count 0 0
 work_record (Compares lba count) = record_with 6 lba count 0 0
 work_record (WritesAndVerifies lba count compares) = record_with (if compares then 8 else 7) lba count 0 1
+work_record (Unmaps list through) = record_with 9 0 0 list (yes through)
+work_record (WritesSame lba count takes unmaps through) = record_with (if takes then 10 else 11) lba count 0 (yes through + 2 * yes unmaps)
+work_record (TellsStatus lba count allocation) = record_with 12 lba count allocation 0
 
 -- the number, and what the two records have then
 abbrev pub parsed : Asked → UasTasksWork → UasTasksSense → ℕ × (UasTasksWork × UasTasksSense)
@@ -107,3 +113,6 @@ given_told (Does (Synchronizes lba many)) bytes count = (0, (bytes, 0))
 given_told (Does (Verifies lba many)) bytes count = (0, (bytes, 0))
 given_told (Does (Compares lba many)) bytes count = (0, (bytes, 0))
 given_told (Does (WritesAndVerifies lba many compares)) bytes count = (0, (bytes, 0))
+given_told (Does (Unmaps list through)) bytes count = (0, (bytes, 0))
+given_told (Does (WritesSame lba many takes unmaps through)) bytes count = (0, (bytes, 0))
+given_told (Does (TellsStatus lba many allocation)) bytes count = (0, (bytes, 0))

@@ -1,5 +1,5 @@
 -- What a call through the door makes of the device without blocks, the door and the bytes.
-use Rattle.std.specs.Prelude.{ℕ, ◌==◌, nat_lt, if◌then◌else◌, List, [], ◌∷◌, ◌++◌, length, drop, Option, None, Some, unwrap_or, Result, Ok, Err}
+use Rattle.std.specs.Prelude.{ℕ, ◌+◌, ◌==◌, nat_lt, if◌then◌else◌, List, [], ◌∷◌, ◌++◌, length, drop, Option, None, Some, unwrap_or, Result, Ok, Err}
 use Rattle.c_common.specs.Bytes.{yes}
 use Rattle.c_common.specs.Door.{After, DoorAfter, numbered, refused, with_bytes}
 use Rattle.c_common.specs.declared.faults.TheConstants.{TASKS_CALL, TASKS_LENGTH, TASKS_NOT_OUT, TASKS_OVERLAP, TASKS_PHASE, TASKS_PLACE}
@@ -43,6 +43,13 @@ with_request door (requests.Write unit block count through) =
 with_request door (requests.Compare unit block count) = record door { kind = 3; through = 0; unit = unit; block = block; count = count }
 with_request door (requests.Verify unit block count) = record door { kind = 4; through = 0; unit = unit; block = block; count = count }
 with_request door (requests.Sync unit block count) = record door { kind = 5; through = 0; unit = unit; block = block; count = count }
+with_request door (requests.Zero unit block count through) =
+    record door { kind = 6; through = yes through; unit = unit; block = block; count = count }
+with_request door (requests.Discard unit block count through) =
+    record door { kind = 7; through = yes through; unit = unit; block = block; count = count }
+with_request door (requests.WriteSame unit block count through) =
+    record door { kind = 2; through = 2 + yes through; unit = unit; block = block; count = count }
+with_request door (requests.Status unit block count) = record door { kind = 9; through = 0; unit = unit; block = block; count = count }
 
 -- NEXT (2): what the device does next on the door's tag; a request is out from then on
 abbrev pub with_next : UasTasksDoor → Next → UasTasksDoor
@@ -92,7 +99,7 @@ answer_told door (after, Err WrongPlace) = refused TASKS_PLACE after door
 answer_told door (after, Err WrongLength) = refused TASKS_LENGTH after door
 
 abbrev pub after_answer : Machine → UasTasksDoor → List ℕ → DoorAfter Machine UasTasksDoor
-after_answer machine door bytes = by (outcome_told door.outcome (door.good == 1) door.block (length bytes))
+after_answer machine door bytes = by (outcome_told door.outcome (door.good == 1) door.block (length bytes) (door.through == 1) door.count)
   where
     by : Option Outcome → DoorAfter Machine UasTasksDoor
     by None = refused TASKS_CALL machine door

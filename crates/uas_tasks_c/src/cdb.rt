@@ -232,30 +232,46 @@ fn unit_asked(unit: &UasTasksUnit) -> Result<LogicalUnitShape, u8>
 fn record_of(work: &Work) -> UasTasksWork
     ensures { result ≡ work_record work.now }
 {
-    let (kind, lba, count, allocation, through) = match *work {
-        Work::Nothing => (0, 0, 0, 0, false),
-        Work::Gives { allocation, .. } => (1, 0, 0, allocation, false),
-        Work::Reads { lba, count } => (2, lba, count, 0, false),
+    let (kind, lba, count, allocation, flags) = match *work {
+        Work::Nothing => (0, 0, 0, 0, 0),
+        Work::Gives { allocation, .. } => (1, 0, 0, allocation, 0),
+        Work::Reads { lba, count } => (2, lba, count, 0, 0),
         Work::Writes {
             lba,
             count,
             through,
-        } => (3, lba, count, 0, through),
-        Work::Synchronizes { lba, count } => (4, lba, count, 0, false),
-        Work::Verifies { lba, count } => (5, lba, count, 0, false),
-        Work::Compares { lba, count } => (6, lba, count, 0, false),
+        } => (3, lba, count, 0, u8::from(through)),
+        Work::Synchronizes { lba, count } => (4, lba, count, 0, 0),
+        Work::Verifies { lba, count } => (5, lba, count, 0, 0),
+        Work::Compares { lba, count } => (6, lba, count, 0, 0),
         Work::WritesAndVerifies {
             lba,
             count,
             compares,
-        } => (if compares { 8 } else { 7 }, lba, count, 0, true),
+        } => (if compares { 8 } else { 7 }, lba, count, 0, 1),
+        Work::Unmaps { list, through } => (9, 0, 0, u32::from(list), u8::from(through)),
+        Work::WritesSame {
+            lba,
+            count,
+            takes,
+            unmaps,
+            through,
+        } => {
+            let flags = u8::from(through) + 2 * u8::from(unmaps);
+            (if takes { 10 } else { 11 }, lba, count, 0, flags)
+        }
+        Work::TellsStatus {
+            lba,
+            count,
+            allocation,
+        } => (12, lba, count, allocation, 0),
     };
     UasTasksWork {
         lba,
         count,
         allocation,
         kind,
-        through: u8::from(through),
+        through: flags,
         reserved: 0,
         reserved_too: 0,
     }

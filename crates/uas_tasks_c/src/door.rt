@@ -166,20 +166,39 @@ fn tell_next(door: &mut UasTasksDoor, next: &Next)
 fn tell_request(door: &mut UasTasksDoor, request: &Request)
     ensures { door.new ≡ with_request door.old request.now }
 {
-    let (kind, asked_of, first, many, goes_through) = match *request {
-        Request::Read { unit, block, count } => (1, unit, block, count, false),
+    let (kind, asked_of, first, many, flags) = match *request {
+        Request::Read { unit, block, count } => (1, unit, block, count, 0),
         Request::Write {
             unit,
             block,
             count,
             through,
-        } => (2, unit, block, count, through),
-        Request::Compare { unit, block, count } => (3, unit, block, count, false),
-        Request::Verify { unit, block, count } => (4, unit, block, count, false),
-        Request::Sync { unit, block, count } => (5, unit, block, count, false),
+        } => (2, unit, block, count, u8::from(through)),
+        Request::Compare { unit, block, count } => (3, unit, block, count, 0),
+        Request::Verify { unit, block, count } => (4, unit, block, count, 0),
+        Request::Sync { unit, block, count } => (5, unit, block, count, 0),
+        Request::Zero {
+            unit,
+            block,
+            count,
+            through,
+        } => (6, unit, block, count, u8::from(through)),
+        Request::Discard {
+            unit,
+            block,
+            count,
+            through,
+        } => (7, unit, block, count, u8::from(through)),
+        Request::WriteSame {
+            unit,
+            block,
+            count,
+            through,
+        } => (2, unit, block, count, 2 + u8::from(through)),
+        Request::Status { unit, block, count } => (9, unit, block, count, 0),
     };
     door.kind = kind;
-    door.through = u8::from(goes_through);
+    door.through = flags;
     door.unit = asked_of as u64;
     door.block = first;
     door.count = many;
@@ -228,7 +247,14 @@ fn show_data(tasks: &Tasks, door: &UasTasksDoor, bytes: &mut [u8]) -> u8
 fn answer(tasks: &mut Tasks, door: &UasTasksDoor, bytes: &[u8]) -> u8
     ensures { (result, (tasks.new, door.now)) ≡ after_answer tasks.old door.now bytes.now }
 {
-    let told = outcome_told(door.outcome, door.good == 1, door.block, bytes.len());
+    let told = outcome_told(
+        door.outcome,
+        door.good == 1,
+        door.block,
+        bytes.len(),
+        door.through == 1,
+        door.count,
+    );
     let Some(outcome) = told else {
         return TASKS_CALL;
     };

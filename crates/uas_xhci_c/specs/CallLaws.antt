@@ -15,7 +15,7 @@ use Rattle.uas_tasks.specs.declared.AnswerFault.TheVariants.{NotOut, NoSuchOutco
 use Rattle.uas_tasks.specs.declared.Next.{Next}
 use Rattle.uas_tasks.specs.declared.Next.TheVariants.{Absent, Asks, Waits, Gives, Takes, Ends}
 use Rattle.uas_tasks.specs.declared.Request.{Request}
-use Rattle.uas_tasks.specs.declared.Request.TheVariants.{Read, Write, Compare, Verify, Sync}
+use Rattle.uas_tasks.specs.declared.Request.TheVariants.{Read, Write, Compare, Verify, Sync, Zero, Discard, WriteSame, Status as AsksStatus}
 use Rattle.uas_tasks.specs.declared.slot.Out.{Out}
 use Rattle.uas_tasks.specs.declared.Task.{Task}
 use Rattle.uas_tasks.specs.declared.Task.TheVariants.{Giving, Blocks, Ended, Failed, Held}
@@ -145,6 +145,10 @@ module _ (door : UasXhciDoor) where
   good_request number (Compare unit block count) = refl
   good_request number (Verify unit block count) = refl
   good_request number (Sync unit block count) = refl
+  good_request number (Zero unit block count through) = refl
+  good_request number (Discard unit block count through) = refl
+  good_request number (WriteSame unit block count through) = refl
+  good_request number (AsksStatus unit block count) = refl
 
   good_out : (number : ℕ) (out : Option Out) → is_some out ≡ true
       → (with_next door (Some (option_map_or (λ out. Asks number out.request) out Waits))).good ≡ 1
@@ -169,6 +173,10 @@ module _ (door : UasXhciDoor) where
   same_good true (Asks number (Compare unit block count)) = refl
   same_good true (Asks number (Verify unit block count)) = refl
   same_good true (Asks number (Sync unit block count)) = refl
+  same_good true (Asks number (Zero unit block count through)) = refl
+  same_good true (Asks number (Discard unit block count through)) = refl
+  same_good true (Asks number (WriteSame unit block count through)) = refl
+  same_good true (Asks number (AsksStatus unit block count)) = refl
   same_good true Waits = refl
   same_good true (Gives count) = refl
   same_good true (Takes count) = refl

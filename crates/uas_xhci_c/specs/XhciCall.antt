@@ -1,5 +1,5 @@
 -- What a call through the door makes of the controller, the door and the bytes.
-use Rattle.std.specs.Prelude.{ℕ, ◌%◌, ◌==◌, nat_lt, not, if◌then◌else◌, List, [], ◌∷◌, length, Option, None, Some, unwrap_or, Result, Ok, Err}
+use Rattle.std.specs.Prelude.{ℕ, ◌+◌, ◌%◌, ◌==◌, nat_lt, not, if◌then◌else◌, List, [], ◌∷◌, length, Option, None, Some, unwrap_or, Result, Ok, Err}
 use Rattle.std.specs.List.{find, range_with_len}
 use Rattle.std.specs.Option.{option_map_or}
 use Rattle.c_common.specs.Bytes.{yes}
@@ -102,6 +102,13 @@ with_request door (requests.Write unit block count through) =
 with_request door (requests.Compare unit block count) = record door { kind = 3; through = 0; unit = unit; block = block; count = count }
 with_request door (requests.Verify unit block count) = record door { kind = 4; through = 0; unit = unit; block = block; count = count }
 with_request door (requests.Sync unit block count) = record door { kind = 5; through = 0; unit = unit; block = block; count = count }
+with_request door (requests.Zero unit block count through) =
+    record door { kind = 6; through = yes through; unit = unit; block = block; count = count }
+with_request door (requests.Discard unit block count through) =
+    record door { kind = 7; through = yes through; unit = unit; block = block; count = count }
+with_request door (requests.WriteSame unit block count through) =
+    record door { kind = 2; through = 2 + yes through; unit = unit; block = block; count = count }
+with_request door (requests.Status unit block count) = record door { kind = 9; through = 0; unit = unit; block = block; count = count }
 
 abbrev pub with_next : UasXhciDoor → Option Next → UasXhciDoor
 with_next door (Some (nexts.Asks number request)) = with_request (record door { good = 1; number = number }) request
@@ -134,7 +141,8 @@ answered_with machine door bytes outcome = answer_told machine door (answered ma
 
 abbrev pub after_answer : Machine → UasXhciDoor → List ℕ → DoorAfter Machine UasXhciDoor
 after_answer machine door bytes =
-    option_map_or (answered_with machine door bytes) (outcome_told door.outcome (door.good == 1) door.block (length bytes)) (refused TASKS_CALL machine door)
+    option_map_or (answered_with machine door bytes) (outcome_told door.outcome (door.good == 1) door.block (length bytes) (door.through == 1) door.count)
+    (refused TASKS_CALL machine door)
 
 -- STALE (11): the number of the next stale request, or 0
 abbrev pub after_stale : Machine → UasXhciDoor → DoorAfter Machine UasXhciDoor

@@ -8,7 +8,7 @@ use Rattle.host_commands.specs.Shapes.{block_bytes}
 use Rattle.uas_tasks.specs.declared.Outcome.{Outcome}
 use Rattle.uas_tasks.specs.declared.Outcome.TheVariants.{Done, Differs, MediumError}
 use Rattle.uas_tasks.specs.declared.Request.{Request}
-use Rattle.uas_tasks.specs.declared.Request.TheVariants.{Read, Write, Compare, Verify, Sync}
+use Rattle.uas_tasks.specs.declared.Request.TheVariants.{Read, Write, Compare, Verify, Sync, Zero, Discard, WriteSame, Status}
 use Rattle.usb_serve.specs.declared.fault.UsbFault.{UsbFault}
 use Rattle.usb_serve.specs.declared.fault.UsbFault.TheVariants.{File}
 use Rattle.usb_serve.specs.declared.files.Span.{Span}
@@ -145,7 +145,7 @@ pub record IsSynced (old new : Filed) (outcome : Outcome) : Type 0 where
 abbrev pub Synced : (old new : Filed) → Outcome → Type 0
 Synced old new outcome = IsSynced old new outcome ⊎ IsUnsynced old new outcome
 
--- by the request, in a file of so many bytes
+-- by the request, in a file of so many bytes; the device asks none of those of the disk set, and none of them is done
 abbrev pub ServedIn : ℕ → Request → (old new : Filed) → List ℕ → Outcome → List ℕ → Type 0
 ServedIn size (Read unit block count) old new brought outcome given =
     ReadAt (span_of size (block_bytes old.block_length) block count) old new outcome given
@@ -155,6 +155,10 @@ ServedIn size (Compare unit block count) old new brought outcome given =
     (given ≡ []) × ComparedAt (whole_span (length brought) (span_of size (block_bytes old.block_length) block count)) old new brought outcome
 ServedIn size (Verify unit block count) old new brought outcome given = (given ≡ []) × (outcome ≡ Done) × (new ≡ old)
 ServedIn size (Sync unit block count) old new brought outcome given = (given ≡ []) × Synced old new outcome
+ServedIn size (Zero unit block count through) old new brought outcome given = (given ≡ []) × IsUndone old new outcome
+ServedIn size (Discard unit block count through) old new brought outcome given = (given ≡ []) × IsUndone old new outcome
+ServedIn size (WriteSame unit block count through) old new brought outcome given = (given ≡ []) × IsUndone old new outcome
+ServedIn size (Status unit block count) old new brought outcome given = (given ≡ []) × IsUndone old new outcome
 
 -- A request that brought these bytes was done on a file, with this outcome, and gave these bytes.
 pub record IsServed (request : Request) (old new : Filed) (brought : List ℕ) (outcome : Outcome) (given : List ℕ) : Type 0 where
@@ -172,6 +176,10 @@ unit_of (Write unit block count through) = unit
 unit_of (Compare unit block count) = unit
 unit_of (Verify unit block count) = unit
 unit_of (Sync unit block count) = unit
+unit_of (Zero unit block count through) = unit
+unit_of (Discard unit block count through) = unit
+unit_of (WriteSame unit block count through) = unit
+unit_of (Status unit block count) = unit
 
 -- it was done on the file of its logical unit, and the others are as they were
 pub record IsServedOn (request : Request) (old new : List Filed) (brought : List ℕ) (outcome : Outcome) (given : List ℕ) : Type 0 where

@@ -105,7 +105,11 @@ fn unit_of(request: &Request) -> usize
         | Request::Write { unit, .. }
         | Request::Compare { unit, .. }
         | Request::Verify { unit, .. }
-        | Request::Sync { unit, .. } => *unit,
+        | Request::Sync { unit, .. }
+        | Request::Zero { unit, .. }
+        | Request::Discard { unit, .. }
+        | Request::WriteSame { unit, .. }
+        | Request::Status { unit, .. } => *unit,
     }
 }
 
@@ -143,6 +147,11 @@ fn do_request<B: Blocks>(
         }
         Request::Verify { .. } => without_bytes(Outcome::Done),
         Request::Sync { .. } => without_bytes(sync(unit)),
+        // The command set is that of hosts, which asks none of these.
+        Request::Zero { .. }
+        | Request::Discard { .. }
+        | Request::WriteSame { .. }
+        | Request::Status { .. } => without_bytes(Outcome::MediumError),
     }
 }
 

@@ -5,8 +5,9 @@ use Rattle.host_commands.specs.Shapes.{Shape}
 use Rattle.uas_profile.specs.declared.Pipe.{Pipe}
 use Rattle.uas_tasks.specs.declared.AnswerFault.{AnswerFault}
 use Rattle.uas_tasks.specs.declared.Outcome.{Outcome}
-use Rattle.uas_tasks.specs.declared.Outcome.TheVariants.{Done, Differs, MediumError, NotReady, DiffersAt, MediumErrorAt, NoSpace, WriteProtected, Aborted, Busy}
+use Rattle.uas_tasks.specs.declared.Outcome.TheVariants.{Done, Differs, MediumError, NotReady, DiffersAt, MediumErrorAt, NoSpace, WriteProtected, Aborted, Busy, Mapped}
 use Rattle.uas_tasks.specs.Machine.{answered as answered_tasks, greatest_block, opening as opening_tasks, passed, passing, powered_machine, quiet}
+use Rattle.uas_tasks.specs.Slots.{chunk_room}
 use Rattle.usb_disk.specs.declared.UsbStrings.{UsbStrings}
 use Rattle.usb_disk.specs.Answers.{reset_with}
 use Rattle.usb_disk.specs.Descriptors.{address_of}
@@ -35,7 +36,7 @@ use Rattle.usb_tags.specs.Serving.{overlapped, served}
 abbrev pub opening : List Shape → CommandSet → UsbStrings → ℕ → UsbTags
 opening shapes set strings chunk = record {
   disk = reset_with strings;
-  tasks = powered_machine (opening_tasks (map quiet shapes) set chunk (chunk * greatest_block (map quiet shapes)));
+  tasks = powered_machine (opening_tasks (map quiet shapes) set chunk (chunk_room chunk (greatest_block (map quiet shapes))));
   places = fresh_places;
   sending = SentAll;
   rest = NoRest;
@@ -116,6 +117,7 @@ is_done NoSpace = false
 is_done WriteProtected = false
 is_done Aborted = false
 is_done Busy = false
+is_done (Mapped mapped count) = false
 
 -- Whether the bytes of a request go straight into the held data-in of its tag: it is a Read that is done, its task waits for them, and there
 -- is room for all of them.

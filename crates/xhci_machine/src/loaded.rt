@@ -2,6 +2,7 @@
 ghost use Rattle.std.specs.Prelude.{◌≡◌, ◌*◌, ◌-◌, ◌≤◌, Err, IfErr, IfOk, None, Some, length, map, vec_len};
 ghost use Rattle.uas_profile.specs.declared.TheConstants.{MAX_UNITS};
 ghost use Rattle.uas_tasks.specs.Machine.{Machine, greatest_block, opening, quiet};
+ghost use Rattle.uas_tasks.specs.Slots.{chunk_room};
 ghost use Rattle.controller_bytes.specs.Tags.{slots_form};
 ghost use Rattle.device_bytes.specs.Devices.{device_loaded};
 ghost use Rattle.guest_transfers.specs.State.{empty_slot};
@@ -180,9 +181,9 @@ impl Machine {
         requires some { 1 ≤ chunk }
         requires most { chunk ≤ 128 }
         ensures loaded { IfOk result (λ machine. IsLoaded
-            (load_of (opening (map quiet units.now) set chunk (chunk * greatest_block (map quiet units.now))) bytes.now) machine) }
+            (load_of (opening (map quiet units.now) set chunk (chunk_room chunk (greatest_block (map quiet units.now)))) bytes.now) machine) }
         ensures refused { IfErr result (λ fault. IsRefused
-            (load_of (opening (map quiet units.now) set chunk (chunk * greatest_block (map quiet units.now))) bytes.now) fault) }
+            (load_of (opening (map quiet units.now) set chunk (chunk_room chunk (greatest_block (map quiet units.now)))) bytes.now) fault) }
     {
         let text = match opened(bytes) {
             Ok(text) => text,

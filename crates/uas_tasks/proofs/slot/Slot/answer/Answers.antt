@@ -9,10 +9,10 @@ invariant_of-self c =
     record {
       some = sound.some;
       most = sound.most;
-      task = rw c.after_answer-self-inside.ensures
-          (after_answer-sound c.args.outcome slot.chunk (length slot.given.items) slot.task sound.some sound.task);
-      fits = rw (c.after_answer-self-inside.ensures, c.fill.ensures.len)
-          (after_answer-fits c.args.outcome slot.chunk (length slot.given.items) (length slot.buffer) slot.task sound.some sound.task sound.fits);
+      task = rw (c.after_answer-task.ensures, c.give_told.ensures)
+          (after_answer-sound c.args.outcome slot.chunk slot.given.items slot.buffer slot.task sound.some sound.task);
+      fits = rw (c.after_answer-task.ensures, c.fill.ensures.len)
+          (after_answer-fits c.args.outcome slot.chunk (length slot.given.items) (length slot.buffer) slot.buffer slot.task sound.some sound.task sound.fits);
       out = tt;
-      given = sound.given;
+      given = c.give_told.new.given.ok.1;
     }

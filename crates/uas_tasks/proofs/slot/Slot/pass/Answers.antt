@@ -10,7 +10,7 @@ set_done-requires-clause-sound c =
     let slot = c.self.inside in
     let sound = c.self.invariant in
     subst (λ (s : SlotState). IfSome c.after_answer-done.result (IsSoundTask s.chunk (length s.given))) c.self.view_is
-    (rw c.after_answer-done.ensures (after_answer-sound Done slot.chunk (length slot.given.items) slot.task sound.some sound.task))
+    (rw c.after_answer-done.ensures (after_answer-sound Done slot.chunk slot.given.items slot.buffer slot.task sound.some sound.task))
 
 pub set_done-requires-clause-fits : goal.set_done-requires-clause-fits
 set_done-requires-clause-fits c =
@@ -18,7 +18,7 @@ set_done-requires-clause-fits c =
     let sound = c.self.invariant in
     subst (λ (s : SlotState). IfSome c.after_answer-done.result (FitsRoom s.chunk (length s.bytes))) c.self.view_is
     (rw c.after_answer-done.ensures
-    (after_answer-fits Done slot.chunk (length slot.given.items) (length slot.buffer) slot.task sound.some sound.task sound.fits))
+    (after_answer-fits Done slot.chunk (length slot.given.items) (length slot.buffer) slot.buffer slot.task sound.some sound.task sound.fits))
 
 pub invariant_of-self : goal.invariant_of-self
 invariant_of-self c =

@@ -4,7 +4,6 @@ use Rattle.scsi_cmd.specs.Fields.{zeros}
 use Rattle.disk_units.specs.declared.designators.Naa.{Naa}
 use Rattle.disk_units.specs.declared.designators.Uuid.{Uuid}
 use Rattle.disk_units.specs.declared.names.UnitNames.{UnitNames}
-use Rattle.disk_units.specs.declared.pages.BlockLimits.{BlockLimits}
 use Rattle.disk_units.specs.declared.pages.DiskPage.TheVariants.{DeviceIdentification, BlockLimits as LimitsPage, Characteristics, Provisioning}
 use Rattle.disk_units.specs.declared.serial.SerialText.{SerialText}
 use Rattle.disk_units.specs.declared.unit.DiskUnit.{DiskUnit}
@@ -12,7 +11,7 @@ use Rattle.disk_units.specs.declared.unit.FormFactor.TheVariants.{ThreeInches}
 use Rattle.disk_units.specs.Data.{designators, disk_bytes, disk_page_bytes, inquiry_data, limits_bytes, long_capacity_data}
 use Rattle.disk_units.specs.Designators.{naa_of}
 use Rattle.disk_units.specs.Names.{serial_of}
-use Rattle.disk_units.specs.Pages.{disk_page, identification_of, long_capacity, standard_inquiry}
+use Rattle.disk_units.specs.Pages.{disk_page, identification_of, limits_of, long_capacity, standard_inquiry}
 use Rattle.disk_units.specs.Units.{usual_unit}
 
 names : UnitNames
@@ -50,19 +49,18 @@ disk = record usual_unit {
   uuid = Some uuid;
 }
 
--- B0h of a disk with UNMAP, COMPARE AND WRITE of 64 blocks and WRITE SAME
-limits : disk_page_bytes (LimitsPage (record {
-  no_zero = true;
-  compared = 64;
-  granularity = 8;
-  maximum = 2048;
-  unmapped = Some (record { blocks = 1048576; descriptors = 32; granularity = 8 });
-  same = 65528;
-})) true
-    ≡ (0 ∷ 0xb0 ∷ 0 ∷ 0x3c ∷ 1 ∷ 0x40 ∷ 0 ∷ 8 ∷ 0 ∷ 0 ∷ 8 ∷ 0 ∷ 0 ∷ 0 ∷ 8 ∷ 0 ∷ 0 ∷ 0 ∷ 0 ∷ 0 ∷ 0 ∷ 0x10 ∷ 0 ∷ 0 ∷ [])
+-- B0h of a thin one: a WRITE SAME of 65,528 blocks, an UNMAP of 32 descriptors and 1,048,576 blocks
+limits : disk_page_bytes (LimitsPage (limits_of (record disk { thin = true }) 512)) true
+    ≡ (0 ∷ 0xb0 ∷ 0 ∷ 0x3c ∷ 1 ∷ 0 ∷ 0 ∷ 8 ∷ 0 ∷ 0 ∷ 8 ∷ 0 ∷ 0 ∷ 0 ∷ 8 ∷ 0 ∷ 0 ∷ 0 ∷ 0 ∷ 0 ∷ 0 ∷ 0x10 ∷ 0 ∷ 0 ∷ [])
     ++ (0 ∷ 0 ∷ 0 ∷ 0x20 ∷ 0 ∷ 0 ∷ 0 ∷ 8 ∷ 0x80 ∷ 0 ∷ 0 ∷ 0 ∷ 0 ∷ 0 ∷ 0 ∷ 0 ∷ 0 ∷ 0 ∷ 0xff ∷ 0xf8 ∷ []) ++ zeros 20
-unfolding disk_page_bytes limits_bytes
+unfolding disk_page_bytes limits_bytes disk serial naa uuid
 limits = refl
+
+-- and of one of blocks of 4,096 bytes, which isn't
+thick_limits : disk_page_bytes (LimitsPage (limits_of usual_unit 4096)) true
+    ≡ (0 ∷ 0xb0 ∷ 0 ∷ 0x3c ∷ 1 ∷ 0 ∷ 0 ∷ 1 ∷ 0 ∷ 0 ∷ 0 ∷ 0x80 ∷ 0 ∷ 0 ∷ 0 ∷ 0x80 ∷ []) ++ zeros 26 ++ (0xff ∷ 0xf8 ∷ []) ++ zeros 20
+unfolding disk_page_bytes limits_bytes
+thick_limits = refl
 
 -- B1h of 7,200 rounds and 3.5 inches; B2h of a thin one
 characteristics : disk_page_bytes (Characteristics 7200 ThreeInches) true ≡ (0 ∷ 0xb1 ∷ 0 ∷ 0x3c ∷ 0x1c ∷ 0x20 ∷ 0 ∷ 2 ∷ []) ++ zeros 56

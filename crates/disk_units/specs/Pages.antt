@@ -1,5 +1,5 @@
 -- Which data tell of a logical unit (SPC, SBC).
-use Rattle.std.specs.Prelude.{ℕ, ◌==◌, Bool, false, if◌then◌else◌, Option, Some, None}
+use Rattle.std.specs.Prelude.{ℕ, ◌==◌, Bool, true, if◌then◌else◌, Option, Some, None}
 use Rattle.disk_units.specs.declared.names.UnitNames.{UnitNames}
 use Rattle.disk_units.specs.declared.pages.BlockLimits.{BlockLimits}
 use Rattle.disk_units.specs.declared.pages.DiskData.{DiskData}
@@ -12,7 +12,8 @@ use Rattle.disk_units.specs.declared.pages.UnitSerial.{UnitSerial}
 use Rattle.disk_units.specs.declared.pages.UnitSerial.TheVariants.{Number, Text}
 use Rattle.disk_units.specs.declared.serial.SerialText.{SerialText}
 use Rattle.disk_units.specs.declared.unit.DiskUnit.{DiskUnit}
-use Rattle.disk_units.specs.Units.{blocks_in_piece, physical_exponent}
+use Rattle.disk_units.specs.declared.pages.UnmapLimits.{UnmapLimits}
+use Rattle.disk_units.specs.Units.{blocks_in_piece, discard_told, physical_exponent}
 
 -- the user's serial number, or the number that the logical unit has in its device
 abbrev pub serial_or : Option SerialText → ℕ → UnitSerial
@@ -26,15 +27,20 @@ abbrev pub identification_of : DiskUnit → UnitNames → ℕ → Identification
 identification_of unit names number =
     record { names = names; serial = serial_told unit number; naa = unit.naa; eui = unit.eui; uuid = unit.uuid }
 
--- The limits of the commands that there are: no WRITE SAME, COMPARE AND WRITE or UNMAP yet. A transfer is best in pieces of 4,096 bytes.
+-- what UNMAP takes, where blocks can be given back
+abbrev pub unmap_limits_of : DiskUnit → ℕ → Option UnmapLimits
+unmap_limits_of unit block_bytes =
+    if unit.thin then Some (record { blocks = 1048576; descriptors = 32; granularity = discard_told unit block_bytes }) else None
+
+-- The limits of the commands that there are: no COMPARE AND WRITE yet. A transfer is best in pieces of 4,096 bytes.
 abbrev pub limits_of : DiskUnit → ℕ → BlockLimits
 limits_of unit block_bytes = record {
-  no_zero = false;
+  no_zero = true;
   compared = 0;
   granularity = blocks_in_piece block_bytes;
   maximum = unit.most;
-  unmapped = None;
-  same = 0;
+  unmapped = unmap_limits_of unit block_bytes;
+  same = 65528;
 }
 
 -- the page of a page code

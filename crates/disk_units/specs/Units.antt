@@ -1,7 +1,7 @@
 -- What a user says of a logical unit beside its blocks, and what can't be said.
 use Rattle.std.specs.Prelude.{ℕ, ◌*◌, ◌/◌, ◌%◌, ◌==◌, nat_le, Bool, false, not, ◌&&◌, ◌||◌, if◌then◌else◌, Option, None, Some, Result, Ok, Err}
 use Rattle.disk_units.specs.declared.DiskFault.{DiskFault}
-use Rattle.disk_units.specs.declared.DiskFault.TheVariants.{Thin, Removable, Quiet, PhysicalBytes, Most, DiscardBlocks, Rotation as RotationFault, Form}
+use Rattle.disk_units.specs.declared.DiskFault.TheVariants.{Removable, Quiet, PhysicalBytes, Most, DiscardBlocks, Rotation as RotationFault, Form}
 use Rattle.disk_units.specs.declared.unit.DiskUnit.{DiskUnit}
 use Rattle.disk_units.specs.declared.unit.FormFactor.{FormFactor}
 use Rattle.disk_units.specs.declared.unit.FormFactor.TheVariants.{NotReported, FiveInches, ThreeInches, TwoInches, OneInch, Smaller}
@@ -61,19 +61,22 @@ has_physical_bytes physical block_bytes = physical == 0 || (physical == block_by
 abbrev pub has_discard_blocks : ℕ → ℕ → Bool
 has_discard_blocks blocks block_bytes = blocks * block_bytes % 4096 == 0 && nat_le blocks 65536
 
--- the first fault of what is said of a logical unit: the first three aren't served yet
+-- the first fault of what is said of a logical unit: the first two aren't served yet
 abbrev pub disk_fault : DiskUnit → ℕ → Option DiskFault
 disk_fault unit block_bytes =
-    if unit.thin then Some Thin
-    else (if unit.removable then Some Removable
+    if unit.removable then Some Removable
     else (if unit.quiet then Some Quiet
     else (if not (has_physical_bytes unit.physical_bytes block_bytes) then Some PhysicalBytes
     else (if not (has_discard_blocks unit.discard_blocks block_bytes) then Some DiscardBlocks
-    else None))))
+    else None)))
 
 -- how many blocks are 4,096 bytes
 abbrev pub blocks_in_piece : ℕ → ℕ
 blocks_in_piece block_bytes = 4096 / block_bytes
+
+-- how many blocks are given back at once, 4,096 bytes where nothing is said
+abbrev pub discard_told : DiskUnit → ℕ → ℕ
+discard_told unit block_bytes = if unit.discard_blocks == 0 then blocks_in_piece block_bytes else unit.discard_blocks
 
 -- a block of the medium has so many blocks, as a power of two (READ CAPACITY(16)): 3 for 4,096 bytes over 512
 abbrev pub physical_exponent : DiskUnit → ℕ → ℕ

@@ -13,7 +13,7 @@
 //! | standard INQUIRY | names, and the standards that are kept |
 //! | pages 00h, 80h, 83h | the list of pages, the serial number, names of the whole world |
 //! | page 86h | which task attributes there are: SIMPLE |
-//! | page B0h | how many blocks a command moves |
+//! | page B0h | how many blocks a command moves, and gives back |
 //! | pages B1h, B2h | how the medium turns, whether blocks can be given back |
 //! | READ CAPACITY(16) | the last block, and how long the blocks of the medium are |
 //!
@@ -50,8 +50,6 @@ pub use writer::write_disk_data;
 /// Why something can't be said of a logical unit: the first of these that holds.
 #[derive(Clone, Copy, Debug, PartialEq, Eq, Error)]
 pub enum DiskFault {
-    #[error("blocks can't be given back")]
-    Thin,
     #[error("the medium can't be taken out")]
     Removable,
     #[error("a change of it is told")]

@@ -1,13 +1,22 @@
 //! Which data tell of a logical unit: standard INQUIRY data, vital product data, READ CAPACITY(16).
 ghost use Rattle.std.specs.Prelude.{◌≡◌, ◌≤◌};
-ghost use Rattle.disk_units.specs.Pages.{disk_page, identification_of, limits_of, long_capacity, serial_told, standard_inquiry};
-ghost use Rattle.disk_units.specs.Units.{blocks_in_piece, physical_exponent};
+ghost use Rattle.disk_units.specs.Pages.{disk_page, identification_of, limits_of, long_capacity, serial_told, standard_inquiry, unmap_limits_of};
+ghost use Rattle.disk_units.specs.Units.{blocks_in_piece, discard_told, physical_exponent};
 
 use crate::PIECE_BYTES;
 use crate::designators::{Eui, Naa, Uuid};
 use crate::names::UnitNames;
 use crate::serial::SerialText;
 use crate::unit::{DiskUnit, FormFactor, Rotation, TransferLength};
+
+/// The most blocks of a WRITE SAME.
+const MOST_SAME_BLOCKS: u64 = 65_528;
+
+/// The most blocks of all descriptors of an UNMAP.
+const MOST_UNMAPPED: u32 = 1_048_576;
+
+/// The most descriptors of an UNMAP.
+const MOST_DESCRIPTORS: u32 = 32;
 
 /// A serial number: the user's, or the number that the logical unit has in its device, in eight digits.
 #[derive(Clone, Copy, Debug, PartialEq, Eq)]
@@ -144,12 +153,37 @@ fn limits_of(unit: &DiskUnit, block_bytes: u16) -> BlockLimits
     ensures { result ≡ limits_of unit.now block_bytes }
 {
     BlockLimits {
-        no_zero: false,
+        no_zero: true,
         compared: 0,
         granularity: PIECE_BYTES / block_bytes,
         maximum: unit.most,
-        unmapped: None,
-        same: 0,
+        unmapped: unmap_limits_of(unit, block_bytes),
+        same: MOST_SAME_BLOCKS,
+    }
+}
+
+fn unmap_limits_of(unit: &DiskUnit, block_bytes: u16) -> Option<UnmapLimits>
+    requires { 512 ≤ block_bytes }
+    ensures { result ≡ unmap_limits_of unit.now block_bytes }
+{
+    if !unit.thin {
+        return None;
+    }
+    Some(UnmapLimits {
+        blocks: MOST_UNMAPPED,
+        descriptors: MOST_DESCRIPTORS,
+        granularity: discard_told(unit, block_bytes),
+    })
+}
+
+fn discard_told(unit: &DiskUnit, block_bytes: u16) -> u32
+    requires { 512 ≤ block_bytes }
+    ensures { result ≡ discard_told unit.now block_bytes }
+{
+    if unit.discard_blocks == 0 {
+        u32::from(PIECE_BYTES / block_bytes)
+    } else {
+        unit.discard_blocks
     }
 }
 

@@ -188,9 +188,7 @@ impl DiskUnit {
         requires { 512 ≤ block_bytes }
         ensures { result ≡ disk_fault self.now block_bytes }
     {
-        if self.thin {
-            Some(DiskFault::Thin)
-        } else if self.removable {
+        if self.removable {
             Some(DiskFault::Removable)
         } else if self.quiet {
             Some(DiskFault::Quiet)

@@ -14,8 +14,8 @@ use Rattle.disk_units.specs.Names.{usual_names}
 use Rattle.disk_units.specs.Pages.{disk_page, long_capacity, standard_inquiry}
 use Rattle.disk_units.specs.Units.{usual_unit}
 use Rattle.host_commands.specs.declared.Data.TheVariants.{Disk as DiskSet}
-use Rattle.host_commands.specs.declared.DiskCommand.{DiskCommand}
-use Rattle.host_commands.specs.declared.DiskCommand.TheVariants.{Host as HostOne, SendDiagnostic, PreFetch10, PreFetch16, WriteAndVerify10, WriteAndVerify12, WriteAndVerify16}
+use Rattle.host_commands.specs.declared.disk_commands.DiskCommand.{DiskCommand}
+use Rattle.host_commands.specs.declared.disk_commands.DiskCommand.TheVariants.{Host as HostOne, SendDiagnostic, PreFetch10, PreFetch16, WriteAndVerify10, WriteAndVerify12, WriteAndVerify16}
 use Rattle.host_commands.specs.declared.HostCommand.{HostCommand}
 use Rattle.host_commands.specs.declared.HostCommand.TheVariants.{TestUnitReady, RequestSense, Read6, Write6, Inquiry, ModeSense6, StartStopUnit, ReadCapacity10}
 use Rattle.host_commands.specs.declared.HostCommand.TheVariants.{Read10, Write10, Verify10, SynchronizeCache10, ModeSense10, Read16, Write16, Verify16}

@@ -23,8 +23,8 @@ use Rattle.host_commands.specs.declared.VitalPage.{VitalPage}
 use Rattle.host_commands.specs.declared.Work.{Work}
 use Rattle.host_commands.specs.declared.Work.TheVariants.{Nothing, Gives, Reads, Writes, Synchronizes, Verifies, Compares, WritesAndVerifies}
 use Rattle.host_commands.specs.declared.Data.TheVariants.{LogicalUnits, OperationCodes, OperationCode, DiskOperationCodes, DiskOperationCode, TaskManagementFunctions}
-use Rattle.host_commands.specs.declared.DiskCommand.{DiskCommand}
-use Rattle.host_commands.specs.declared.DiskCommand.TheVariants.{Host as HostOne, SendDiagnostic, PreFetch10, PreFetch16, WriteAndVerify10, WriteAndVerify12, WriteAndVerify16}
+use Rattle.host_commands.specs.declared.disk_commands.DiskCommand.{DiskCommand}
+use Rattle.host_commands.specs.declared.disk_commands.DiskCommand.TheVariants.{Host as HostOne, SendDiagnostic, PreFetch10, PreFetch16, WriteAndVerify10, WriteAndVerify12, WriteAndVerify16}
 use Rattle.host_commands.specs.DiskCommands.{asks_for_naca, named_in_disk}
 use Rattle.host_commands.specs.declared.ModeForm.TheVariants.{Six, Ten}
 use Rattle.host_commands.specs.Commands.{has_service_actions, named_command}

@@ -13,8 +13,8 @@ use Rattle.host_commands.specs.Commands.{of_maintenance, of_six, of_sixteen, of_
 use Rattle.disk_units.specs.declared.names.UnitNames.{UnitNames}
 use Rattle.disk_units.specs.Names.{AreNames}
 use Rattle.host_commands.specs.Pages.{page_bytes}
-use Rattle.host_commands.specs.declared.DiskCommand.{DiskCommand}
-use Rattle.host_commands.specs.declared.DiskCommand.TheVariants.{Host as HostOne, SendDiagnostic, PreFetch10, PreFetch16, WriteAndVerify10, WriteAndVerify12, WriteAndVerify16}
+use Rattle.host_commands.specs.declared.disk_commands.DiskCommand.{DiskCommand}
+use Rattle.host_commands.specs.declared.disk_commands.DiskCommand.TheVariants.{Host as HostOne, SendDiagnostic, PreFetch10, PreFetch16, WriteAndVerify10, WriteAndVerify12, WriteAndVerify16}
 use Rattle.host_commands.specs.Commands.{named_command}
 use Rattle.host_commands.specs.Told.{DiskTakenAreTold, DiskToldAreTaken, IsTold, IsToldInDisk, PagesAreListed, PagesTellThemselves, TakenAreTold, TellsItself, ToldAreTaken, is_told_in_disk}
 

@@ -12,7 +12,7 @@ use Rattle.host_commands.specs.declared.Data.TheVariants.{Inquiry as InquiryData
 use Rattle.host_commands.specs.declared.Data.TheVariants.{OperationCode, DiskOperationCodes, DiskOperationCode, TaskManagementFunctions, Capacity, LongCapacity, Disk as DiskSet}
 use Rattle.disk_units.specs.declared.pages.DiskData.{DiskData}
 use Rattle.disk_units.specs.declared.pages.DiskData.TheVariants.{Inquiry as DiskInquiry, Page as DiskPageData, LongCapacity as DiskCapacity}
-use Rattle.host_commands.specs.declared.DiskCommand.{DiskCommand}
+use Rattle.host_commands.specs.declared.disk_commands.DiskCommand.{DiskCommand}
 use Rattle.host_commands.specs.declared.HostCommand.{HostCommand}
 use Rattle.host_commands.specs.declared.HostCommand.TheVariants.{TestUnitReady, RequestSense, Read6, Write6, Inquiry, ModeSense6, StartStopUnit, ReadCapacity10}
 use Rattle.host_commands.specs.declared.HostCommand.TheVariants.{Read10, Write10, Verify10, SynchronizeCache10, ModeSense10, Read16, Write16, Verify16}

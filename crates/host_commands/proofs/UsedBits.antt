@@ -7,7 +7,7 @@ use Rattle.host_commands.specs.declared.fields.Extent.{Extent}
 use Rattle.host_commands.specs.declared.HostCommand.{HostCommand}
 use Rattle.host_commands.specs.Commands.{usage_of}
 use Rattle.host_commands.specs.Fields.{sixteen_extent, ten_extent, twelve_extent}
-use Rattle.host_commands.specs.declared.DiskCommand.{DiskCommand}
+use Rattle.host_commands.specs.declared.disk_commands.DiskCommand.{DiskCommand}
 use Rattle.host_commands.specs.DiskCommands.{disk_usage}
 use Rattle.host_commands.specs.Usage.{AgreeWhereRead, AgreeWhereReadInDisk, IsCdbOf, IsDiskCdbOf}
 

@@ -10,7 +10,7 @@ use Rattle.host_commands.specs.declared.CommandSet.{CommandSet}
 use Rattle.host_commands.specs.declared.CommandSet.TheVariants.{Profile}
 use Rattle.host_commands.specs.declared.UnitAttention.{UnitAttention}
 use Rattle.host_commands.specs.declared.Work.{Work}
-use Rattle.host_commands.specs.declared.Work.TheVariants.{Nothing, Gives, Reads, Writes, Synchronizes, Verifies, Compares, WritesAndVerifies}
+use Rattle.host_commands.specs.declared.Work.TheVariants.{Nothing, Gives, Reads, Writes, Synchronizes, Verifies, Compares, WritesAndVerifies, Unmaps, WritesSame, TellsStatus}
 use Rattle.host_commands.specs.Data.{given_bytes}
 use Rattle.host_commands.specs.Meaning.{asked_of, asked_of_none}
 use Rattle.host_commands.specs.Protection.{changes_blocks}
@@ -26,6 +26,9 @@ in_profile (Synchronizes lba count) = ProfileSynchronizes lba count
 in_profile (Verifies lba count) = NoWork
 in_profile (Compares lba count) = NoWork
 in_profile (WritesAndVerifies lba count compares) = NoWork
+in_profile (Unmaps list through) = NoWork
+in_profile (WritesSame lba count takes unmaps through) = NoWork
+in_profile (TellsStatus lba count allocation) = NoWork
 
 abbrev pub answer_in_profile : Result Work Sense → Result ProfileWork Sense
 answer_in_profile (Ok work) = Ok (in_profile work)

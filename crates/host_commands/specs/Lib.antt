@@ -8,6 +8,7 @@ pub mod Pages
 pub mod ModeData
 pub mod OperationCodes
 pub mod Data
+pub mod UnmapLists
 pub mod Meaning
 pub mod Profile
 pub mod Laws

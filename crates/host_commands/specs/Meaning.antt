@@ -1,8 +1,8 @@
 -- What 16 bytes ask of a logical unit in a command set: the work, or the sense that tells the first fault.
-use Rattle.std.specs.Prelude.{ℕ, ◌+◌, ◌-◌, ◌/◌, ◌%◌, ◌^◌, ◌≤◌, ◌==◌, nat_lt, nat_le, Bool, true, false, not, ◌||◌, ◌&&◌, if◌then◌else◌, List, slice_index}
+use Rattle.std.specs.Prelude.{ℕ, ◌+◌, ◌-◌, ◌/◌, ◌%◌, ◌^◌, ◌≤◌, ◌==◌, nat_lt, nat_le, min, Bool, true, false, not, ◌||◌, ◌&&◌, if◌then◌else◌, List, slice_index}
 use Rattle.std.specs.Prelude.{Option, Some, None, Result, Ok, Err}
 use Rattle.scsi_cmd.specs.declared.Sense.{Sense}
-use Rattle.scsi_cmd.specs.Fields.{field_of_two, field_of_four, is_bit_set}
+use Rattle.scsi_cmd.specs.Fields.{field_of_two, field_of_four, field_of_eight, is_bit_set}
 use Rattle.scsi_cmd.specs.Meaning.{asks_for_other_action, asks_for_protection}
 use Rattle.scsi_cmd.specs.Sense.{illegal_request, invalid_field_in_cdb, invalid_operation_code, out_of_range, reset_occurred, unit_not_supported}
 use Rattle.host_commands.specs.declared.BlockDescriptor.{BlockDescriptor}
@@ -12,8 +12,9 @@ use Rattle.host_commands.specs.declared.CommandSet.TheVariants.{Profile, Host, D
 use Rattle.host_commands.specs.declared.Data.TheVariants.{Inquiry as InquiryData, VitalProductData, RequestSense as SenseData, LogicalUnits, Mode, OperationCodes}
 use Rattle.host_commands.specs.declared.Data.TheVariants.{OperationCode, TaskManagementFunctions, Capacity, LongCapacity, Disk as DiskSet}
 use Rattle.host_commands.specs.declared.Data.TheVariants.{DiskOperationCodes, DiskOperationCode}
-use Rattle.host_commands.specs.declared.DiskCommand.{DiskCommand}
-use Rattle.host_commands.specs.declared.DiskCommand.TheVariants.{Host as HostOne, SendDiagnostic, PreFetch10, PreFetch16, WriteAndVerify10, WriteAndVerify12, WriteAndVerify16}
+use Rattle.host_commands.specs.declared.disk_commands.DiskCommand.{DiskCommand}
+use Rattle.host_commands.specs.declared.disk_commands.DiskCommand.TheVariants.{Host as HostOne, SendDiagnostic, PreFetch10, PreFetch16, WriteAndVerify10, WriteAndVerify12, WriteAndVerify16}
+use Rattle.host_commands.specs.declared.disk_commands.DiskCommand.TheVariants.{WriteSame10, WriteSame16, Unmap, GetLbaStatus}
 use Rattle.host_commands.specs.declared.HostCommand.{HostCommand}
 use Rattle.host_commands.specs.declared.HostCommand.TheVariants.{TestUnitReady, RequestSense, Read6, Write6, Inquiry, ModeSense6, StartStopUnit, ReadCapacity10}
 use Rattle.host_commands.specs.declared.HostCommand.TheVariants.{Read10, Write10, Verify10, SynchronizeCache10, ModeSense10, Read16, Write16, Verify16}
@@ -26,7 +27,7 @@ use Rattle.host_commands.specs.declared.UnitAttention.{UnitAttention}
 use Rattle.host_commands.specs.declared.UnitAttention.TheVariants.{PowerOn, Reset}
 use Rattle.host_commands.specs.declared.VitalPage.{VitalPage}
 use Rattle.host_commands.specs.declared.Work.{Work}
-use Rattle.host_commands.specs.declared.Work.TheVariants.{Nothing, Gives, Reads, Writes, Synchronizes, Verifies, Compares, WritesAndVerifies}
+use Rattle.host_commands.specs.declared.Work.TheVariants.{Nothing, Gives, Reads, Writes, Synchronizes, Verifies, Compares, WritesAndVerifies, Unmaps, WritesSame, TellsStatus}
 use Rattle.host_commands.specs.Commands.{has_service_actions, named_command}
 use Rattle.host_commands.specs.Data.{IsOfDevice}
 use Rattle.host_commands.specs.DiskCommands.{asks_for_naca, named_in_disk}
@@ -173,20 +174,20 @@ operation_codes_asked cdb =
 abbrev pub one_disk_code : ℕ → Bool → Option DiskCommand → Result Work Sense
 one_disk_code allocation timeouts command = Ok (Gives (DiskOperationCode command timeouts) allocation)
 
-abbrev pub disk_codes_asked : ℕ → ℕ → ℕ → ℕ → Bool → Result Work Sense
-disk_codes_asked option code action allocation timeouts =
-    if option == 0 then Ok (Gives (DiskOperationCodes timeouts) allocation)
+abbrev pub disk_codes_asked : ℕ → ℕ → ℕ → ℕ → Bool → Bool → Result Work Sense
+disk_codes_asked option code action allocation timeouts thin =
+    if option == 0 then Ok (Gives (DiskOperationCodes thin timeouts) allocation)
     else (if option == 1
-    then (if has_service_actions code then Err invalid_field_in_cdb else one_disk_code allocation timeouts (named_in_disk code 0))
+    then (if has_service_actions code then Err invalid_field_in_cdb else one_disk_code allocation timeouts (named_in_disk code 0 thin))
     else (if option == 2
-    then (if has_service_actions code then one_disk_code allocation timeouts (disk_action code action) else Err invalid_field_in_cdb)
-    else (if option == 3 then one_disk_code allocation timeouts (disk_either code action)
+    then (if has_service_actions code then one_disk_code allocation timeouts (disk_action code action thin) else Err invalid_field_in_cdb)
+    else (if option == 3 then one_disk_code allocation timeouts (disk_either code action thin)
     else Err invalid_field_in_cdb)))
 
-abbrev pub disk_operation_codes_asked : List ℕ → Result Work Sense
-disk_operation_codes_asked cdb =
+abbrev pub disk_operation_codes_asked : List ℕ → Bool → Result Work Sense
+disk_operation_codes_asked cdb thin =
     disk_codes_asked (slice_index cdb 2 % 2 ^ 3) (slice_index cdb 3) (field_of_two cdb 4) (field_of_four cdb 6)
-    (is_bit_set (slice_index cdb 2) 7)
+    (is_bit_set (slice_index cdb 2) 7) thin
 
 -- REPORT SUPPORTED TASK MANAGEMENT FUNCTIONS: the allocation length has room for all of the data
 abbrev pub task_functions_asked : List ℕ → Result Work Sense
@@ -271,7 +272,7 @@ abbrev pub host_asked_in_disk : HostCommand → List ℕ → Shape → ℕ → O
 host_asked_in_disk Inquiry cdb shape count attention =
     disk_inquiry_asked cdb true shape.disk shape.names shape.serial (block_bytes shape.block_length)
 host_asked_in_disk ReadCapacity16 cdb shape count attention = disk_capacity_asked cdb shape
-host_asked_in_disk ReportSupportedOperationCodes cdb shape count attention = disk_operation_codes_asked cdb
+host_asked_in_disk ReportSupportedOperationCodes cdb shape count attention = disk_operation_codes_asked cdb shape.disk.thin
 host_asked_in_disk command cdb shape count attention = command_asked command cdb shape.disk.most shape count attention
 
 -- of a logical unit without a cache of writes: each WRITE goes through to the medium, and the caching page says so (WCE 0)
@@ -308,6 +309,41 @@ writes_and_verifies cdb extent shape =
     else (if shape.read_only then Err write_protected
     else in_range shape.blocks extent.lba extent.count (WritesAndVerifies extent.lba extent.count (check == 1)))
 
+-- UNMAP: ANCHOR, bit 0 of byte 1, and a list, 7-8, of more than 520 bytes are faults; of none nothing is given back, and a shorter one than its
+-- header is 5/1A/00. Worked: of a length of 40 it takes the list, of 4 it is 5/1A/00, and of 521 5/24/00.
+abbrev pub parameter_list_length_error : Sense
+parameter_list_length_error = illegal_request 0x1a
+
+abbrev pub unmap_asked : List ℕ → Shape → Result Work Sense
+unmap_asked cdb shape =
+    let list = field_of_two cdb 7 in
+    if is_bit_set (slice_index cdb 1) 0 || nat_lt 520 list then Err invalid_field_in_cdb
+    else (if shape.read_only then Err write_protected
+    else (if list == 0 then Ok Nothing
+    else (if nat_lt list 8 then Err parameter_list_length_error
+    else Ok (Unmaps list shape.disk.write_through))))
+
+-- WRITE SAME: WRPROTECT 7:5, ANCHOR 4 and 2:1 of byte 1, UNMAP, bit 3, of a logical unit that isn't thin, and a count of 0 or above 65,528 are
+-- faults. It takes one block where NDOB isn't set.
+abbrev pub has_same_fault : List ℕ → ℕ → Bool → Bool
+has_same_fault cdb count thin =
+    let flags = slice_index cdb 1 in
+    (not (flags / 2 ^ 4 == 0) || not (flags / 2 % 2 ^ 2 == 0)) || ((is_bit_set flags 3 && not thin) || (count == 0 || nat_lt 65528 count))
+
+abbrev pub same_asked : Bool → List ℕ → Extent → Bool → Shape → Result Work Sense
+same_asked invalid cdb extent takes shape =
+    if invalid || has_same_fault cdb extent.count shape.disk.thin then Err invalid_field_in_cdb
+    else (if shape.read_only then Err write_protected
+    else in_range shape.blocks extent.lba extent.count
+        (WritesSame extent.lba extent.count takes (is_bit_set (slice_index cdb 1) 3) shape.disk.write_through))
+
+-- GET LBA STATUS, of the blocks from 2-9 on up to the end, at most 2^32 - 1
+abbrev pub status_asked : List ℕ → ℕ → Result Work Sense
+status_asked cdb blocks =
+    let lba = field_of_eight cdb 2 in
+    if nat_le blocks lba then Err out_of_range
+    else Ok (TellsStatus lba (min (blocks - lba) (2 ^ 32 - 1)) (field_of_four cdb 10))
+
 abbrev pub disk_command_asked : DiskCommand → List ℕ → Shape → ℕ → Option UnitAttention → Result Work Sense
 disk_command_asked (HostOne command) cdb shape count attention =
     uncached_if shape.disk.write_through (host_asked_in_disk command cdb shape count attention)
@@ -317,6 +353,13 @@ disk_command_asked WriteAndVerify16 cdb shape count attention = writes_and_verif
 disk_command_asked WriteAndVerify12 cdb shape count attention = writes_and_verifies cdb (twelve_extent cdb) shape
 disk_command_asked PreFetch10 cdb shape count attention = pre_fetched (ten_extent cdb) shape.blocks
 disk_command_asked PreFetch16 cdb shape count attention = pre_fetched (sixteen_extent cdb) shape.blocks
+-- bit 0 of byte 1 is NDOB in 16 bytes, and obsolete in 10
+disk_command_asked WriteSame10 cdb shape count attention =
+    same_asked (is_bit_set (slice_index cdb 1) 0) cdb (ten_extent cdb) true shape
+disk_command_asked WriteSame16 cdb shape count attention =
+    same_asked false cdb (sixteen_extent cdb) (not (is_bit_set (slice_index cdb 1) 0)) shape
+disk_command_asked Unmap cdb shape count attention = unmap_asked cdb shape
+disk_command_asked GetLbaStatus cdb shape count attention = status_asked cdb shape.blocks
 
 -- NACA is a field: it is a fault behind an operation code that isn't there, and before all others. Worked: of 100 blocks 34 00 00 00 00 62 00 00
 -- 02 00 is GOOD, with 04 at its end 5/24/00, and 34 00 00 00 00 63 00 00 02 00 is 5/21/00.
@@ -333,7 +376,8 @@ unfoldable pub asked_of : List ℕ → CommandSet → Shape → ℕ → Option U
 asked_of cdb Profile shape count attention = profile_asked cdb shape
 asked_of cdb (Host maximum) shape count attention =
     named_asked (named_command (code_in cdb) (action_in cdb)) cdb maximum shape count attention
-asked_of cdb Disk shape count attention = disk_named_asked (named_in_disk (code_in cdb) (action_in cdb)) cdb shape count attention
+asked_of cdb Disk shape count attention =
+    disk_named_asked (named_in_disk (code_in cdb) (action_in cdb) shape.disk.thin) cdb shape count attention
 
 -- where no logical unit is: INQUIRY, REPORT LUNS and REQUEST SENSE are answered, and nothing else is
 abbrev pub host_asked_of_none : List ℕ → ℕ → ℕ → Result Work Sense
@@ -375,3 +419,6 @@ IsWorkOn blocks most (Synchronizes lba count) = lba + count ≤ blocks
 IsWorkOn blocks most (Verifies lba count) = lba + count ≤ blocks
 IsWorkOn blocks most (Compares lba count) = (lba + count ≤ blocks) × (count ≤ most)
 IsWorkOn blocks most (WritesAndVerifies lba count compares) = (lba + count ≤ blocks) × (count ≤ most)
+IsWorkOn blocks most (Unmaps list through) = (8 ≤ list) × (list ≤ 520)
+IsWorkOn blocks most (WritesSame lba count takes unmaps through) = (lba + count ≤ blocks) × ((1 ≤ count) × (count ≤ 65528))
+IsWorkOn blocks most (TellsStatus lba count allocation) = (lba + count ≤ blocks) × (1 ≤ count)

@@ -1,12 +1,12 @@
 -- What REPORT SUPPORTED OPERATION CODES and REPORT SUPPORTED TASK MANAGEMENT FUNCTIONS give (SPC-4 6.35 and 6.36).
 use Rattle.std.specs.Prelude.{ℕ, ◌+◌, ◌==◌, Bool, true, false, ◌&&◌, if◌then◌else◌, List, [], ◌∷◌, ◌++◌, length, map, slice_index, Option, Some, None, option_map}
 use Rattle.scsi_cmd.specs.Fields.{two_bytes, four_bytes, zeros}
-use Rattle.host_commands.specs.declared.DiskCommand.{DiskCommand}
-use Rattle.host_commands.specs.declared.DiskCommand.TheVariants.{Host}
+use Rattle.host_commands.specs.declared.disk_commands.DiskCommand.{DiskCommand}
+use Rattle.host_commands.specs.declared.disk_commands.DiskCommand.TheVariants.{Host, GetLbaStatus}
 use Rattle.host_commands.specs.declared.HostCommand.{HostCommand}
 use Rattle.host_commands.specs.declared.HostCommand.TheVariants.{ReadCapacity16}
 use Rattle.host_commands.specs.Commands.{all_commands, has_service_actions, named_command, of_maintenance, usage_of}
-use Rattle.host_commands.specs.DiskCommands.{bits_of, disk_commands, disk_usage, named_in_disk}
+use Rattle.host_commands.specs.DiskCommands.{bits_of, disk_commands, disk_usage, is_status_code, named_in_disk}
 
 -- THE COMMAND THAT IS ASKED AFTER
 
@@ -22,14 +22,15 @@ named_either code action =
     if has_service_actions code then named_action code action
     else (if action == 0 then named_command code 0 else None)
 
--- the same in the disk set, which has no service actions of its own
-abbrev pub disk_action : ℕ → ℕ → Option DiskCommand
-disk_action code action = option_map Host (named_action code action)
+-- the same in the disk set, where 12h is a service action of 9Eh too, of a logical unit whose blocks can be given back
+abbrev pub disk_action : ℕ → ℕ → Bool → Option DiskCommand
+disk_action code action thin =
+    if is_status_code code action thin then Some GetLbaStatus else option_map Host (named_action code action)
 
-abbrev pub disk_either : ℕ → ℕ → Option DiskCommand
-disk_either code action =
-    if has_service_actions code then disk_action code action
-    else (if action == 0 then named_in_disk code 0 else None)
+abbrev pub disk_either : ℕ → ℕ → Bool → Option DiskCommand
+disk_either code action thin =
+    if has_service_actions code then disk_action code action thin
+    else (if action == 0 then named_in_disk code 0 thin else None)
 
 -- ITS DATA
 
@@ -92,16 +93,16 @@ abbrev pub descriptor_size : Bool → ℕ
 descriptor_size true = 20
 descriptor_size false = 8
 
--- all commands of a set: the length of the descriptors, and these. Those of the host set are 24, those of the disk set 30; 4 + 30 x 20 bytes
--- are 604.
+-- all commands of a set: the length of the descriptors, and these. Those of the host set are 24, those of the disk set at most 34; 4 + 34 x 20
+-- bytes are 684.
 abbrev pub listed_bytes : Bool → List DiskCommand → List ℕ
 listed_bytes timeouts commands = four_bytes (length (command_descriptors timeouts commands)) ++ command_descriptors timeouts commands
 
 abbrev pub all_commands_bytes : Bool → List ℕ
 all_commands_bytes timeouts = listed_bytes timeouts (map Host all_commands)
 
-abbrev pub disk_commands_bytes : Bool → List ℕ
-disk_commands_bytes timeouts = listed_bytes timeouts disk_commands
+abbrev pub disk_commands_bytes : Bool → Bool → List ℕ
+disk_commands_bytes thin timeouts = listed_bytes timeouts (disk_commands thin)
 
 -- ABORT TASK (bit 7), LOGICAL UNIT RESET (3) and QUERY TASK (2); extended data say how many bytes follow
 abbrev pub task_functions : Bool → List ℕ

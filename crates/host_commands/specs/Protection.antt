@@ -2,7 +2,7 @@
 use Rattle.std.specs.Prelude.{Bool, true, false, if◌then◌else◌, Result, Ok, Err}
 use Rattle.scsi_cmd.specs.declared.Sense.{Sense}
 use Rattle.host_commands.specs.declared.Work.{Work}
-use Rattle.host_commands.specs.declared.Work.TheVariants.{Nothing, Gives, Reads, Writes, Synchronizes, Verifies, Compares, WritesAndVerifies}
+use Rattle.host_commands.specs.declared.Work.TheVariants.{Nothing, Gives, Reads, Writes, Synchronizes, Verifies, Compares, WritesAndVerifies, Unmaps, WritesSame, TellsStatus}
 
 -- WRITE PROTECTED, a DATA PROTECT, which is key 7
 abbrev pub write_protected : Sense
@@ -18,6 +18,9 @@ changes_blocks (Synchronizes lba count) = false
 changes_blocks (Verifies lba count) = false
 changes_blocks (Compares lba count) = false
 changes_blocks (WritesAndVerifies lba count compares) = true
+changes_blocks (Unmaps list through) = true
+changes_blocks (WritesSame lba count takes unmaps through) = true
+changes_blocks (TellsStatus lba count allocation) = false
 
 -- a read-only logical unit refuses those
 abbrev pub allowed : Bool → Work → Result Work Sense

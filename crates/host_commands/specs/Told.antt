@@ -7,8 +7,8 @@ use Rattle.host_commands.specs.declared.VitalPage.TheVariants.{SupportedPages}
 use Rattle.disk_units.specs.declared.names.UnitNames.{UnitNames}
 use Rattle.host_commands.specs.Commands.{all_commands, named_command, usage_of}
 use Rattle.disk_units.specs.Names.{AreNames}
-use Rattle.host_commands.specs.declared.DiskCommand.{DiskCommand}
-use Rattle.host_commands.specs.DiskCommands.{bits_of, disk_commands, named_in_disk}
+use Rattle.host_commands.specs.declared.disk_commands.DiskCommand.{DiskCommand}
+use Rattle.host_commands.specs.DiskCommands.{bits_of, disk_commands, is_there, named_in_disk}
 use Rattle.host_commands.specs.OperationCodes.{action_of, disk_action_of}
 use Rattle.host_commands.specs.Pages.{page_bytes, page_of}
 
@@ -50,15 +50,18 @@ ToldAreTaken = (command : HostCommand) → named_command (code_of command) (acti
 abbrev pub disk_code_of : DiskCommand → ℕ
 disk_code_of command = slice_index (bits_of command) 0
 
-abbrev pub is_told_in_disk : DiskCommand → Bool
-is_told_in_disk command =
-    list_any (λ told. (disk_code_of told == disk_code_of command) && (disk_action_of told == disk_action_of command)) disk_commands
+abbrev pub is_told_in_disk : Bool → DiskCommand → Bool
+is_told_in_disk thin command =
+    list_any (λ told. (disk_code_of told == disk_code_of command) && (disk_action_of told == disk_action_of command)) (disk_commands thin)
 
-abbrev pub IsToldInDisk : ℕ → DiskCommand → Type 0
-IsToldInDisk code command = (disk_code_of command ≡ code) × (is_told_in_disk command ≡ true)
+abbrev pub IsToldInDisk : ℕ → Bool → DiskCommand → Type 0
+IsToldInDisk code thin command = (disk_code_of command ≡ code) × (is_told_in_disk thin command ≡ true)
 
 abbrev pub DiskTakenAreTold : Type 0
-DiskTakenAreTold = (code action : ℕ) → IfSome (named_in_disk code action) (IsToldInDisk code)
+DiskTakenAreTold = (code action : ℕ) (thin : Bool) → IfSome (named_in_disk code action thin) (IsToldInDisk code thin)
 
+-- of those that are there
 abbrev pub DiskToldAreTaken : Type 0
-DiskToldAreTaken = (command : DiskCommand) → named_in_disk (disk_code_of command) (disk_action_of command) ≡ Some command
+DiskToldAreTaken =
+    (command : DiskCommand) (thin : Bool) → is_there thin command ≡ true
+    → named_in_disk (disk_code_of command) (disk_action_of command) thin ≡ Some command

@@ -3,8 +3,9 @@ use Rattle.std.specs.Prelude.{◌≡◌, ◌≢◌, ℕ, ◌+◌, ◌^◌, ◌<�
 use Rattle.scsi_cmd.specs.Fields.{is_bit_set}
 use Rattle.host_commands.specs.declared.CommandSet.{CommandSet}
 use Rattle.host_commands.specs.declared.CommandSet.TheVariants.{Host, Disk}
-use Rattle.host_commands.specs.declared.DiskCommand.{DiskCommand}
-use Rattle.host_commands.specs.declared.DiskCommand.TheVariants.{Host as HostOne, SendDiagnostic, PreFetch10, PreFetch16, WriteAndVerify10, WriteAndVerify12, WriteAndVerify16}
+use Rattle.host_commands.specs.declared.disk_commands.DiskCommand.{DiskCommand}
+use Rattle.host_commands.specs.declared.disk_commands.DiskCommand.TheVariants.{Host as HostOne, SendDiagnostic, PreFetch10, PreFetch16, WriteAndVerify10, WriteAndVerify12, WriteAndVerify16}
+use Rattle.host_commands.specs.declared.disk_commands.DiskCommand.TheVariants.{WriteSame10, WriteSame16, Unmap, GetLbaStatus}
 use Rattle.host_commands.specs.declared.HostCommand.{HostCommand}
 use Rattle.host_commands.specs.declared.HostCommand.TheVariants.{Read10, Read12, Read16, Verify10, Verify12, Verify16, Write10, Write12, Write16}
 use Rattle.host_commands.specs.declared.UnitAttention.{UnitAttention}
@@ -108,6 +109,10 @@ disk_hints_of WriteAndVerify16 = 0x10
 disk_hints_of WriteAndVerify12 = 0x10
 disk_hints_of PreFetch10 = 0
 disk_hints_of PreFetch16 = 0
+disk_hints_of WriteSame10 = 0
+disk_hints_of WriteSame16 = 0
+disk_hints_of Unmap = 0
+disk_hints_of GetLbaStatus = 0
 
 abbrev pub is_read_in_disk : DiskCommand → ℕ → ℕ → Bool
 is_read_in_disk command place bit =

@@ -11,12 +11,15 @@ ghost use Rattle.uas_profile.specs.declared.TheConstants.{MAX_UNITS};
 
 use crate::blocks::writes_and_verifies;
 use crate::commands::{INQUIRY, REPORT_LUNS, REQUEST_SENSE, has_service_actions};
-use crate::disk_commands::{asks_for_naca, named_in_disk, pre_fetches, read_diagnostic};
+use crate::disk_commands::{
+    asks_for_naca, is_status_code, named_in_disk, pre_fetches, read_diagnostic,
+};
 use crate::fields::{
     action_in, four_at, has_bit, sixteen_extent, ten_extent, twelve_extent, two_at,
 };
 use crate::given::{asks_for_other_action, named_action};
 use crate::host::{read_command, read_host_of_none};
+use crate::thin::{read_status, read_unmap, writes_same};
 use crate::{
     Data, DiskCommand, DiskData, DiskPage, DiskUnit, HostCommand, LogicalUnitShape, ModeData,
     UnitAttention, UnitNames, Work,
@@ -32,10 +35,10 @@ pub(crate) fn read_disk(
     attention: Option<UnitAttention>,
 ) -> Result<Work, Sense>
     requires { logical_units ≤ MAX_UNITS }
-    ensures work { result ≡ disk_named_asked (named_in_disk (code_in cdb.now) (action_in cdb.now)) cdb.now shape.now logical_units attention }
+    ensures work { result ≡ disk_named_asked (named_in_disk (code_in cdb.now) (action_in cdb.now) shape.now.disk.thin) cdb.now shape.now logical_units attention }
     ensures on { IfOk result (IsWorkOn shape.now.blocks shape.now.disk.most) }
 {
-    let Some(command) = named_in_disk(cdb[0], action_in(cdb)) else {
+    let Some(command) = named_in_disk(cdb[0], action_in(cdb), shape.disk().thin) else {
         return Err(Sense::INVALID_OPERATION_CODE);
     };
     if asks_for_naca(cdb) {
@@ -67,6 +70,20 @@ fn read_disk_command(
         DiskCommand::WriteAndVerify12 => writes_and_verifies(cdb, twelve_extent(cdb), shape),
         DiskCommand::PreFetch10 => pre_fetches(ten_extent(cdb), shape.blocks()),
         DiskCommand::PreFetch16 => pre_fetches(sixteen_extent(cdb), shape.blocks()),
+        DiskCommand::WriteSame10 => {
+            writes_same(has_bit(cdb[1], 0), cdb, ten_extent(cdb), true, shape)
+        }
+        DiskCommand::WriteSame16 => {
+            writes_same(
+                false,
+                cdb,
+                sixteen_extent(cdb),
+                !has_bit(cdb[1], 0),
+                shape,
+            )
+        }
+        DiskCommand::Unmap => read_unmap(cdb, shape),
+        DiskCommand::GetLbaStatus => read_status(cdb, shape.blocks()),
     }
 }
 
@@ -92,7 +109,7 @@ fn read_host_in_disk(
             shape.block_length().bytes(),
         ),
         HostCommand::ReadCapacity16 => read_disk_capacity(cdb, shape),
-        HostCommand::ReportSupportedOperationCodes => read_disk_codes(cdb),
+        HostCommand::ReportSupportedOperationCodes => read_disk_codes(cdb, shape.disk().thin),
         _ => read_command(
             command,
             cdb,
@@ -172,13 +189,20 @@ fn is_answered_of_none(code: u8) -> bool
 
 /// REPORT SUPPORTED OPERATION CODES: all for option 0, and the command of an operation code without service actions for 1, with them for 2,
 /// and either for 3.
-fn read_disk_codes(cdb: &[u8; 16]) -> Result<Work, Sense>
-    ensures work { result ≡ disk_operation_codes_asked cdb.now }
+fn read_disk_codes(cdb: &[u8; 16], thin: bool) -> Result<Work, Sense>
+    ensures work { result ≡ disk_operation_codes_asked cdb.now thin }
     ensures on { (blocks most : ℕ) → IfOk result (IsWorkOn blocks most) }
 {
     let allocation = four_at(cdb, 6);
     let timeouts = has_bit(cdb[2], 7);
-    disk_codes_asked(cdb[2] & 7, cdb[3], two_at(cdb, 4), allocation, timeouts)
+    disk_codes_asked(
+        cdb[2] & 7,
+        cdb[3],
+        two_at(cdb, 4),
+        allocation,
+        timeouts,
+        thin,
+    )
 }
 
 fn disk_codes_asked(
@@ -187,21 +211,22 @@ fn disk_codes_asked(
     action: u16,
     allocation: u32,
     timeouts: bool,
+    thin: bool,
 ) -> Result<Work, Sense>
-    ensures work { result ≡ disk_codes_asked option code action allocation timeouts }
+    ensures work { result ≡ disk_codes_asked option code action allocation timeouts thin }
     ensures on { (blocks most : ℕ) → IfOk result (IsWorkOn blocks most) }
 {
     let has_actions = has_service_actions(code);
     let command = match option {
         0 => {
             return Ok(Work::Gives {
-                given: Data::DiskOperationCodes { timeouts },
+                given: Data::DiskOperationCodes { thin, timeouts },
                 allocation,
             });
         }
-        1 if !has_actions => named_in_disk(code, 0),
-        2 if has_actions => disk_action(code, action),
-        3 => disk_either(code, action),
+        1 if !has_actions => named_in_disk(code, 0, thin),
+        2 if has_actions => disk_action(code, action, thin),
+        3 => disk_either(code, action, thin),
         _ => return Err(Sense::INVALID_FIELD_IN_CDB),
     };
     Ok(Work::Gives {
@@ -210,21 +235,25 @@ fn disk_codes_asked(
     })
 }
 
-/// The command of an operation code with service actions, which the host set has too.
-fn disk_action(code: u8, action: u16) -> Option<DiskCommand>
-    ensures { result ≡ disk_action code action }
+/// The command of an operation code with service actions.
+fn disk_action(code: u8, action: u16, thin: bool) -> Option<DiskCommand>
+    ensures { result ≡ disk_action code action thin }
 {
-    named_action(code, action).map(DiskCommand::Host)
+    if is_status_code(code, action, thin) {
+        Some(DiskCommand::GetLbaStatus)
+    } else {
+        named_action(code, action).map(DiskCommand::Host)
+    }
 }
 
 /// The command of any operation code; one without service actions has the action 0.
-fn disk_either(code: u8, action: u16) -> Option<DiskCommand>
-    ensures { result ≡ disk_either code action }
+fn disk_either(code: u8, action: u16, thin: bool) -> Option<DiskCommand>
+    ensures { result ≡ disk_either code action thin }
 {
     if has_service_actions(code) {
-        disk_action(code, action)
+        disk_action(code, action, thin)
     } else if action == 0 {
-        named_in_disk(code, 0)
+        named_in_disk(code, 0, thin)
     } else {
         None
     }

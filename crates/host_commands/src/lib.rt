@@ -43,10 +43,12 @@ mod operation_codes;
 mod pages;
 mod profile;
 mod shapes;
+mod thin;
+mod unmap_list;
 mod writer;
 
 pub use commands::{attention_of, named_command};
-pub use disk_commands::named_in_disk;
+pub use disk_commands::{DiskCommand, named_in_disk};
 pub use disk_units::{
     DiskData, DiskFault, DiskPage, DiskUnit, Eui, FormFactor, Naa, NameFault, Product, Revision,
     Rotation, SerialText, TransferLength, UnitNames, Uuid, Vendor,
@@ -56,6 +58,9 @@ pub use laws::{lists_are_true, profile_is_kept, read_only_is_kept, usage_is_what
 use scsi_cmd::Sense;
 use std::marker::Model;
 use thiserror::Error;
+pub use unmap_list::{
+    MOST_UNMAP_BYTES, status_bytes, unmap_count, unmap_extent, unmap_fault,
+};
 pub use writer::write_data;
 
 /// The bytes of a block.
@@ -170,19 +175,6 @@ pub enum HostCommand {
     Read12,
     Write12,
     Verify12,
-}
-
-/// A command of the disk set, by its CDB.
-#[derive(Clone, Copy, Debug, PartialEq, Eq)]
-pub enum DiskCommand {
-    /// One that the host set has too.
-    Host(HostCommand),
-    SendDiagnostic,
-    WriteAndVerify10,
-    PreFetch10,
-    WriteAndVerify16,
-    PreFetch16,
-    WriteAndVerify12,
 }
 
 /// What a command has to do with a unit attention (SAM).
@@ -305,8 +297,9 @@ pub enum Data {
         command: Option<HostCommand>,
         timeouts: bool,
     },
-    /// Both of the disk set.
+    /// Both of the disk set, of a logical unit whose blocks can be given back or can't.
     DiskOperationCodes {
+        thin: bool,
         timeouts: bool,
     },
     DiskOperationCode {
@@ -332,7 +325,7 @@ pub enum Data {
 }
 
 /// The most bytes of data: all operation codes with their timeouts.
-pub const MOST_DATA_BYTES: usize = 604;
+pub const MOST_DATA_BYTES: usize = 684;
 
 /// What a command does, whichever CDB asked for it.
 #[derive(Clone, Copy, Debug, PartialEq, Eq)]
@@ -375,5 +368,24 @@ pub enum Work {
         lba: u64,
         count: u32,
         compares: bool,
+    },
+    /// It takes a list of `list` bytes, 8 to 520, and gives back the blocks that the list names (UNMAP); where it goes `through`, that is on the medium when it ends.
+    Unmaps {
+        list: u16,
+        through: bool,
+    },
+    /// It writes one block on each of `count` blocks from `lba` on: the one that it `takes`, else zeros. Blocks of zeros may be given back where it `unmaps`.
+    WritesSame {
+        lba: u64,
+        count: u32,
+        takes: bool,
+        unmaps: bool,
+        through: bool,
+    },
+    /// It tells whether the blocks from `lba` on are mapped, and gives at most `allocation` bytes of that; `count` blocks are asked of: those up to the end, at most 2^32 - 1.
+    TellsStatus {
+        lba: u64,
+        count: u32,
+        allocation: u32,
     },
 }

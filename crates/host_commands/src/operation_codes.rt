@@ -7,7 +7,7 @@ ghost use Rattle.host_commands.specs.OperationCodes.{listed_bytes, no_command, o
 ghost use Rattle.host_commands.specs.declared.TheConstants.{MOST_DATA_BYTES};
 
 use crate::commands::{ALL_COMMANDS, has_service_actions};
-use crate::disk_commands::DISK_COMMANDS;
+use crate::disk_commands::{DISK_COMMANDS, THIN_COMMANDS};
 use crate::fields::put;
 use crate::{DiskCommand, HostCommand, MOST_DATA_BYTES};
 use arrayvec::ArrayVec;
@@ -27,18 +27,26 @@ pub(crate) fn write_all_commands(timeouts: bool, into: &mut ArrayVec<u8, MOST_DA
     write_list(&ALL_COMMANDS, timeouts, into);
 }
 
-/// The same of the disk set.
-pub(crate) fn write_disk_commands(timeouts: bool, into: &mut ArrayVec<u8, MOST_DATA_BYTES>)
+/// The same of the disk set, of a logical unit whose blocks can be given back or can't.
+pub(crate) fn write_disk_commands(
+    thin: bool,
+    timeouts: bool,
+    into: &mut ArrayVec<u8, MOST_DATA_BYTES>,
+)
     requires { array_vec_len into.old ≡ 0 }
-    ensures { into.new.items ≡ disk_commands_bytes timeouts }
+    ensures { into.new.items ≡ disk_commands_bytes thin timeouts }
 {
-    write_list(&DISK_COMMANDS, timeouts, into);
+    if thin {
+        write_list(&THIN_COMMANDS, timeouts, into);
+    } else {
+        write_list(&DISK_COMMANDS, timeouts, into);
+    }
 }
 
 /// Writes the length of the command descriptors of these commands, and them.
 fn write_list(commands: &[DiskCommand], timeouts: bool, into: &mut ArrayVec<u8, MOST_DATA_BYTES>)
     requires empty { array_vec_len into.old ≡ 0 }
-    requires many { length commands.now ≤ 30 }
+    requires many { length commands.now ≤ 34 }
     ensures { into.new.items ≡ listed_bytes timeouts commands.now }
 {
     put(
@@ -55,7 +63,7 @@ fn write_descriptors(
     into: &mut ArrayVec<u8, MOST_DATA_BYTES>,
 )
     requires front { array_vec_len into.old ≡ 4 }
-    requires many { length commands.now ≤ 30 }
+    requires many { length commands.now ≤ 34 }
     ensures { into.new.items ≡ into.old.items ++ command_descriptors timeouts commands.now }
 {
     for command in commands {

@@ -134,7 +134,10 @@ fn allowed(read_only: bool, work: Work) -> Result<Work, Sense>
     ensures { result ≡ allowed read_only work }
 {
     match work {
-        Work::Writes { .. } | Work::WritesAndVerifies { .. } if read_only => Err(WRITE_PROTECTED),
+        Work::Writes { .. }
+        | Work::WritesAndVerifies { .. }
+        | Work::Unmaps { .. }
+        | Work::WritesSame { .. } if read_only => Err(WRITE_PROTECTED),
         _ => Ok(work),
     }
 }

@@ -46,7 +46,9 @@ fn write_whole(given: &Data, into: &mut ArrayVec<u8, MOST_DATA_BYTES>)
         Data::OperationCode { command, timeouts } => {
             write_one_command(*command, *timeouts, into);
         }
-        Data::DiskOperationCodes { timeouts } => write_disk_commands(*timeouts, into),
+        Data::DiskOperationCodes { thin, timeouts } => {
+            write_disk_commands(*thin, *timeouts, into);
+        }
         Data::DiskOperationCode { command, timeouts } => {
             write_disk_command(*command, *timeouts, into);
         }

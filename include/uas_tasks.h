@@ -103,7 +103,16 @@ void uas_tasks_free(uas_tasks *tasks);
 enum { UAS_ASKS = 4, UAS_WAITS = 5 };
 
 /* What a request asks for. */
-enum { UAS_REQUEST_READ = 1, UAS_REQUEST_WRITE = 2, UAS_REQUEST_COMPARE = 3, UAS_REQUEST_VERIFY = 4, UAS_REQUEST_SYNC = 5 };
+enum {
+    UAS_REQUEST_READ = 1,
+    UAS_REQUEST_WRITE = 2,
+    UAS_REQUEST_COMPARE = 3,
+    UAS_REQUEST_VERIFY = 4,
+    UAS_REQUEST_SYNC = 5,
+    UAS_REQUEST_ZERO = 6,    /* zeros, from here on of UAS_SET_DISK alone */
+    UAS_REQUEST_DISCARD = 7, /* zeros, whose room may be given back */
+    UAS_REQUEST_STATUS = 9   /* how many from the first one on are all mapped, or all not */
+};
 
 /* What came of a request; from UAS_NO_SPACE on of logical units of uas_tasks_new_disks alone, the first two of those that write or sync. A host
  * tries again what is UAS_ABORTED or UAS_BUSY. */
@@ -138,14 +147,14 @@ struct uas_tasks_door {
     uint8_t phase;   /* out of NEXT */
     uint8_t good;    /* out of RECEIVE: 1 where a task began; in of ANSWERED: 1 where `block` is a place */
     uint8_t kind;    /* out of a NEXT that asks: UAS_REQUEST_... */
-    uint8_t through; /* out of a NEXT that asks: 1 where a write is to be on the medium when it is done */
+    uint8_t through; /* out of a NEXT that asks: UAS_ASKED_...; in of ANSWERED: 1 where blocks are mapped */
     uint8_t outcome; /* in of ANSWERED: UAS_DONE and its like */
     uint16_t tag;    /* in of NEXT, GIVE, TAKE, STATUS, SENT; out of RECEIVE where a task began */
     uint64_t unit;   /* out of a NEXT that asks: the number of the logical unit */
-    uint64_t length; /* out of NEXT: bytes that it gives or takes at most; of STATUS: bytes of the information unit */
+    uint64_t length; /* out of NEXT: bytes that it gives or takes at most, or of the request's data; of STATUS: bytes of the information unit */
     uint64_t number; /* out of a NEXT that asks; in of DATA, ANSWERED; in and out of STALE */
     uint64_t block;  /* out of a NEXT that asks: the first block; in of ANSWERED: the place */
-    uint64_t count;  /* out of a NEXT that asks: blocks, 1 or more */
+    uint64_t count;  /* out of a NEXT that asks: blocks, 1 or more; in of ANSWERED: of a status */
 };
 UAS_TASKS_ASSERT(sizeof(struct uas_tasks_door) == 48 && offsetof(struct uas_tasks_door, unit) == 8);
 
@@ -170,6 +179,24 @@ struct uas_request {
  * fault. */
 uint8_t uas_tasks_next(uas_tasks *tasks, uint16_t tag, uint8_t *phase, uint64_t *length, struct uas_request *request);
 
+/* A request of logical units of uas_tasks_new_disks. With UAS_ASKED_ONE the data are one block, to be written on each. */
+enum { UAS_ASKED_THROUGH = 1, UAS_ASKED_ONE = 2 };
+
+struct uas_asked {
+    uint32_t size;  /* sizeof(struct uas_asked) */
+    uint8_t kind;   /* UAS_REQUEST_... */
+    uint8_t flags;  /* UAS_ASKED_... */
+    uint16_t tag;
+    uint64_t number;
+    uint64_t unit, block, count;
+    uint64_t bytes; /* of its data, which uas_tasks_data has, or which are to be told */
+};
+UAS_TASKS_ASSERT(sizeof(struct uas_asked) == 48 && offsetof(struct uas_asked, number) == 8);
+
+/* The same as uas_tasks_next, with such a request.
+ * Fault: UAS_TASKS_SIZE (not such a record). */
+uint8_t uas_tasks_ask(uas_tasks *tasks, uint16_t tag, uint8_t *phase, uint64_t *length, struct uas_asked *asked);
+
 /* Fills `bytes` with the next ones that a tag gives, or takes them as the next of a tag: at most as many as uas_tasks_next told.
  * Faults: UAS_TASKS_PHASE, UAS_TASKS_LENGTH. */
 uint8_t uas_tasks_give(uas_tasks *tasks, uint16_t tag, uint8_t *bytes, size_t length);
@@ -186,15 +213,15 @@ uint8_t uas_tasks_answered(uas_tasks *tasks, uint64_t number, uint8_t outcome, c
 
 /* The same of logical units of uas_tasks_new_disks, with the place where it is known: what a host is told then is the first bad block, or the
  * first byte of its data that differs. */
-enum { UAS_OUTCOME_AT = 1 };
+enum { UAS_OUTCOME_AT = 1, UAS_OUTCOME_MAPPED = 2 };
 
 struct uas_outcome {
     uint32_t size;    /* sizeof(struct uas_outcome) */
     uint8_t what;     /* UAS_DONE and its like */
-    uint8_t flags;    /* UAS_OUTCOME_AT: `at` is told, with UAS_DIFFERS and UAS_MEDIUM_ERROR */
+    uint8_t flags;    /* UAS_OUTCOME_AT: `at` is told, with UAS_DIFFERS and UAS_MEDIUM_ERROR; UAS_OUTCOME_MAPPED: `count` blocks are mapped */
     uint16_t zero;    /* 0 */
     uint64_t at;      /* the byte of the request's data, or the block */
-    uint64_t count;   /* 0 */
+    uint64_t count;   /* of UAS_REQUEST_STATUS: so many from the first one on, 1 or more, are all mapped or all not; of another 0 */
 };
 UAS_TASKS_ASSERT(sizeof(struct uas_outcome) == 24 && offsetof(struct uas_outcome, at) == 8);
 

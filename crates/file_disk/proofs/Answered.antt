@@ -26,7 +26,7 @@ use Rattle.uas_tasks.specs.declared.Wants.TheVariants.{Ends}
 use Rattle.uas_tasks.specs.Soundness.{MayGive, MayTake}
 use Rattle.uas_tasks.specs.declared.slot.Out.{Out}
 use Rattle.uas_tasks.specs.Machine.{Machine, answer_on, answered, bytes_out, gave, given as given_of, next_of, out_of_number, slot_of, took, wanted, without_task}
-use Rattle.uas_tasks.specs.Jobs.{chunk_bytes, ended_good, moved_on, next_chunk}
+use Rattle.uas_tasks.specs.Jobs.{chunk_bytes, most_blocks, ended_good, moved_on, next_chunk}
 use Rattle.uas_tasks.specs.Slots.{SlotState}
 use Rattle.uas_tasks.specs.Stale.{is_stale}
 use Rattle.file_disk.specs.Device.{IsAt, IsWholeBlocks, asking, blocks_of, buffer_of, ended, job_of, moving}
@@ -43,14 +43,17 @@ over_front : (bytes new : List ℕ) → take (length new) (with_bytes_at bytes 0
 unfolding with_bytes_at
 over_front bytes new = take_at new (drop (0 + length new) bytes) (length new) refl
 
--- a chunk is all of the blocks of a command
-chunk_whole : (kind : JobKind) (lba : ℕ) (new : List ℕ) → IsWholeBlocks new → chunk_bytes 128 (job_of kind lba (blocks_of new)) ≡ length new
-chunk_whole kind lba new is = omega (arith, is.most, is.whole)
+-- a chunk is all of the blocks of a READ or a WRITE
+chunk_read : (lba : ℕ) (new : List ℕ) → IsWholeBlocks new → chunk_bytes 128 (job_of Reads lba (blocks_of new)) ≡ length new
+chunk_read lba new is = omega (arith, is.most, is.whole)
 
-last_chunk : (kind : JobKind) (lba : ℕ) (new : List ℕ) → IsWholeBlocks new → next_chunk 128 0 (job_of kind lba (blocks_of new)) ≡ ended_good 0
-last_chunk kind lba new is =
-    let most : blocks_of new ≤ 0 + min 128 (blocks_of new - 0) = omega (arith, is.most, is.whole) in
-    rw (le-ltb (0 + min 128 (blocks_of new - 0)) (blocks_of new) most) refl
+chunk_written : (lba : ℕ) (new : List ℕ) → IsWholeBlocks new → chunk_bytes 128 (job_of (Writes false) lba (blocks_of new)) ≡ length new
+chunk_written lba new is = omega (arith, is.most, is.whole)
+
+last_chunk : (kind : JobKind) (lba : ℕ) (new : List ℕ) → most_blocks kind 128 ≡ 128 → IsWholeBlocks new → next_chunk 128 0 (job_of kind lba (blocks_of new)) ≡ ended_good 0
+last_chunk kind lba new many is =
+    let most : blocks_of new ≤ 0 + min (most_blocks kind 128) (blocks_of new - 0) = omega (arith, many, is.most, is.whole) in
+    rw (le-ltb (0 + min (most_blocks kind 128) (blocks_of new - 0)) (blocks_of new) most) refl
 
 -- bytes of as many whole blocks
 pub whole_same : (a b : List ℕ) → length b ≡ length a → IsWholeBlocks a → IsWholeBlocks b
@@ -59,7 +62,7 @@ whole_same a b same is = record { some = omega (arith, is.some, same); most = om
 -- A READ
 
 right_length : (lba : ℕ) (new : List ℕ) → IsWholeBlocks new → not (length new == chunk_bytes 128 (job_of Reads lba (blocks_of new))) ≡ false
-right_length lba new all = rw (chunk_whole Reads lba new all, eq-eqb (length new) (length new) refl) refl
+right_length lba new all = rw (chunk_read lba new all, eq-eqb (length new) (length new) refl) refl
 
 pub read_done : (blocks number lba : ℕ) (request : Request) (new : List ℕ) (m m1 m2 : Machine) (r : Result (Unit {0}) AnswerFault)
     → IsAt blocks m (Some (asking Reads lba (blocks_of new))) → (m1, NextAsks number request) ≡ next_of m 1
@@ -120,7 +123,7 @@ pub write_done : (blocks number lba : ℕ) (request : Request) (new : List ℕ) 
     → (m2, r) ≡ answered m1 number Done [] → IsWholeBlocks new → IsAt blocks m2 (Some (ended Good))
 write_done blocks number lba request new m m1 m2 r is asks answer all =
     let job : Job = job_of (Writes false) lba (blocks_of new) in
-    subst (λ (now : Task). IsAt blocks m2 (Some now)) (last_chunk (Writes false) lba new all)
+    subst (λ (now : Task). IsAt blocks m2 (Some now)) (last_chunk (Writes false) lba new refl all)
     (quiet_after blocks (((slot_of m 1).turn + 1) % 2 ^ 32) (next_chunk 128 0 job) (slot_of m 1).given (slot_of m 1).bytes (drop 1 m.slots) m2
     is.room is.rest (served_at blocks number job request Done [] m m1 m2 r is asks answer refl))
 
@@ -139,7 +142,7 @@ write_bytes blocks number lba request new m m1 is asks all front =
     ap (λ (n : ℕ). option_map (λ (o : Out). take o.len (slot_of m1 n).bytes) (out_of_number m1 number)) place
     ∙ ap (λ (x : Machine). option_map (λ (o : Out). take o.len (slot_of x 1).bytes) (out_of_number m1 number)) here.0
     ∙ ap (λ (o : Option Out). option_map (λ (o : Out). take o.len slot.bytes) o) out
-    ∙ ap (λ (n : ℕ). Some (take n slot.bytes)) (chunk_whole (Writes false) lba new all) ∙ ap Some front
+    ∙ ap (λ (n : ℕ). Some (take n slot.bytes)) (chunk_written lba new all) ∙ ap Some front
 
 -- BYTES OF A CHUNK
 
@@ -151,7 +154,7 @@ pub may_give : (blocks lba : ℕ) (new : List ℕ) (m : Machine) → IsAt blocks
     → MayGive (wanted m 1) (length new)
 may_give blocks lba new m is all =
     let now : Task = moving Reads lba (blocks_of new) in
-    let less : length new ≤ chunk_bytes 128 (job_of Reads lba (blocks_of new)) - 0 = omega (arith, chunk_whole Reads lba new all) in
+    let less : length new ≤ chunk_bytes 128 (job_of Reads lba (blocks_of new)) - 0 = omega (arith, chunk_read lba new all) in
     subst (λ (x : Machine). MayGive (wanted x 1) (length new)) (sym (whole blocks m (Some now) is)) less
 
 pub give_done : (blocks lba : ℕ) (new : List ℕ) (m after : Machine) → IsAt blocks m (Some (moving Reads lba (blocks_of new))) → IsWholeBlocks new
@@ -160,7 +163,7 @@ give_done blocks lba new m after is all gives =
     let job : Job = job_of Reads lba (blocks_of new) in
     let now : Task = moving Reads lba (blocks_of new) in
     let end : moved_on 128 (length new) 0 job (next_chunk 128 0 job) (Moving 0) ≡ ended Good =
-    all_moved (length new) job (next_chunk 128 0 job) (omega (arith, chunk_whole Reads lba new all)) ∙ last_chunk Reads lba new all in
+    all_moved (length new) job (next_chunk 128 0 job) (omega (arith, chunk_read lba new all)) ∙ last_chunk Reads lba new refl all in
     subst (λ (t : Task). IsAt blocks after (Some t)) end
     (quiet_after blocks (slot_of m 1).turn (moved_on 128 (length new) 0 job (next_chunk 128 0 job) (Moving 0)) (slot_of m 1).given (slot_of m 1).bytes
     (drop 1 m.slots) after is.room is.rest (gives ∙ ap (λ (x : Machine). gave x 1 (length new)) (whole blocks m (Some now) is)))
@@ -174,7 +177,7 @@ pub may_take : (blocks lba : ℕ) (new : List ℕ) (m : Machine) → IsAt blocks
     → MayTake (wanted m 1) (length new)
 may_take blocks lba new m is all =
     let now : Task = moving (Writes false) lba (blocks_of new) in
-    let less : length new ≤ chunk_bytes 128 (job_of (Writes false) lba (blocks_of new)) - 0 = omega (arith, chunk_whole (Writes false) lba new all) in
+    let less : length new ≤ chunk_bytes 128 (job_of (Writes false) lba (blocks_of new)) - 0 = omega (arith, chunk_written lba new all) in
     subst (λ (x : Machine). MayTake (wanted x 1) (length new)) (sym (whole blocks m (Some now) is)) less
 
 pub take_done : (blocks lba : ℕ) (new : List ℕ) (m after : Machine) → IsAt blocks m (Some (moving (Writes false) lba (blocks_of new))) → IsWholeBlocks new
@@ -184,7 +187,7 @@ take_done blocks lba new m after is all takes =
     let now : Task = moving (Writes false) lba (blocks_of new) in
     let bytes : List ℕ = with_bytes_at (slot_of m 1).bytes 0 new in
     let then : Task = moved_on 128 (length new) 0 job (Blocks 0 job Asking) (Moving 0) in
-    let asks : then ≡ Blocks 0 job Asking = all_moved (length new) job (Blocks 0 job Asking) (omega (arith, chunk_whole (Writes false) lba new all)) in
+    let asks : then ≡ Blocks 0 job Asking = all_moved (length new) job (Blocks 0 job Asking) (omega (arith, chunk_written lba new all)) in
     let same : after ≡ machine_at blocks (slot_at (Some then) (slot_of m 1).turn (slot_of m 1).given bytes) (drop 1 m.slots) =
     takes ∙ ap (λ (x : Machine). took x 1 new) (whole blocks m (Some now) is) in (
       subst (λ (t : Task). IsAt blocks after (Some t)) asks

@@ -26,7 +26,7 @@ use Rattle.uas_target.proofs.Counts.{slice_get-counts_of}
 use Rattle.uas_tasks.specs.declared.JobKind.{JobKind}
 use Rattle.uas_tasks.specs.declared.Task.{Task}
 use Rattle.uas_tasks.specs.declared.Task.TheVariants.{Blocks, Ended}
-use Rattle.uas_tasks.specs.Jobs.{first_stage, next_chunk}
+use Rattle.uas_tasks.specs.Jobs.{first_stage, most_blocks, next_chunk}
 use Rattle.uas_tasks.specs.Slots.{SlotState}
 use Rattle.task_laws.specs.Backed.{Backed}
 use Rattle.task_laws.specs.Same.{SameSlot, SameWork, job_at, work_on}
@@ -84,9 +84,10 @@ written_alike maps flag lba bytes through = refl
 pub next_alike : (counts : List ℕ) (number : ℕ) (op : Op) (kind : JobKind) (lba count chunk : ℕ) (slot : SlotState) →
     ((next : ℕ) → SameWork (work_on counts op (Some number)) (Some number) next (Some (Blocks number (job_at kind lba count next) (first_stage kind))) slot.given) →
     IsSoundTask counts (TargetMoving (Some number) op chunk) → BLOCK_BYTES * count ≡ moved_bytes op → length slot.bytes ≡ CHUNK_BYTES →
+    most_blocks kind CHUNK_BLOCKS ≡ CHUNK_BLOCKS →
     SameSlot counts (task_in (Some number) (Ok op) (next_progress (BLOCK_BYTES * count) chunk))
     (slot_with (Some (next_chunk CHUNK_BLOCKS number (job_at kind lba count chunk))) slot)
-next_alike counts number op kind lba count chunk slot moves sound all room =
+next_alike counts number op kind lba count chunk slot moves sound all room plain =
     let many : ℕ = min CHUNK_BLOCKS (count - CHUNK_BLOCKS * chunk) in
     let left : CHUNK_BLOCKS * chunk < count = omega (arith, sound.0) in
     let goes_on : ℕ → Task = λ done.
@@ -94,6 +95,7 @@ next_alike counts number op kind lba count chunk slot moves sound all room =
     let ended : Task = Ended (Some number) (Status Good) in
     let both : Bool → Bool → ℕ → Type 0 = λ b c done.
     SameSlot counts (task_in (Some number) (Ok op) (cond b (MovingOn (chunk + 1)) (EndedWith Good))) (slot_with (Some (cond c (goes_on done) ended)) slot) in
+    rw plain (
     elim (cases_lt (CHUNK_BLOCKS * (chunk + 1)) count) as (λ _.
     both (nat_lt (CHUNK_BYTES * (chunk + 1)) (BLOCK_BYTES * count)) (nat_lt (CHUNK_BLOCKS * chunk + many) count) (CHUNK_BLOCKS * chunk + many)) [
       | inl more ↦
@@ -110,4 +112,4 @@ next_alike counts number op kind lba count chunk slot moves sound all room =
           let next : both false false (CHUNK_BLOCKS * chunk + many) = record { chunk = refl; room = room; out = refl; task = refl } in
           subst (λ b. both b (nat_lt (CHUNK_BLOCKS * chunk + many) count) (CHUNK_BLOCKS * chunk + many)) (sym one)
           (subst (λ c. both false c (CHUNK_BLOCKS * chunk + many)) (sym two) next)
-    ]
+    ])

@@ -43,7 +43,7 @@ none_long [] (shape ∷ shapes) new = absurd new
 none_long (unit ∷ units) [] new = absurd new
 
 room_of : (units : List BlockMaps) (shapes : List Shape) → AreNew units shapes → chunk_room CHUNK_BLOCKS (greatest_block (map quiet shapes)) ≡ CHUNK_BYTES
-room_of units shapes new = ap (λ b. CHUNK_BLOCKS * cond b 4096 512) (none_long units shapes new)
+room_of units shapes new = ap (λ b. chunk_room CHUNK_BLOCKS (cond b 4096 512)) (none_long units shapes new)
 
 new_slots : (counts : List ℕ) (many room : ℕ) → room ≡ CHUNK_BYTES → SameTasks counts (replicate many None) (replicate many (fresh_slot CHUNK_BLOCKS room))
 new_slots counts zero room is = tt

@@ -166,7 +166,7 @@ reads_alike device backed tag slot number op chunk lba count same work both soun
           (next_alike (counts_of device.units) number op Reads lba count chunk (filled slot new)
           (λ n. subst (λ (works : Result Work Sense).
           SameWork works (Some number) n (Some (Blocks number (job_at Reads lba count n) Asking)) slot.given) (sym work) refl)
-          sound all (room_kept slot.bytes new both.room (omega (arith, done.size)))))
+          sound all (room_kept slot.bytes new both.room (omega (arith, done.size))) refl))
     ] in
     (subst (λ left. Same (with_task device tag left) (backed_gave backed tag)) (sym left_is) either.0, either.1 ∙ sym given_is)
 

@@ -163,7 +163,7 @@ writes_alike device backed tag bytes slot number op chunk lba count through same
           next_alike (counts_of device.units) number op (Writes through) lba count chunk later
           (λ later_chunk. subst (λ (works : Result Work Sense).
           SameWork works (Some number) later_chunk (Some (Blocks number (job_at (Writes through) lba count later_chunk) (Moving 0))) slot.given) (sym work) refl)
-          sound all room)))
+          sound all room refl)))
     ] in
     subst (λ units. Same (with_units_and_task device tag (units, task_left device.units (TargetMoving (Some number) op chunk))) (backed_took backed tag bytes)) (sym units_are)
     (subst (λ left. Same (device_with device number (unit_by (meets_bad maps at many)) tag left) (backed_took backed tag bytes)) (sym left_is) either)

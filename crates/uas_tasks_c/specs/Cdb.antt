@@ -1,5 +1,5 @@
 -- What a CDB asks of a logical unit as C has it, and the data that it is given.
-use Rattle.std.specs.Prelude.{ℕ, ◌%◌, ◌==◌, nat_lt, not, ◌||◌, if◌then◌else◌, List, length, drop, ◌++◌, Option, None, Some, Result, Ok, Err}
+use Rattle.std.specs.Prelude.{ℕ, ◌%◌, ◌==◌, nat_lt, not, ◌+◌, ◌*◌, ◌||◌, if◌then◌else◌, List, length, drop, ◌++◌, Option, None, Some, Result, Ok, Err}
 use Rattle.c_common.specs.Bytes.{yes}
 use Rattle.c_common.specs.declared.faults.TheConstants.{BLOCKS, CDB_CHECK, TASKS_BLOCK_BYTES, TASKS_LENGTH, TASKS_SERIAL, TASKS_SET, UNITS}
 use Rattle.c_tasks.specs.declared.UasTasksUnit.{UasTasksUnit}

@@ -51,17 +51,17 @@ with_request door (requests.WriteSame unit block count through) =
     record door { kind = 2; through = 2 + yes through; unit = unit; block = block; count = count }
 with_request door (requests.Status unit block count) = record door { kind = 9; through = 0; unit = unit; block = block; count = count }
 
--- NEXT (2): what the device does next on the door's tag; a request is out from then on
-abbrev pub with_next : UasTasksDoor → Next → UasTasksDoor
-with_next door nexts.Absent = record door { phase = 0; length = 0 }
-with_next door (nexts.Gives bytes) = record door { phase = 1; length = bytes }
-with_next door (nexts.Takes bytes) = record door { phase = 2; length = bytes }
-with_next door nexts.Ends = record door { phase = 3; length = 0 }
-with_next door (nexts.Asks number request) = with_request (record door { phase = 4; length = 0; number = number }) request
-with_next door nexts.Waits = record door { phase = 5; length = 0 }
+-- NEXT (2): what the device does next on the door's tag; a request is out from then on, of data of so many bytes
+abbrev pub with_next : Machine → UasTasksDoor → Next → UasTasksDoor
+with_next machine door nexts.Absent = record door { phase = 0; length = 0 }
+with_next machine door (nexts.Gives bytes) = record door { phase = 1; length = bytes }
+with_next machine door (nexts.Takes bytes) = record door { phase = 2; length = bytes }
+with_next machine door nexts.Ends = record door { phase = 3; length = 0 }
+with_next machine door (nexts.Asks number request) = with_request (record door { phase = 4; length = length (unwrap_or (bytes_out machine number) []); number = number }) request
+with_next machine door nexts.Waits = record door { phase = 5; length = 0 }
 
 abbrev pub after_next : Machine → UasTasksDoor → DoorAfter Machine UasTasksDoor
-after_next machine door = let after = next_of machine door.tag in (0, (after.0, with_next door after.1))
+after_next machine door = let after = next_of machine door.tag in (0, (after.0, with_next after.0 door after.1))
 
 -- GIVE (3): as many bytes as there are, of those that the tag gives
 abbrev pub after_give : Machine → UasTasksDoor → List ℕ → After Machine UasTasksDoor

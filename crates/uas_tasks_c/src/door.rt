@@ -1,5 +1,6 @@
 //! A device without blocks for C: information units in, requests, data and information units out, over one call with a door.
-ghost use Rattle.std.specs.Prelude.{◌≡◌};
+ghost use Rattle.std.specs.Prelude.{◌≡◌, [], length, unwrap_or};
+ghost use Rattle.uas_tasks.specs.Machine.{bytes_out};
 ghost use Rattle.uas_tasks_c.specs.TasksCall.{after_answer, after_call, after_data, after_give, after_next, after_receive, after_sent, after_stale, after_status};
 ghost use Rattle.uas_tasks_c.specs.TasksCall.{after_take, answer_told, call_numbered, with_next, with_request, with_took};
 
@@ -140,12 +141,12 @@ fn show_next(tasks: &mut Tasks, door: &mut UasTasksDoor) -> u8
     ensures { (result, (tasks.new, door.new)) ≡ after_next tasks.old door.old }
 {
     let next = tasks.next(door.tag);
-    tell_next(door, &next);
+    tell_next(tasks, door, &next);
     0
 }
 
-fn tell_next(door: &mut UasTasksDoor, next: &Next)
-    ensures { door.new ≡ with_next door.old next.now }
+fn tell_next(tasks: &Tasks, door: &mut UasTasksDoor, next: &Next)
+    ensures { door.new ≡ with_next tasks.now door.old next.now }
 {
     let (phase, length) = match next {
         Next::Absent => (0, 0),
@@ -155,12 +156,22 @@ fn tell_next(door: &mut UasTasksDoor, next: &Next)
         Next::Asks { number, request } => {
             door.number = *number;
             tell_request(door, request);
-            (4, 0)
+            (4, data_bytes(tasks, *number))
         }
         Next::Waits => (5, 0),
     };
     door.phase = phase;
     door.length = length as u64;
+}
+
+/// How many bytes the data of a request have.
+fn data_bytes(tasks: &Tasks, number: u64) -> usize
+    ensures { result ≡ length (unwrap_or (bytes_out tasks.now number) []) }
+{
+    match tasks.request_bytes(number) {
+        Some(bytes) => bytes.len(),
+        None => 0,
+    }
 }
 
 fn tell_request(door: &mut UasTasksDoor, request: &Request)

@@ -28,8 +28,8 @@ use Rattle.uas_tasks.specs.Jobs.{chunk_blocks, chunk_bytes, request_bytes}
 use Rattle.uas_tasks.specs.Slots.{SlotState, fresh_slot}
 use Rattle.uas_tasks.specs.Soundness.{EachFits, IsSoundJob, IsSoundKind, FitsRoom, IsJobOf, IsSoundMachine, IsSoundSlot, IsSoundStage, IsSoundTask, IsTaskWithin, IsUnit, IsWithin, lengths_of, shapes_of}
 use Rattle.host_commands.specs.declared.TheConstants.{MOST_UNMAP_BYTES}
-use Rattle.uas_tasks.specs.Jobs.{kind_bytes, most_blocks}
 use Rattle.uas_tasks.specs.Slots.{chunk_room}
+use Rattle.uas_tasks.proofs.Room.{blocks_most, bytes_of_kind, chunk_fits}
 use Rattle.uas_tasks.proofs.Keeping.{waits}
 use Rattle.uas_tasks.proofs.Places.{shapes_many}
 use Rattle.uas_tasks.proofs.Restoring.{apart, kind_of, task_fits}
@@ -74,49 +74,12 @@ stage-within chunk job Asking sound = asking-within job.kind (chunk_bytes chunk 
 stage-within chunk job Waiting sound = omega arith
 stage-within chunk job (Moving at) sound = moving-within job.kind at (chunk_bytes chunk job) (omega (arith, sound.0))
 
--- a chunk has at most so many blocks
-pub blocks-most : (chunk : ℕ) (kind : JobKind) → most_blocks kind chunk ≤ chunk
-blocks-most chunk Reads = omega arith
-blocks-most chunk ReadsBeforeBad = omega arith
-blocks-most chunk (Writes through) = omega arith
-blocks-most chunk Compares = omega arith
-blocks-most chunk Verifies = omega arith
-blocks-most chunk Synchronizes = omega arith
-blocks-most chunk (WritesAndVerifies compares has_written) = omega arith
-blocks-most chunk (WritesSame unmaps through) = omega arith
-blocks-most chunk (Zeroes unmaps through) = omega arith
-blocks-most chunk (Unmaps list index block count through) = omega arith
-blocks-most chunk (TellsStatus most) = omega arith
-
--- its bytes are those of its blocks, or a list
-kind-bytes : (P : ℕ → Type 0) (blocks all : ℕ) (kind : JobKind) → IsSoundKind all kind → P blocks → ((list : ℕ) → list ≤ MOST_UNMAP_BYTES → P list) →
-    P (kind_bytes kind blocks)
-kind-bytes P blocks all Reads is own list = own
-kind-bytes P blocks all ReadsBeforeBad is own list = own
-kind-bytes P blocks all (Writes through) is own list = own
-kind-bytes P blocks all Compares is own list = own
-kind-bytes P blocks all Verifies is own list = own
-kind-bytes P blocks all Synchronizes is own list = own
-kind-bytes P blocks all (WritesAndVerifies compares has_written) is own list = own
-kind-bytes P blocks all (WritesSame unmaps through) is own list = own
-kind-bytes P blocks all (Zeroes unmaps through) is own list = own
-kind-bytes P blocks all (Unmaps bytes index block count through) is own list = list bytes is.1.0
-kind-bytes P blocks all (TellsStatus most) is own list = own
-
-pub chunk-fits : (chunk room : ℕ) (job : Job) → IsSoundKind job.count job.kind → chunk_room chunk job.block_bytes ≤ room → chunk_bytes chunk job ≤ room
-chunk-fits chunk room job is fits =
-    let less : chunk_blocks chunk job ≤ chunk = omega (arith, blocks-most chunk job.kind) in
-    let all = mul-le job.block_bytes (chunk_blocks chunk job) job.block_bytes chunk (omega arith) less in
-    let turned : job.block_bytes * chunk ≡ chunk * job.block_bytes = grind arith in
-    kind-bytes (λ bytes. bytes ≤ room) (job.block_bytes * chunk_blocks chunk job) job.count job.kind is (omega (arith, all, turned, fits))
-    (λ list most. omega (arith, most, fits))
-
 length-part : (span : Span) (bytes : List ℕ) → span.from + span.many ≤ length bytes → length (part_of span bytes) ≡ span.many
 length-part span bytes within = length-take-le span.many (drop span.from bytes) (omega (arith, length-drop span.from bytes))
 
 stage-fits : (chunk room : ℕ) (job : Job) (stage : Stage) → IsSoundStage chunk job stage → IsSoundKind job.count job.kind → chunk_room chunk job.block_bytes ≤ room →
     (stage_span chunk job stage).from + (stage_span chunk job stage).many ≤ room
-stage-fits chunk room job stage sound is fits = omega (arith, stage-within chunk job stage sound, chunk-fits chunk room job is fits)
+stage-fits chunk room job stage sound is fits = omega (arith, stage-within chunk job stage sound, chunk_fits chunk room job is fits)
 
 -- WHAT IS KEPT IS A STATE
 
@@ -181,8 +144,8 @@ slot-savable units slot sound within still = by_task slot.task sound.task sound.
 -- and at most a chunk
 chunk-few : (chunk : ℕ) (job : Job) → chunk ≤ 128 → IsSoundJob job → chunk_bytes chunk job ≤ 524288
 chunk-few chunk job most sound =
-    kind-bytes (λ bytes. bytes ≤ 524288) (job.block_bytes * chunk_blocks chunk job) job.count job.kind sound.kind
-    (mul-le job.block_bytes (chunk_blocks chunk job) 4096 128 sound.most (omega (arith, most, blocks-most chunk job.kind)))
+    bytes_of_kind (λ bytes. bytes ≤ 524288) (job.block_bytes * chunk_blocks chunk job) job.count job.kind sound.kind
+    (mul-le job.block_bytes (chunk_blocks chunk job) 4096 128 sound.most (omega (arith, most, blocks_most chunk job.kind)))
     (λ list few. omega (arith, few))
 
 task-few : (chunk : ℕ) (given bytes : List ℕ) (task : Task) → chunk ≤ 128 → length given ≤ 604 → IsSoundTask chunk (length given) task →

@@ -1,3 +1,4 @@
+pub mod Room
 pub mod Descriptors
 pub mod Started
 pub mod Sound

@@ -413,15 +413,6 @@ took_task-fits chunk room moved buffer (Some (Ended unit answer)) fits = tt
 took_task-fits chunk room moved buffer (Some (Failed unit failure)) fits = tt
 took_task-fits chunk room moved buffer (Some (Held unit code)) fits = tt
 
--- a chunk buffer has room for a list, and for a block
-pub room-block : (chunk block room : ℕ) → 1 ≤ chunk → chunk_room chunk block ≤ room → block ≤ room
-room-block chunk block room some fits =
-    let once : 1 * block ≤ chunk * block = mul-le-mul_right block some in
-    omega (arith, once, fits)
-
-pub room-list : (chunk block room : ℕ) → chunk_room chunk block ≤ room → MOST_UNMAP_BYTES ≤ room
-room-list chunk block room fits = omega (arith, fits)
-
 -- WHAT AN ANSWER BRINGS
 
 -- the bytes of some of the blocks of a request are no more than all of them have
@@ -430,3 +421,5 @@ brought_most before count len most =
     let all : count * (len / count) ≤ len = mul-div-le len count in
     let some : before * (len / count) ≤ count * (len / count) = mul-le-mul_right (len / count) most in
     omega (arith, all, some)
+
+pub ruleset gives = (gave_task-sound, gave_task-fits)

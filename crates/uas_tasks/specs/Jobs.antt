@@ -227,7 +227,7 @@ unmapped buffer bytes from through unit job =
 
 -- what GET LBA STATUS gives: at most so many bytes, of at most 2^32 - 1 blocks
 abbrev pub told_status : JobKind → ℕ → Bool → ℕ → List ℕ
-told_status (TellsStatus most) lba mapped count = take most (status_data lba (min count 4294967295) mapped)
+told_status (TellsStatus most) lba mapped count = take (min most 24) (status_data lba (min count 4294967295) mapped)
 told_status kind lba mapped count = []
 
 -- The blocks of a READ were read and its bytes go to the host; a WRITE's chunk is done; that of a WRITE AND VERIFY is written, and then found so;

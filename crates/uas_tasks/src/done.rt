@@ -308,11 +308,23 @@ pub(crate) fn came(buffer: &[u8], unit: usize, job: Job) -> Task
 fn same_kind(block: &[u8], unmaps: bool, through: bool) -> JobKind
     ensures { result ≡ (if list_all is_zero block.now then JobKind.Zeroes unmaps through else JobKind.WritesSame unmaps through) }
 {
-    if block.iter().all(|byte| *byte == 0) {
+    if is_zeros(block) {
         JobKind::Zeroes { unmaps, through }
     } else {
         JobKind::WritesSame { unmaps, through }
     }
+}
+
+fn is_zeros(block: &[u8]) -> bool
+    ensures { result ≡ list_all is_zero block.now }
+{
+    block.iter().all(|byte| is_zero(*byte))
+}
+
+fn is_zero(byte: u8) -> bool
+    ensures { result ≡ is_zero byte }
+{
+    byte == 0
 }
 
 /// What GET LBA STATUS gives.

@@ -18,6 +18,7 @@ impl Slot {
     }
 
     /// The bytes that matter while no request is out.
+    #[tactic(auto, using(crate::proofs::Room::chunk_fits))]
     pub(crate) fn kept_bytes(&self) -> &[u8]
         ensures { result.now ≡ kept_bytes self.now }
     {
@@ -32,6 +33,7 @@ impl Slot {
     }
 
     /// It has this state now, with these bytes and 0 where none matter, and no request out.
+    #[tactic(auto, using(crate::proofs::Room::chunk_fits))]
     pub(crate) fn restore(&mut self, state: &TagState, bytes: &[u8])
         requires sound { IfSome state.now.task (IsRestorable self.old.chunk (length bytes.now)) }
         requires fits { IfSome state.now.task (FitsRoom self.old.chunk (length self.old.bytes)) }

@@ -56,7 +56,7 @@ static void draw_good(uint8_t record[MOST_SIZE])
     uint32_t bytes = below(2) ? 512 : 4096, piece = 4096 / bytes;
     memset(record, 0, MOST_SIZE);
     put_little(record, 0, 4, 152);
-    put_little(record, 4, 4, below(2));
+    put_little(record, 4, 4, below(4));
     put_little(record, 8, 8, below(4) ? 1 + below(1u << 20) : 1 + drawn() % (1ull << 48));
     put_little(record, 16, 4, bytes == 512 && below(2) ? 0 : bytes);
     put_little(record, 20, 4, below(3) == 0 ? 0 : below(2) ? bytes : 4096);

@@ -55,6 +55,9 @@ static uint32_t block_length_of(const struct second_disk *disk) { return usual(l
 static uint32_t physical_of(const struct second_disk *disk) { return usual(little(disk->at + 20, 4), block_length_of(disk)); }
 static uint32_t most_of(const struct second_disk *disk) { return usual(little(disk->at + 24, 4), 128); }
 
+static uint32_t discard_of(const struct second_disk *disk) { return usual(little(disk->at + 28, 4), 4096 / block_length_of(disk)); }
+static bool is_thin(const struct second_disk *disk) { return (disk->at[4] & 2) != 0; }
+
 static bool has_naa(const struct second_disk *disk) { return !all_zero(disk->at + 104, 16); }
 static bool has_eui(const struct second_disk *disk) { return !all_zero(disk->at + 120, disk->at[35]); }
 static bool has_uuid(const struct second_disk *disk) { return !all_zero(disk->at + 136, 16); }
@@ -66,7 +69,7 @@ static bool can_be_told(const struct second_disk *disk)
     uint64_t discard = little(disk->at + 28, 4);
     uint32_t rotation = usual(little(disk->at + 32, 2), 1);
     unsigned kind = disk->at[104] >> 4, eui = disk->at[35];
-    if ((little(disk->at + 4, 4) & ~9u) != 0) /* thin, removable and quiet aren't served */
+    if ((little(disk->at + 4, 4) & ~11u) != 0) /* removable and quiet aren't served */
         return false;
     if (physical != bytes && physical != 4096)
         return false;
@@ -223,9 +226,18 @@ static void second_page(const struct second_disk *disk, uint8_t code, struct wri
         told->length = 64;
         break;
     case 0xb0:
-        put(told, 4096 / block_length_of(disk), 4);
+        put(told, 0x01000000 + 4096 / block_length_of(disk), 4);
         put(told, most_of(disk), 4);
         put(told, most_of(disk), 4);
+        put(told, 0, 4);
+        if (is_thin(disk)) {
+            put(told, 1048576, 4);
+            put(told, 32, 4);
+            put(told, discard_of(disk), 4);
+            put(told, 0x80000000, 4);
+        }
+        told->length = 36;
+        put(told, 65528, 8);
         told->length = 64;
         break;
     case 0xb1:
@@ -233,7 +245,7 @@ static void second_page(const struct second_disk *disk, uint8_t code, struct wri
         put(told, disk->at[34], 2);
         told->length = 64;
         break;
-    default: put(told, 0, 4); break;
+    default: put(told, is_thin(disk) ? 0x00e40200 : 0, 4); break;
     }
     told->bytes[3] = (uint8_t)(told->length - 4);
 }
@@ -244,6 +256,7 @@ static void second_capacity(const struct second_disk *disk, struct written *told
     put(told, little(disk->at + 8, 8) - 1, 8);
     put(told, block_length_of(disk), 4);
     put(told, physical_of(disk) > block_length_of(disk) ? 3 : 0, 2);
+    put(told, is_thin(disk) ? 0xc0 : 0, 1);
     told->length = 32;
 }
 

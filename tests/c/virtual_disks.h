@@ -36,7 +36,41 @@ static void own_commands(void)
     is_refused(0, "88 00 00 00 00 00 00 00 00 00 00 00 00 01 00 04", 5, 0x24, 0);
     is_refused(0, "42 00 00 00 00 00 00 00 00 04", 5, 0x20, 0);
     tells("a3 0c 01 34 00 00 00 00 01 00 00 00", "0003000a3400ffffffff00ffff04", 14);
-    tells("a3 0c 00 00 00 00 00 00 00 04 00 00", "000000f0", 4);
+    tells("a3 0c 00 00 00 00 00 00 00 04 00 00", "00000100", 4);
+    is_refused(0, "9e 12 00 00 00 00 00 00 00 00 00 00 00 18 00 00", 5, 0x24, 0);
+    is_refused(0, "41 08 00 00 00 05 00 00 01 00", 5, 0x24, 0);
+    tells("a3 0c 01 41 00 00 00 00 01 00 00 00", "0003000a41ffffffffff00ffff04", 14);
+}
+
+/* A thin one: what it tells, and fields of UNMAP, WRITE SAME and GET LBA STATUS. */
+static void thin_disk(void)
+{
+    struct uas_disk disk = virtual_disk();
+    disk.flags = UAS_DISK_THIN;
+    uas_tasks_free(tasks);
+    CHECK(uas_tasks_new_disks(&disk, disk.size, UAS_SET_DISK, 0, 128, &tasks) == UAS_OK);
+    tells("12 01 b0 00 ff 00", "00b0003c0100000800000800000008000000000000100000000000200000000880000000000000000000fff8", 64);
+    tells("12 01 b2 00 ff 00", "00b2000400e402", 8);
+    tells("9e 10 00 00 00 00 00 00 00 00 00 00 00 20 00 00", "000000000000ffff000002000003c0", 32);
+    tells("a3 0c 00 00 00 00 00 00 00 04 00 00", "00000110", 4);
+    tells("a3 0c 01 42 00 00 00 00 01 00 00 00", "0003000a42010000000000ffff04", 14);
+    tells("a3 0c 02 9e 00 12 00 00 01 00 00 00", "000300109e12ffffffffffffffffffffffff0004", 20);
+    tells("a3 0c 03 93 00 00 00 00 01 00 00 00", "0003001093ffffffffffffffffffffffffff0004", 20);
+    tells("42 00 00 00 00 00 00 00 00 00", "", 0);
+    is_refused(0, "42 01 00 00 00 00 00 00 28 00", 5, 0x24, 0);
+    is_refused(0, "42 00 00 00 00 00 00 02 09 00", 5, 0x24, 0);
+    is_refused(0, "42 00 00 00 00 00 00 00 07 00", 5, 0x1a, 0);
+    is_refused(0, "93 18 00 00 00 00 00 00 00 05 00 00 00 01 00 00", 5, 0x24, 0);
+    is_refused(0, "93 00 00 00 00 00 00 00 00 05 00 00 00 00 00 00", 5, 0x24, 0);
+    is_refused(0, "93 00 00 00 00 00 00 00 00 05 00 00 ff f9 00 00", 5, 0x24, 0);
+    is_refused(0, "93 01 00 00 00 00 00 00 ff ff 00 00 00 02 00 00", 5, 0x21, 0);
+    is_refused(0, "41 01 00 00 00 05 00 00 01 00", 5, 0x24, 0);
+    is_refused(0, "9e 12 00 00 00 00 00 01 00 00 00 00 00 18 00 00", 5, 0x21, 0);
+    disk.flags = UAS_DISK_THIN | UAS_DISK_READ_ONLY;
+    uas_tasks_free(tasks);
+    CHECK(uas_tasks_new_disks(&disk, disk.size, UAS_SET_DISK, 0, 128, &tasks) == UAS_OK);
+    is_refused(0, "42 00 00 00 00 00 00 00 07 00", 7, 0x27, 0);
+    is_refused(0, "41 08 00 00 ff ff 00 00 02 00", 7, 0x27, 0);
 }
 
 /* WRITE AND VERIFY: two blocks with either check, one that is bad, and fields. */
@@ -83,7 +117,7 @@ static void virtual_disks(void)
     tells("12 01 83 00 ff 00", "008300450201001f41434d4520202020564449534b2020202020202020202020514d3030303432010300085000000000000042"
         "010a00121000" "00112233445566778899aabbccddeeff", 73);
     tells("12 01 86 00 ff 00", "0086003c000101", 64);
-    tells("12 01 b0 00 ff 00", "00b0003c000000080000080000000800", 64);
+    tells("12 01 b0 00 ff 00", "00b0003c010000080000080000000800" "0000000000000000000000000000000000000000" "000000000000fff8", 64);
     tells("12 01 b1 00 ff 00", "00b1003c1c200002", 64);
     tells("12 01 b2 00 ff 00", "00b20004", 8);
     tells("9e 10 00 00 00 00 00 00 00 00 00 00 00 20 00 00", "000000000000ffff000002000003", 32);
@@ -92,6 +126,8 @@ static void virtual_disks(void)
     CHECK(ended.status == UAS_CHECK_CONDITION && memcmp(ended.sense, (uint8_t[]){ 5, 0x24, 0 }, 3) == 0);
     own_commands();
     written_and_verified();
+    thin_disk();
+    disk = virtual_disk();
     /* one that is written through: its caching page, and the request of a WRITE without FUA */
     disk.flags = UAS_DISK_WRITE_THROUGH;
     uas_tasks_free(tasks);
@@ -111,7 +147,7 @@ static const struct {
     uint64_t value;
     uint8_t fault;
 } disk_rows[] = {
-    { 0, 4, 15, UAS_TASKS_SIZE }, { 0, 4, 153, UAS_TASKS_SIZE }, { 4, 4, 1, UAS_OK }, { 4, 4, 2, UAS_TASKS_DISK }, { 4, 4, 4, UAS_TASKS_DISK },
+    { 0, 4, 15, UAS_TASKS_SIZE }, { 0, 4, 153, UAS_TASKS_SIZE }, { 4, 4, 1, UAS_OK }, { 4, 4, 2, UAS_OK }, { 4, 4, 4, UAS_TASKS_DISK },
     { 4, 4, 8, UAS_OK }, { 4, 4, 16, UAS_TASKS_DISK }, { 4, 4, 32, UAS_TASKS_DISK }, { 8, 8, 0, UAS_BLOCKS }, { 8, 8, 1ull << 48, UAS_OK },
     { 8, 8, (1ull << 48) + 1, UAS_BLOCKS }, { 16, 4, 512, UAS_OK }, { 16, 4, 4096, UAS_OK }, { 16, 4, 1024, UAS_TASKS_BLOCK_BYTES }, { 20, 4, 0, UAS_OK },
     { 20, 4, 512, UAS_OK }, { 20, 4, 1024, UAS_TASKS_DISK }, { 24, 4, 0, UAS_OK }, { 24, 4, 65528, UAS_OK }, { 24, 4, 65536, UAS_TASKS_DISK },

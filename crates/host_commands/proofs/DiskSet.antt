@@ -1,5 +1,5 @@
 -- In the disk set too, what a CDB asks is a function of the bits that are told as used. Cited by the law `usage_is_what_is_read`.
-use Rattle.std.proofs.Common.{◌≡◌, ℕ, ◌-◌, ◌/◌, ◌%◌, ◌^◌, ◌==◌, Bool, true, false, not, ◌&&◌, ◌||◌, if◌then◌else◌, nat_lt, List, Option, Some, Result, Ok, Err}
+use Rattle.std.proofs.Common.{◌≡◌, ℕ, ◌-◌, ◌/◌, ◌%◌, ◌^◌, ◌==◌, Bool, true, false, not, ◌&&◌, ◌||◌, if◌then◌else◌, nat_lt, nat_le, min, List, Option, Some, Result, Ok, Err}
 use Rattle.std.proofs.Common.{length, slice_index, slice_set, refl, sym, ap, ap₂, ◌∙◌, arith}
 use Rattle.std.specs.Prelude.{option_map}
 use Rattle.std.proofs.Math.Nat.{zero-div}
@@ -7,7 +7,7 @@ use Rattle.std.proofs.lemmas.Bool.{eqb-false, eqb-true}
 use Rattle.std.proofs.lemmas.List.{get_or-set_other}
 use Rattle.scsi_cmd.specs.Fields.{is_bit_set}
 use Rattle.scsi_cmd.specs.declared.Sense.{Sense}
-use Rattle.scsi_cmd.specs.Sense.{invalid_field_in_cdb}
+use Rattle.scsi_cmd.specs.Sense.{invalid_field_in_cdb, out_of_range}
 use Rattle.disk_units.specs.declared.names.UnitNames.{UnitNames}
 use Rattle.disk_units.specs.declared.unit.DiskUnit.{DiskUnit}
 use Rattle.disk_units.specs.Names.{usual_names}
@@ -16,6 +16,7 @@ use Rattle.disk_units.specs.Units.{usual_unit}
 use Rattle.host_commands.specs.declared.Data.TheVariants.{Disk as DiskSet}
 use Rattle.host_commands.specs.declared.disk_commands.DiskCommand.{DiskCommand}
 use Rattle.host_commands.specs.declared.disk_commands.DiskCommand.TheVariants.{Host as HostOne, SendDiagnostic, PreFetch10, PreFetch16, WriteAndVerify10, WriteAndVerify12, WriteAndVerify16}
+use Rattle.host_commands.specs.declared.disk_commands.DiskCommand.TheVariants.{WriteSame10, WriteSame16, Unmap, GetLbaStatus}
 use Rattle.host_commands.specs.declared.HostCommand.{HostCommand}
 use Rattle.host_commands.specs.declared.HostCommand.TheVariants.{TestUnitReady, RequestSense, Read6, Write6, Inquiry, ModeSense6, StartStopUnit, ReadCapacity10}
 use Rattle.host_commands.specs.declared.HostCommand.TheVariants.{Read10, Write10, Verify10, SynchronizeCache10, ModeSense10, Read16, Write16, Verify16}
@@ -23,21 +24,21 @@ use Rattle.host_commands.specs.declared.HostCommand.TheVariants.{SynchronizeCach
 use Rattle.host_commands.specs.declared.HostCommand.TheVariants.{ReportSupportedTaskManagementFunctions, Read12, Write12, Verify12}
 use Rattle.host_commands.specs.declared.UnitAttention.{UnitAttention}
 use Rattle.host_commands.specs.declared.Work.{Work}
-use Rattle.host_commands.specs.declared.Work.TheVariants.{Nothing, Gives, WritesAndVerifies}
+use Rattle.host_commands.specs.declared.Work.TheVariants.{Nothing, Gives, WritesAndVerifies, Unmaps, WritesSame, TellsStatus}
 use Rattle.host_commands.specs.Commands.{has_service_actions, of_maintenance, sixteen_usage, ten_usage, twelve_usage, usage_of}
 use Rattle.host_commands.specs.declared.fields.Extent.{Extent}
 use Rattle.host_commands.specs.Protection.{write_protected}
 use Rattle.scsi_cmd.specs.Meaning.{asks_for_protection}
-use Rattle.host_commands.specs.DiskCommands.{asks_for_naca, control_place, disk_usage, named_in_disk}
+use Rattle.host_commands.specs.DiskCommands.{asks_for_naca, control_place, disk_usage, is_there, named_in_disk}
 use Rattle.host_commands.specs.Fields.{action_in, code_in, sixteen_extent, ten_extent, twelve_extent}
 use Rattle.host_commands.specs.OperationCodes.{disk_action_of}
 use Rattle.host_commands.specs.Meaning.{asked_of, asked_of_none, diagnostic_asked, disk_codes_asked, disk_command_asked, disk_inquiry_asked, disk_named_asked}
-use Rattle.host_commands.specs.Meaning.{disk_operation_codes_asked, disk_page_asked, host_asked_in_disk, in_range, is_answered_of_none, pre_fetched, uncached_if, writes_and_verifies}
+use Rattle.host_commands.specs.Meaning.{disk_operation_codes_asked, disk_page_asked, host_asked_in_disk, in_range, is_answered_of_none, parameter_list_length_error, pre_fetched, uncached_if, unmap_asked, writes_and_verifies}
 use Rattle.host_commands.specs.Shapes.{Shape, block_bytes}
 use Rattle.host_commands.specs.Told.{code_of, disk_code_of}
 use Rattle.host_commands.specs.Usage.{AgreeWhereReadInDisk, DiskUsageIsWhatIsRead, DiskUsageIsWhatIsReadOfNone, IsDiskCdbOf, hints_of, is_read, is_read_in_disk}
 use Rattle.host_commands.proofs.Used.{Pair, byte, codes_fields, command_same, none_by, none_same, three}
-use Rattle.host_commands.proofs.UsedBits.{eight, four, high_four, high_three, high_two, low_two, middle_two, sixteen, ten, twelve, two, whole_in_disk}
+use Rattle.host_commands.proofs.UsedBits.{all_bits, eight, four, high_four, high_three, high_two, low_two, middle_two, sixteen, ten, twelve, two, whole_in_disk}
 
 abbrev inquiry_by : Bool → DiskUnit → UnitNames → ℕ → ℕ → Bool → ℕ → ℕ → Result Work Sense
 inquiry_by present disk names number bytes vital page allocation =
@@ -55,9 +56,10 @@ capacity_by shape action allocation =
     if not (action == 0x10) then Err invalid_field_in_cdb
     else Ok (Gives (DiskSet (long_capacity shape.disk (shape.blocks - 1) (block_bytes shape.block_length))) allocation)
 
-disk_codes_same : (one other : List ℕ) → Pair ReportSupportedOperationCodes one other
-    → disk_operation_codes_asked one ≡ disk_operation_codes_asked other
-disk_codes_same one other pair = codes_fields disk_codes_asked one other pair
+disk_codes_same : (one other : List ℕ) (thin : Bool) → Pair ReportSupportedOperationCodes one other
+    → disk_operation_codes_asked one thin ≡ disk_operation_codes_asked other thin
+disk_codes_same one other thin pair =
+    codes_fields (λ option code action allocation timeouts. disk_codes_asked option code action allocation timeouts thin) one other pair
 
 host_same : (command : HostCommand) (one other : List ℕ) (count : ℕ) (shape : Shape) (attention : Option UnitAttention) → Pair command one other
     → host_asked_in_disk command one shape count attention ≡ host_asked_in_disk command other shape count attention
@@ -67,7 +69,7 @@ host_same ReadCapacity16 one other count shape attention pair =
     let at = byte ReadCapacity16 one other pair (usage_of ReadCapacity16) refl in
     ap₂ (capacity_by shape) (pair.one_is.action refl ∙ sym (pair.other_is.action refl))
     (four one other 10 (two one other 10 (at 10 refl refl) (at 11 refl refl)) (two one other 12 (at 12 refl refl) (at 13 refl refl)))
-host_same ReportSupportedOperationCodes one other count shape attention pair = disk_codes_same one other pair
+host_same ReportSupportedOperationCodes one other count shape attention pair = disk_codes_same one other shape.disk.thin pair
 host_same command one other count shape attention pair = command_same command one other shape.disk.most count shape attention pair
 
 -- NACA BESIDE WHAT THE HOST SET LOOKS AT
@@ -165,6 +167,10 @@ naca_told PreFetch16 = refl
 naca_told WriteAndVerify10 = refl
 naca_told WriteAndVerify12 = refl
 naca_told WriteAndVerify16 = refl
+naca_told WriteSame10 = refl
+naca_told WriteSame16 = refl
+naca_told Unmap = refl
+naca_told GetLbaStatus = refl
 
 naca_same : (command : DiskCommand) (one other : List ℕ) → DiskPair command one other → asks_for_naca one ≡ asks_for_naca other
 naca_same command one other pair =
@@ -238,6 +244,50 @@ written_same command one other shape pair s1 s2 s5 s6 s7 same =
     ap (λ (n : ℕ). not (n == 0)) (high_three x y (pair.agree 1 5 (omega arith) s5) top) in
     three (written_by shape) protects (middle_two x y (pair.agree 1 1 (omega arith) s1) (pair.agree 1 2 (omega arith) s2)) same
 
+abbrev unmap_by : Shape → Bool → ℕ → Result Work Sense
+unmap_by shape anchor list =
+    if anchor || nat_lt 520 list then Err invalid_field_in_cdb
+    else (if shape.read_only then Err write_protected
+    else (if list == 0 then Ok Nothing
+    else (if nat_lt list 8 then Err parameter_list_length_error
+    else Ok (Unmaps list shape.disk.write_through))))
+
+unmap_same : (one other : List ℕ) (shape : Shape) → DiskPair Unmap one other → unmap_asked one shape ≡ unmap_asked other shape
+unmap_same one other shape pair =
+    let at = whole_in_disk Unmap one other pair.one_is pair.other_is pair.agree in
+    ap₂ (unmap_by shape) (pair.agree 1 0 (omega arith) refl) (two one other 7 (at 7 refl refl) (at 8 refl refl))
+
+-- every bit of byte 1 of WRITE SAME is told
+abbrev same_by : Shape → Bool → Bool → ℕ → Extent → Result Work Sense
+same_by shape invalid takes flags extent =
+    if invalid || ((not (flags / 2 ^ 4 == 0) || not (flags / 2 % 2 ^ 2 == 0))
+    || ((is_bit_set flags 3 && not shape.disk.thin) || (extent.count == 0 || nat_lt 65528 extent.count))) then Err invalid_field_in_cdb
+    else (if shape.read_only then Err write_protected
+    else in_range shape.blocks extent.lba extent.count (WritesSame extent.lba extent.count takes (is_bit_set flags 3) shape.disk.write_through))
+
+abbrev same_ten_by : Shape → ℕ → Extent → Result Work Sense
+same_ten_by shape flags extent = same_by shape (is_bit_set flags 0) true flags extent
+
+abbrev same_sixteen_by : Shape → ℕ → Extent → Result Work Sense
+same_sixteen_by shape flags extent = same_by shape false (not (is_bit_set flags 0)) flags extent
+
+ten_flags : (one other : List ℕ) → DiskPair WriteSame10 one other → slice_index one 1 ≡ slice_index other 1
+ten_flags one other pair =
+    all_bits (slice_index one 1) (slice_index other 1) (pair.one_is.bytes 1) (pair.other_is.bytes 1)
+    (pair.agree 1 0 (omega arith) refl) (pair.agree 1 1 (omega arith) refl) (pair.agree 1 2 (omega arith) refl) (pair.agree 1 3 (omega arith) refl)
+    (pair.agree 1 4 (omega arith) refl) (pair.agree 1 5 (omega arith) refl) (pair.agree 1 6 (omega arith) refl) (pair.agree 1 7 (omega arith) refl)
+
+sixteen_flags : (one other : List ℕ) → DiskPair WriteSame16 one other → slice_index one 1 ≡ slice_index other 1
+sixteen_flags one other pair =
+    all_bits (slice_index one 1) (slice_index other 1) (pair.one_is.bytes 1) (pair.other_is.bytes 1)
+    (pair.agree 1 0 (omega arith) refl) (pair.agree 1 1 (omega arith) refl) (pair.agree 1 2 (omega arith) refl) (pair.agree 1 3 (omega arith) refl)
+    (pair.agree 1 4 (omega arith) refl) (pair.agree 1 5 (omega arith) refl) (pair.agree 1 6 (omega arith) refl) (pair.agree 1 7 (omega arith) refl)
+
+abbrev status_by : ℕ → Extent → Result Work Sense
+status_by blocks extent =
+    if nat_le blocks extent.lba then Err out_of_range
+    else Ok (TellsStatus extent.lba (min (blocks - extent.lba) (2 ^ 32 - 1)) extent.count)
+
 disk_same : (command : DiskCommand) (one other : List ℕ) (count : ℕ) (shape : Shape) (attention : Option UnitAttention) → DiskPair command one other
     → disk_command_asked command one shape count attention ≡ disk_command_asked command other shape count attention
 disk_same (HostOne command) one other count shape attention pair =
@@ -253,52 +303,66 @@ disk_same WriteAndVerify16 one other count shape attention pair =
     written_same WriteAndVerify16 one other shape pair refl refl refl refl refl (sixteen_in_disk WriteAndVerify16 one other pair _ _ refl)
 disk_same WriteAndVerify12 one other count shape attention pair =
     written_same WriteAndVerify12 one other shape pair refl refl refl refl refl (twelve_in_disk WriteAndVerify12 one other pair _ _ refl)
+disk_same WriteSame10 one other count shape attention pair =
+    ap₂ (same_ten_by shape) (ten_flags one other pair) (ten_in_disk WriteSame10 one other pair _ _ refl)
+disk_same WriteSame16 one other count shape attention pair =
+    ap₂ (same_sixteen_by shape) (sixteen_flags one other pair) (sixteen_in_disk WriteSame16 one other pair _ _ refl)
+disk_same Unmap one other count shape attention pair = unmap_same one other shape pair
+disk_same GetLbaStatus one other count shape attention pair =
+    ap (status_by shape.blocks) (sixteen_in_disk GetLbaStatus one other pair _ _ refl)
 
 -- by its operation code and its service action
-by_disk_code : (command : DiskCommand) (action : ℕ) → (has_service_actions (disk_code_of command) ≡ true → action ≡ disk_action_of command)
-    → named_in_disk (disk_code_of command) action ≡ Some command
-by_disk_code (HostOne ReportSupportedOperationCodes) action is = ap (λ n. option_map HostOne (of_maintenance n)) (is refl)
-by_disk_code (HostOne ReportSupportedTaskManagementFunctions) action is = ap (λ n. option_map HostOne (of_maintenance n)) (is refl)
-by_disk_code (HostOne TestUnitReady) action is = refl
-by_disk_code (HostOne RequestSense) action is = refl
-by_disk_code (HostOne Read6) action is = refl
-by_disk_code (HostOne Write6) action is = refl
-by_disk_code (HostOne Inquiry) action is = refl
-by_disk_code (HostOne ModeSense6) action is = refl
-by_disk_code (HostOne StartStopUnit) action is = refl
-by_disk_code (HostOne ReadCapacity10) action is = refl
-by_disk_code (HostOne Read10) action is = refl
-by_disk_code (HostOne Write10) action is = refl
-by_disk_code (HostOne Verify10) action is = refl
-by_disk_code (HostOne SynchronizeCache10) action is = refl
-by_disk_code (HostOne ModeSense10) action is = refl
-by_disk_code (HostOne Read16) action is = refl
-by_disk_code (HostOne Write16) action is = refl
-by_disk_code (HostOne Verify16) action is = refl
-by_disk_code (HostOne SynchronizeCache16) action is = refl
-by_disk_code (HostOne ReadCapacity16) action is = refl
-by_disk_code (HostOne ReportLuns) action is = refl
-by_disk_code (HostOne Read12) action is = refl
-by_disk_code (HostOne Write12) action is = refl
-by_disk_code (HostOne Verify12) action is = refl
-by_disk_code SendDiagnostic action is = refl
-by_disk_code PreFetch10 action is = refl
-by_disk_code WriteAndVerify10 action is = refl
-by_disk_code WriteAndVerify12 action is = refl
-by_disk_code WriteAndVerify16 action is = refl
-by_disk_code PreFetch16 action is = refl
+by_disk_code : (command : DiskCommand) (action : ℕ) (thin : Bool) → is_there thin command ≡ true
+    → (has_service_actions (disk_code_of command) ≡ true → action ≡ disk_action_of command)
+    → named_in_disk (disk_code_of command) action thin ≡ Some command
+by_disk_code (HostOne ReportSupportedOperationCodes) action thin there is = ap (λ n. option_map HostOne (of_maintenance n)) (is refl)
+by_disk_code (HostOne ReportSupportedTaskManagementFunctions) action thin there is = ap (λ n. option_map HostOne (of_maintenance n)) (is refl)
+by_disk_code (HostOne TestUnitReady) action thin there is = refl
+by_disk_code (HostOne RequestSense) action thin there is = refl
+by_disk_code (HostOne Read6) action thin there is = refl
+by_disk_code (HostOne Write6) action thin there is = refl
+by_disk_code (HostOne Inquiry) action thin there is = refl
+by_disk_code (HostOne ModeSense6) action thin there is = refl
+by_disk_code (HostOne StartStopUnit) action thin there is = refl
+by_disk_code (HostOne ReadCapacity10) action thin there is = refl
+by_disk_code (HostOne Read10) action thin there is = refl
+by_disk_code (HostOne Write10) action thin there is = refl
+by_disk_code (HostOne Verify10) action thin there is = refl
+by_disk_code (HostOne SynchronizeCache10) action thin there is = refl
+by_disk_code (HostOne ModeSense10) action thin there is = refl
+by_disk_code (HostOne Read16) action thin there is = refl
+by_disk_code (HostOne Write16) action thin there is = refl
+by_disk_code (HostOne Verify16) action thin there is = refl
+by_disk_code (HostOne SynchronizeCache16) action thin there is = refl
+by_disk_code (HostOne ReadCapacity16) action thin there is = ap (λ (n : ℕ). named_in_disk 0x9e n thin) (is refl)
+by_disk_code (HostOne ReportLuns) action thin there is = refl
+by_disk_code (HostOne Read12) action thin there is = refl
+by_disk_code (HostOne Write12) action thin there is = refl
+by_disk_code (HostOne Verify12) action thin there is = refl
+by_disk_code SendDiagnostic action thin there is = refl
+by_disk_code PreFetch10 action thin there is = refl
+by_disk_code WriteAndVerify10 action thin there is = refl
+by_disk_code WriteAndVerify12 action thin there is = refl
+by_disk_code WriteAndVerify16 action thin there is = refl
+by_disk_code PreFetch16 action thin there is = refl
+by_disk_code WriteSame10 action thin there is = refl
+by_disk_code WriteSame16 action thin there is = refl
+by_disk_code Unmap action thin there is = ap (λ (b : Bool). named_in_disk 0x42 action b) there
+by_disk_code GetLbaStatus action thin there is = ap₂ (λ (n : ℕ) (b : Bool). named_in_disk 0x9e n b) (is refl) there
 
-named : (command : DiskCommand) (cdb : List ℕ) → IsDiskCdbOf command cdb → named_in_disk (code_in cdb) (action_in cdb) ≡ Some command
-named command cdb is = ap (λ (code : ℕ). named_in_disk code (action_in cdb)) is.code ∙ by_disk_code command (action_in cdb) is.action
+named : (command : DiskCommand) (cdb : List ℕ) (thin : Bool) → is_there thin command ≡ true → IsDiskCdbOf command cdb
+    → named_in_disk (code_in cdb) (action_in cdb) thin ≡ Some command
+named command cdb thin there is =
+    ap (λ (code : ℕ). named_in_disk code (action_in cdb) thin) is.code ∙ by_disk_code command (action_in cdb) thin there is.action
 
 pub disk_usage_is_read : DiskUsageIsWhatIsRead
 unfolding asked_of
-disk_usage_is_read command one other count shape attention one_is other_is agree =
+disk_usage_is_read command one other count shape attention there one_is other_is agree =
     let pair : DiskPair command one other = record { one_is = one_is; other_is = other_is; agree = agree } in
-    ap (λ (c : Option DiskCommand). disk_named_asked c one shape count attention) (named command one one_is)
+    ap (λ (c : Option DiskCommand). disk_named_asked c one shape count attention) (named command one shape.disk.thin there one_is)
     ∙ ap₂ (λ (naca : Bool) (asked : Result Work Sense). if naca then Err invalid_field_in_cdb else asked) (naca_same command one other pair)
     (disk_same command one other count shape attention pair)
-    ∙ sym (ap (λ (c : Option DiskCommand). disk_named_asked c other shape count attention) (named command other other_is))
+    ∙ sym (ap (λ (c : Option DiskCommand). disk_named_asked c other shape count attention) (named command other shape.disk.thin there other_is))
 
 -- where no logical unit is
 abbrev no_disk_by : List ℕ → ℕ → ℕ → Result Work Sense
@@ -321,6 +385,10 @@ no_disk_same WriteAndVerify10 one other count pair = refl
 no_disk_same WriteAndVerify12 one other count pair = refl
 no_disk_same WriteAndVerify16 one other count pair = refl
 no_disk_same PreFetch16 one other count pair = refl
+no_disk_same WriteSame10 one other count pair = refl
+no_disk_same WriteSame16 one other count pair = refl
+no_disk_same Unmap one other count pair = refl
+no_disk_same GetLbaStatus one other count pair = refl
 
 pub disk_usage_is_read_of_none : DiskUsageIsWhatIsReadOfNone
 unfolding asked_of_none

@@ -1,5 +1,5 @@
 -- Nothing asked of a read-only logical unit changes blocks. Cited by the law `read_only_is_kept`.
-use Rattle.std.proofs.Common.{◌≡◌, ℕ, ◌+◌, ◌/◌, ◌^◌, ◌%◌, ◌==◌, Bool, true, false, cond, ◌||◌, List, Option, Some, None, Result, Ok, Err, IfOk, refl, sym, subst}
+use Rattle.std.proofs.Common.{◌≡◌, ℕ, ◌+◌, ◌/◌, ◌^◌, ◌%◌, ◌==◌, Bool, true, false, not, cond, ◌||◌, List, Option, Some, None, Result, Ok, Err, IfOk, refl, sym, subst}
 use Rattle.std.specs.Prelude.{nat_lt, nat_le, slice_index}
 use Rattle.scsi_cmd.specs.declared.Op.{Op}
 use Rattle.scsi_cmd.specs.declared.Sense.{Sense}
@@ -21,17 +21,18 @@ use Rattle.disk_units.specs.declared.names.UnitNames.{UnitNames}
 use Rattle.host_commands.specs.declared.UnitAttention.{UnitAttention}
 use Rattle.host_commands.specs.declared.VitalPage.{VitalPage}
 use Rattle.host_commands.specs.declared.Work.{Work}
-use Rattle.host_commands.specs.declared.Work.TheVariants.{Nothing, Gives, Reads, Writes, Synchronizes, Verifies, Compares, WritesAndVerifies}
+use Rattle.host_commands.specs.declared.Work.TheVariants.{Nothing, Gives, Reads, Writes, Synchronizes, Verifies, Compares, WritesAndVerifies, Unmaps, WritesSame, TellsStatus}
 use Rattle.host_commands.specs.declared.Data.TheVariants.{LogicalUnits, OperationCodes, OperationCode, DiskOperationCodes, DiskOperationCode, TaskManagementFunctions}
 use Rattle.host_commands.specs.declared.disk_commands.DiskCommand.{DiskCommand}
 use Rattle.host_commands.specs.declared.disk_commands.DiskCommand.TheVariants.{Host as HostOne, SendDiagnostic, PreFetch10, PreFetch16, WriteAndVerify10, WriteAndVerify12, WriteAndVerify16}
+use Rattle.host_commands.specs.declared.disk_commands.DiskCommand.TheVariants.{WriteSame10, WriteSame16, Unmap, GetLbaStatus}
 use Rattle.host_commands.specs.DiskCommands.{asks_for_naca, named_in_disk}
 use Rattle.host_commands.specs.declared.ModeForm.TheVariants.{Six, Ten}
 use Rattle.host_commands.specs.Commands.{has_service_actions, named_command}
 use Rattle.host_commands.specs.OperationCodes.{disk_action, disk_either, named_action, named_either}
 use Rattle.host_commands.specs.Fields.{action_in, code_in, short_extent, sixteen_extent, ten_extent, twelve_extent}
 use Rattle.host_commands.specs.Laws.{ReadOnlyIsKept}
-use Rattle.host_commands.specs.Meaning.{asked_of, codes_asked, command_asked, disk_codes_asked, disk_command_asked, disk_named_asked, disk_page_asked, host_asked_in_disk, one_disk_code, uncached, uncached_if, goes_through, one_code, report_luns_asked, in_range, inquiry_asked, mode_sense_asked, named_asked, page_asked, pages_asked, reads, synchronizes, transferred, verifies, writes, writes_and_verifies}
+use Rattle.host_commands.specs.Meaning.{asked_of, codes_asked, command_asked, disk_codes_asked, disk_command_asked, disk_named_asked, disk_page_asked, host_asked_in_disk, one_disk_code, uncached, uncached_if, goes_through, one_code, report_luns_asked, in_range, inquiry_asked, mode_sense_asked, named_asked, page_asked, pages_asked, reads, same_asked, synchronizes, transferred, unmap_asked, verifies, writes, writes_and_verifies}
 use Rattle.host_commands.specs.Profile.{profile_work, profile_works}
 use Rattle.host_commands.specs.Protection.{allowed, changes_blocks, write_protected}
 use Rattle.host_commands.specs.Shapes.{Shape}
@@ -166,22 +167,22 @@ disk-page-keeps present allocation (Some page) = done _ refl
 disk-code-keeps : (allocation : ℕ) (timeouts : Bool) (command : Option DiskCommand) → Keeps (one_disk_code allocation timeouts command)
 disk-code-keeps allocation timeouts command = done (Gives (DiskOperationCode command timeouts) allocation) refl
 
-disk-codes-keeps : (option code action allocation : ℕ) (timeouts : Bool) → Keeps (disk_codes_asked option code action allocation timeouts)
-disk-codes-keeps option code action allocation timeouts =
+disk-codes-keeps : (option code action allocation : ℕ) (timeouts thin : Bool) → Keeps (disk_codes_asked option code action allocation timeouts thin)
+disk-codes-keeps option code action allocation timeouts thin =
     let fault : Result Work Sense = Err invalid_field_in_cdb in
-    let plain : Result Work Sense = cond (has_service_actions code) fault (one_disk_code allocation timeouts (named_in_disk code 0)) in
-    let acting : Result Work Sense = cond (has_service_actions code) (one_disk_code allocation timeouts (disk_action code action)) fault in
-    let either : Result Work Sense = cond (option == 3) (one_disk_code allocation timeouts (disk_either code action)) fault in
-    one_of (option == 0) (Ok (Gives (DiskOperationCodes timeouts) allocation)) (cond (option == 1) plain (cond (option == 2) acting either))
-    (done (Gives (DiskOperationCodes timeouts) allocation) refl)
+    let plain : Result Work Sense = cond (has_service_actions code) fault (one_disk_code allocation timeouts (named_in_disk code 0 thin)) in
+    let acting : Result Work Sense = cond (has_service_actions code) (one_disk_code allocation timeouts (disk_action code action thin)) fault in
+    let either : Result Work Sense = cond (option == 3) (one_disk_code allocation timeouts (disk_either code action thin)) fault in
+    one_of (option == 0) (Ok (Gives (DiskOperationCodes thin timeouts) allocation)) (cond (option == 1) plain (cond (option == 2) acting either))
+    (done (Gives (DiskOperationCodes thin timeouts) allocation) refl)
     (one_of (option == 1) plain (cond (option == 2) acting either)
-    (one_of (has_service_actions code) fault (one_disk_code allocation timeouts (named_in_disk code 0)) (refused invalid_field_in_cdb)
-    (disk-code-keeps allocation timeouts (named_in_disk code 0)))
+    (one_of (has_service_actions code) fault (one_disk_code allocation timeouts (named_in_disk code 0 thin)) (refused invalid_field_in_cdb)
+    (disk-code-keeps allocation timeouts (named_in_disk code 0 thin)))
     (one_of (option == 2) acting either
-    (one_of (has_service_actions code) (one_disk_code allocation timeouts (disk_action code action)) fault
-    (disk-code-keeps allocation timeouts (disk_action code action)) (refused invalid_field_in_cdb))
-    (one_of (option == 3) (one_disk_code allocation timeouts (disk_either code action)) fault
-    (disk-code-keeps allocation timeouts (disk_either code action)) (refused invalid_field_in_cdb))))
+    (one_of (has_service_actions code) (one_disk_code allocation timeouts (disk_action code action thin)) fault
+    (disk-code-keeps allocation timeouts (disk_action code action thin)) (refused invalid_field_in_cdb))
+    (one_of (option == 3) (one_disk_code allocation timeouts (disk_either code action thin)) fault
+    (disk-code-keeps allocation timeouts (disk_either code action thin)) (refused invalid_field_in_cdb))))
 
 host-in-disk-keeps : (command : HostCommand) (cdb : List ℕ) (shape : Shape) (count : ℕ) (attention : Option UnitAttention) → shape.read_only ≡ true
     → Keeps (host_asked_in_disk command cdb shape count attention)
@@ -189,7 +190,7 @@ host-in-disk-keeps Inquiry cdb shape count attention is =
     one_of _ _ _ (disk-page-keeps true _ _) (one_of _ _ _ (done _ refl) (refused _))
 host-in-disk-keeps ReadCapacity16 cdb shape count attention is = one_of _ _ _ (refused _) (done _ refl)
 host-in-disk-keeps ReportSupportedOperationCodes cdb shape count attention is =
-    disk-codes-keeps (slice_index cdb 2 % 2 ^ 3) (slice_index cdb 3) (field_of_two cdb 4) (field_of_four cdb 6) (is_bit_set (slice_index cdb 2) 7)
+    disk-codes-keeps (slice_index cdb 2 % 2 ^ 3) (slice_index cdb 3) (field_of_two cdb 4) (field_of_four cdb 6) (is_bit_set (slice_index cdb 2) 7) shape.disk.thin
 host-in-disk-keeps command cdb shape count attention is = command-keeps command cdb shape.disk.most shape count attention is
 
 -- without a cache a work changes blocks just where it does with one
@@ -202,6 +203,9 @@ uncached-changes (Synchronizes lba count) is = is
 uncached-changes (Verifies lba count) is = is
 uncached-changes (Compares lba count) is = is
 uncached-changes (WritesAndVerifies lba count compares) is = is
+uncached-changes (Unmaps list through) is = is
+uncached-changes (WritesSame lba count takes unmaps through) is = is
+uncached-changes (TellsStatus lba count allocation) is = is
 
 uncached-keeps : (write_through : Bool) (asked : Result Work Sense) → Keeps asked → Keeps (uncached_if write_through asked)
 uncached-keeps false asked keeps = keeps
@@ -215,6 +219,17 @@ writes-and-verifies-keeps cdb extent shape is =
     (subst (λ read_only. Keeps (cond read_only (Err write_protected) (in_range shape.blocks extent.lba extent.count (WritesAndVerifies extent.lba extent.count (slice_index cdb 1 / 2 % 4 == 1)))))
     (sym is) (refused _))
 
+-- and an UNMAP or a WRITE SAME, whatever else they would do
+protected : (read_only : Bool) (other : Result Work Sense) → read_only ≡ true → Keeps (cond read_only (Err write_protected) other)
+protected read_only other is = subst (λ b. Keeps (cond b (Err write_protected) other)) (sym is) (refused _)
+
+unmap-keeps : (cdb : List ℕ) (shape : Shape) → shape.read_only ≡ true → Keeps (unmap_asked cdb shape)
+unmap-keeps cdb shape is = one_of _ _ _ (refused _) (protected shape.read_only _ is)
+
+same-keeps : (invalid : Bool) (cdb : List ℕ) (extent : Extent) (takes : Bool) (shape : Shape) → shape.read_only ≡ true
+    → Keeps (same_asked invalid cdb extent takes shape)
+same-keeps invalid cdb extent takes shape is = one_of _ _ _ (refused _) (protected shape.read_only _ is)
+
 disk-command-keeps : (command : DiskCommand) (cdb : List ℕ) (shape : Shape) (count : ℕ) (attention : Option UnitAttention) → shape.read_only ≡ true
     → Keeps (disk_command_asked command cdb shape count attention)
 disk-command-keeps (HostOne command) cdb shape count attention is =
@@ -225,6 +240,12 @@ disk-command-keeps WriteAndVerify16 cdb shape count attention is = writes-and-ve
 disk-command-keeps WriteAndVerify12 cdb shape count attention is = writes-and-verifies-keeps cdb (twelve_extent cdb) shape is
 disk-command-keeps PreFetch10 cdb shape count attention is = in_range-keeps shape.blocks (ten_extent cdb).lba (ten_extent cdb).count Nothing refl
 disk-command-keeps PreFetch16 cdb shape count attention is = in_range-keeps shape.blocks (sixteen_extent cdb).lba (sixteen_extent cdb).count Nothing refl
+disk-command-keeps WriteSame10 cdb shape count attention is =
+    same-keeps (is_bit_set (slice_index cdb 1) 0) cdb (ten_extent cdb) true shape is
+disk-command-keeps WriteSame16 cdb shape count attention is =
+    same-keeps false cdb (sixteen_extent cdb) (not (is_bit_set (slice_index cdb 1) 0)) shape is
+disk-command-keeps Unmap cdb shape count attention is = unmap-keeps cdb shape is
+disk-command-keeps GetLbaStatus cdb shape count attention is = one_of _ _ _ (refused _) (done _ refl)
 
 disk-named-keeps : (command : Option DiskCommand) (cdb : List ℕ) (shape : Shape) (count : ℕ) (attention : Option UnitAttention) → shape.read_only ≡ true
     → Keeps (disk_named_asked command cdb shape count attention)
@@ -243,6 +264,9 @@ allowed-keeps (Synchronizes lba count) = done _ refl
 allowed-keeps (Verifies lba count) = done _ refl
 allowed-keeps (Compares lba count) = done _ refl
 allowed-keeps (WritesAndVerifies lba count compares) = refused _
+allowed-keeps (Unmaps list through) = refused _
+allowed-keeps (WritesSame lba count takes unmaps through) = refused _
+allowed-keeps (TellsStatus lba count allocation) = done _ refl
 
 works-keeps : (asks : Result Op Sense) (shape : Shape) → shape.read_only ≡ true → Keeps (profile_works shape asks)
 works-keeps (Ok op) shape is = subst (λ read_only. Keeps (allowed read_only (profile_work op shape))) (sym is) (allowed-keeps (profile_work op shape))
@@ -253,4 +277,4 @@ unfolding asked_of
 kept cdb Profile shape count attention is = (works-keeps (asked cdb shape.blocks) shape is).so
 kept cdb (Host maximum) shape count attention is =
     (named-keeps (named_command (code_in cdb) (action_in cdb)) cdb maximum shape count attention is).so
-kept cdb Disk shape count attention is = (disk-named-keeps (named_in_disk (code_in cdb) (action_in cdb)) cdb shape count attention is).so
+kept cdb Disk shape count attention is = (disk-named-keeps (named_in_disk (code_in cdb) (action_in cdb) shape.disk.thin) cdb shape count attention is).so

@@ -8,7 +8,7 @@ use Rattle.host_commands.specs.declared.BlockLength.TheVariants.{Bytes512}
 use Rattle.host_commands.specs.declared.CommandSet.TheVariants.{Host, Disk}
 use Rattle.host_commands.specs.declared.UnitAttention.TheVariants.{Reset}
 use Rattle.host_commands.specs.declared.Work.{Work}
-use Rattle.host_commands.specs.declared.Work.TheVariants.{Nothing, Gives, Reads, Writes, Synchronizes, Verifies, Compares, WritesAndVerifies}
+use Rattle.host_commands.specs.declared.Work.TheVariants.{Nothing, Gives, Reads, Writes, Synchronizes, Verifies, Compares, WritesAndVerifies, Unmaps, WritesSame, TellsStatus}
 use Rattle.disk_units.specs.Data.{disk_page_bytes, inquiry_data}
 use Rattle.disk_units.specs.Units.{usual_unit}
 use Rattle.host_commands.specs.Data.{given_bytes}
@@ -16,6 +16,7 @@ use Rattle.host_commands.specs.Meaning.{asked_of}
 use Rattle.host_commands.specs.ModeData.{mode_bytes}
 use Rattle.host_commands.specs.Pages.{page_bytes}
 use Rattle.host_commands.specs.Shapes.{Shape, plain_shape}
+use Rattle.host_commands.specs.UnmapLists.{status_data, unmap_extent, unmap_fault, unmapped_in_all, unmaps_beyond}
 
 -- a logical unit of 100 blocks of 512 bytes, of a device of three
 disk : Shape
@@ -38,6 +39,9 @@ bytes_told (Ok (Synchronizes lba count)) = []
 bytes_told (Ok (Verifies lba count)) = []
 bytes_told (Ok (Compares lba count)) = []
 bytes_told (Ok (WritesAndVerifies lba count compares)) = []
+bytes_told (Ok (Unmaps list through)) = []
+bytes_told (Ok (WritesSame lba count takes unmaps through)) = []
+bytes_told (Ok (TellsStatus lba count allocation)) = []
 bytes_told (Err sense) = []
 
 -- INQUIRY of page B0h, allocation length 64
@@ -246,3 +250,57 @@ check_of_two = refl
 protected_from : asked_of ((0xae ∷ 0 ∷ 0 ∷ 0 ∷ 0 ∷ 8 ∷ 0 ∷ 0 ∷ 0 ∷ 2 ∷ []) ++ zeros 6) Disk read_only_disk 3 None ≡ Err write_protected
 unfolding asked_of read_only_disk disk
 protected_from = refl
+
+-- one whose blocks can be given back: UNMAP of a list of 40 bytes, which another refuses, and its usage data
+thin_disk : Shape
+thin_disk = record disk { disk = record usual_unit { thin = true } }
+
+unmap : asked_of ((0x42 ∷ 0 ∷ 0 ∷ 0 ∷ 0 ∷ 0 ∷ 0 ∷ 0 ∷ 0x28 ∷ 0 ∷ []) ++ zeros 6) Disk thin_disk 3 None ≡ Ok (Unmaps 40 false)
+unfolding asked_of thin_disk disk
+unmap = refl
+
+no_unmap : asked_of ((0x42 ∷ 0 ∷ 0 ∷ 0 ∷ 0 ∷ 0 ∷ 0 ∷ 0 ∷ 0x28 ∷ 0 ∷ []) ++ zeros 6) Disk disk 3 None ≡ Err invalid_operation_code
+unfolding asked_of disk
+no_unmap = refl
+
+unmap_told : bytes_told (asked_of ((0xa3 ∷ 0x0c ∷ 1 ∷ 0x42 ∷ 0 ∷ 0 ∷ 0 ∷ 0 ∷ 1 ∷ 0 ∷ []) ++ zeros 6) Disk thin_disk 3 None)
+    ≡ 0 ∷ 3 ∷ 0 ∷ 0x0a ∷ 0x42 ∷ 1 ∷ 0 ∷ 0 ∷ 0 ∷ 0 ∷ 0 ∷ 0xff ∷ 0xff ∷ 4 ∷ []
+unfolding asked_of thin_disk disk
+unmap_told = refl
+
+-- WRITE SAME(16) of two blocks from 8 on with UNMAP and NDOB; of none
+same : asked_of ((0x93 ∷ 9 ∷ 0 ∷ 0 ∷ 0 ∷ 0 ∷ 0 ∷ 0 ∷ 0 ∷ 8 ∷ 0 ∷ 0 ∷ 0 ∷ 2 ∷ []) ++ zeros 2) Disk thin_disk 3 None ≡ Ok (WritesSame 8 2 false true false)
+unfolding asked_of thin_disk disk
+same = refl
+
+same_of_none : asked_of ((0x93 ∷ 9 ∷ 0 ∷ 0 ∷ 0 ∷ 0 ∷ 0 ∷ 0 ∷ 0 ∷ 8 ∷ 0 ∷ 0 ∷ 0 ∷ 0 ∷ []) ++ zeros 2) Disk thin_disk 3 None ≡ Err invalid_field_in_cdb
+unfolding asked_of thin_disk disk
+same_of_none = refl
+
+-- GET LBA STATUS from block 98 of 100 on; of another it is a service action that isn't there
+status : asked_of ((0x9e ∷ 0x12 ∷ 0 ∷ 0 ∷ 0 ∷ 0 ∷ 0 ∷ 0 ∷ 0 ∷ 98 ∷ 0 ∷ 0 ∷ 0 ∷ 24 ∷ []) ++ zeros 2) Disk thin_disk 3 None ≡ Ok (TellsStatus 98 2 24)
+unfolding asked_of thin_disk disk
+status = refl
+
+no_status : asked_of ((0x9e ∷ 0x12 ∷ 0 ∷ 0 ∷ 0 ∷ 0 ∷ 0 ∷ 0 ∷ 0 ∷ 98 ∷ 0 ∷ 0 ∷ 0 ∷ 24 ∷ []) ++ zeros 2) Disk disk 3 None ≡ Err invalid_field_in_cdb
+unfolding asked_of disk
+no_status = refl
+
+-- a list of 8 blocks from 8 and from 32 on, and what is told of 8 deallocated blocks
+list : List ℕ
+list = (0 ∷ 0x26 ∷ 0 ∷ 0x20 ∷ zeros 4) ++ (zeros 7 ++ 8 ∷ 0 ∷ 0 ∷ 0 ∷ 8 ∷ zeros 4) ++ (zeros 7 ++ 0x20 ∷ 0 ∷ 0 ∷ 0 ∷ 8 ∷ zeros 4)
+
+whole_list : unmap_fault list 40 ≡ None
+unfolding list unmapped_in_all unmaps_beyond
+whole_list = refl
+
+list_past_the_end : unmap_fault list 39 ≡ Some out_of_range
+unfolding list unmapped_in_all unmaps_beyond
+list_past_the_end = refl
+
+second_extent : unmap_extent list 1 ≡ (32, 8)
+unfolding list
+second_extent = refl
+
+deallocated : status_data 8 8 false ≡ (0 ∷ 0 ∷ 0 ∷ 0x14 ∷ zeros 4) ++ (zeros 7 ++ 8 ∷ 0 ∷ 0 ∷ 0 ∷ 8 ∷ 1 ∷ zeros 3)
+deallocated = refl

@@ -1,5 +1,5 @@
 -- What a host is told. Cited by the law `lists_are_true`.
-use Rattle.std.proofs.Common.{◌≡◌, ℕ, ◌/◌, ◌^◌, ◌==◌, Bool, true, false, cond, ◌||◌, Option, Some, None, IfSome, is_some, option_map, drop, length, refl, sym, arith, length-append}
+use Rattle.std.proofs.Common.{◌≡◌, ℕ, ◌/◌, ◌^◌, ◌==◌, Bool, true, false, cond, ◌&&◌, ◌||◌, Option, Some, None, IfSome, is_some, option_map, drop, length, refl, sym, ap, ◌∙◌, arith, length-append}
 use Rattle.std.proofs.lemmas.Bool.{eqb-true}
 use Rattle.host_commands.specs.declared.HostCommand.{HostCommand}
 use Rattle.host_commands.specs.declared.HostCommand.TheVariants.{TestUnitReady, RequestSense, Read6, Write6, Inquiry, ModeSense6, StartStopUnit, ReadCapacity10}
@@ -15,7 +15,9 @@ use Rattle.disk_units.specs.Names.{AreNames}
 use Rattle.host_commands.specs.Pages.{page_bytes}
 use Rattle.host_commands.specs.declared.disk_commands.DiskCommand.{DiskCommand}
 use Rattle.host_commands.specs.declared.disk_commands.DiskCommand.TheVariants.{Host as HostOne, SendDiagnostic, PreFetch10, PreFetch16, WriteAndVerify10, WriteAndVerify12, WriteAndVerify16}
+use Rattle.host_commands.specs.declared.disk_commands.DiskCommand.TheVariants.{WriteSame10, WriteSame16, Unmap, GetLbaStatus}
 use Rattle.host_commands.specs.Commands.{named_command}
+use Rattle.host_commands.specs.DiskCommands.{is_status_code, named_in_disk}
 use Rattle.host_commands.specs.Told.{DiskTakenAreTold, DiskToldAreTaken, IsTold, IsToldInDisk, PagesAreListed, PagesTellThemselves, TakenAreTold, TellsItself, ToldAreTaken, is_told_in_disk}
 
 -- PAGES
@@ -132,78 +134,122 @@ told_taken Verify12 = refl
 
 -- THE DISK SET
 
-told_too : (command : HostCommand) → is_told_in_disk (HostOne command) ≡ true
-told_too TestUnitReady = refl
-told_too RequestSense = refl
-told_too Read6 = refl
-told_too Write6 = refl
-told_too Inquiry = refl
-told_too ModeSense6 = refl
-told_too StartStopUnit = refl
-told_too ReadCapacity10 = refl
-told_too Read10 = refl
-told_too Write10 = refl
-told_too Verify10 = refl
-told_too SynchronizeCache10 = refl
-told_too ModeSense10 = refl
-told_too Read16 = refl
-told_too Write16 = refl
-told_too Verify16 = refl
-told_too SynchronizeCache16 = refl
-told_too ReadCapacity16 = refl
-told_too ReportLuns = refl
-told_too ReportSupportedOperationCodes = refl
-told_too ReportSupportedTaskManagementFunctions = refl
-told_too Read12 = refl
-told_too Write12 = refl
-told_too Verify12 = refl
+told_too : (command : HostCommand) → (is_told_in_disk true (HostOne command) ≡ true) × (is_told_in_disk false (HostOne command) ≡ true)
+told_too TestUnitReady = (refl, refl)
+told_too RequestSense = (refl, refl)
+told_too Read6 = (refl, refl)
+told_too Write6 = (refl, refl)
+told_too Inquiry = (refl, refl)
+told_too ModeSense6 = (refl, refl)
+told_too StartStopUnit = (refl, refl)
+told_too ReadCapacity10 = (refl, refl)
+told_too Read10 = (refl, refl)
+told_too Write10 = (refl, refl)
+told_too Verify10 = (refl, refl)
+told_too SynchronizeCache10 = (refl, refl)
+told_too ModeSense10 = (refl, refl)
+told_too Read16 = (refl, refl)
+told_too Write16 = (refl, refl)
+told_too Verify16 = (refl, refl)
+told_too SynchronizeCache16 = (refl, refl)
+told_too ReadCapacity16 = (refl, refl)
+told_too ReportLuns = (refl, refl)
+told_too ReportSupportedOperationCodes = (refl, refl)
+told_too ReportSupportedTaskManagementFunctions = (refl, refl)
+told_too Read12 = (refl, refl)
+told_too Write12 = (refl, refl)
+told_too Verify12 = (refl, refl)
 
-host_told : (code : ℕ) (command : Option HostCommand) → IfSome command (IsTold code) → IfSome (option_map HostOne command) (IsToldInDisk code)
-host_told code None told = told
-host_told code (Some command) told = (told.0, told_too command)
+told_on : (thin : Bool) (command : HostCommand) → is_told_in_disk thin (HostOne command) ≡ true
+told_on true command = (told_too command).0
+told_on false command = (told_too command).1
 
-named_in : (code one : ℕ) (command : DiskCommand) (rest : Option DiskCommand) → IsToldInDisk one command → IfSome rest (IsToldInDisk code)
-    → IfSome (cond (code == one) (Some command) rest) (IsToldInDisk code)
-named_in code one command rest so others =
-    elim (code == one) as (λ b. code == one ≡ b → IfSome (cond b (Some command) rest) (IsToldInDisk code)) [
-      | true ↦ λ is. rw (eqb-true code one is) so
-      | false ↦ λ is. others
-    ] refl
+host_told : (code : ℕ) (thin : Bool) (command : Option HostCommand) → IfSome command (IsTold code)
+    → IfSome (option_map HostOne command) (IsToldInDisk code thin)
+host_told code thin None told = told
+host_told code thin (Some command) told = (told.0, told_on thin command)
+
+-- one command more, where this holds
+named_if : (b : Bool) (code : ℕ) (thin : Bool) (command : DiskCommand) (rest : Option DiskCommand) → (b ≡ true → IsToldInDisk code thin command)
+    → IfSome rest (IsToldInDisk code thin) → IfSome (cond b (Some command) rest) (IsToldInDisk code thin)
+named_if true code thin command rest so others = so refl
+named_if false code thin command rest so others = others
+
+both_are : (a b : Bool) → (a && b) ≡ true → (a ≡ true) × (b ≡ true)
+both_are true b is = (refl, is)
+both_are false b is = let no : false ≡ true = is in absurd (cc)
+
+named_in : (code one : ℕ) (thin : Bool) (command : DiskCommand) (rest : Option DiskCommand) → IsToldInDisk one thin command
+    → IfSome rest (IsToldInDisk code thin) → IfSome (cond (code == one) (Some command) rest) (IsToldInDisk code thin)
+named_in code one thin command rest so others =
+    named_if (code == one) code thin command rest (λ is. (so.0 ∙ sym (eqb-true code one is), so.1)) others
+
+-- those that a thin logical unit alone has
+thin_in : (code : ℕ) (thin : Bool) (rest : Option DiskCommand) → IfSome rest (IsToldInDisk code thin)
+    → IfSome (cond (code == 0x42 && thin) (Some Unmap) rest) (IsToldInDisk code thin)
+thin_in code thin rest others =
+    named_if (code == 0x42 && thin) code thin Unmap rest
+    (λ is. let parts = both_are (code == 0x42) thin is in
+    (sym (eqb-true code 0x42 parts.0), ap (λ (b : Bool). is_told_in_disk b Unmap) parts.1)) others
+
+status_in : (code action : ℕ) (thin : Bool) (rest : Option DiskCommand) → IfSome rest (IsToldInDisk code thin)
+    → IfSome (cond (is_status_code code action thin) (Some GetLbaStatus) rest) (IsToldInDisk code thin)
+status_in code action thin rest others =
+    named_if (is_status_code code action thin) code thin GetLbaStatus rest
+    (λ is. let parts = both_are (code == 0x9e && action == 0x12) thin is in
+    (sym (eqb-true code 0x9e (both_are (code == 0x9e) (action == 0x12) parts.0).0), ap (λ (b : Bool). is_told_in_disk b GetLbaStatus) parts.1)) others
+
+-- those that every one has
+told_both : (thin : Bool) (command : DiskCommand) → is_told_in_disk true command ≡ true → is_told_in_disk false command ≡ true
+    → is_told_in_disk thin command ≡ true
+told_both true command one other = one
+told_both false command one other = other
 
 pub disk_taken_told : DiskTakenAreTold
-disk_taken_told code action =
-    named_in code 0x1d SendDiagnostic _ (refl, refl) (named_in code 0x2e WriteAndVerify10 _ (refl, refl) (named_in code 0x34 PreFetch10 _ (refl, refl)
-    (named_in code 0x8e WriteAndVerify16 _ (refl, refl) (named_in code 0x90 PreFetch16 _ (refl, refl) (named_in code 0xae WriteAndVerify12 _ (refl, refl)
-    (host_told code (named_command code action) (taken_told code action)))))))
+disk_taken_told code action thin =
+    named_in code 0x1d thin SendDiagnostic _ (refl, told_both thin SendDiagnostic refl refl)
+    (named_in code 0x2e thin WriteAndVerify10 _ (refl, told_both thin WriteAndVerify10 refl refl)
+    (named_in code 0x34 thin PreFetch10 _ (refl, told_both thin PreFetch10 refl refl)
+    (named_in code 0x8e thin WriteAndVerify16 _ (refl, told_both thin WriteAndVerify16 refl refl)
+    (named_in code 0x90 thin PreFetch16 _ (refl, told_both thin PreFetch16 refl refl)
+    (named_in code 0xae thin WriteAndVerify12 _ (refl, told_both thin WriteAndVerify12 refl refl)
+    (named_in code 0x41 thin WriteSame10 _ (refl, told_both thin WriteSame10 refl refl)
+    (named_in code 0x93 thin WriteSame16 _ (refl, told_both thin WriteSame16 refl refl)
+    (thin_in code thin _ (status_in code action thin _
+    (host_told code thin (named_command code action) (taken_told code action)))))))))))
 
 pub disk_told_taken : DiskToldAreTaken
-disk_told_taken (HostOne TestUnitReady) = refl
-disk_told_taken (HostOne RequestSense) = refl
-disk_told_taken (HostOne Read6) = refl
-disk_told_taken (HostOne Write6) = refl
-disk_told_taken (HostOne Inquiry) = refl
-disk_told_taken (HostOne ModeSense6) = refl
-disk_told_taken (HostOne StartStopUnit) = refl
-disk_told_taken (HostOne ReadCapacity10) = refl
-disk_told_taken (HostOne Read10) = refl
-disk_told_taken (HostOne Write10) = refl
-disk_told_taken (HostOne Verify10) = refl
-disk_told_taken (HostOne SynchronizeCache10) = refl
-disk_told_taken (HostOne ModeSense10) = refl
-disk_told_taken (HostOne Read16) = refl
-disk_told_taken (HostOne Write16) = refl
-disk_told_taken (HostOne Verify16) = refl
-disk_told_taken (HostOne SynchronizeCache16) = refl
-disk_told_taken (HostOne ReadCapacity16) = refl
-disk_told_taken (HostOne ReportLuns) = refl
-disk_told_taken (HostOne ReportSupportedOperationCodes) = refl
-disk_told_taken (HostOne ReportSupportedTaskManagementFunctions) = refl
-disk_told_taken (HostOne Read12) = refl
-disk_told_taken (HostOne Write12) = refl
-disk_told_taken (HostOne Verify12) = refl
-disk_told_taken SendDiagnostic = refl
-disk_told_taken PreFetch10 = refl
-disk_told_taken PreFetch16 = refl
-disk_told_taken WriteAndVerify10 = refl
-disk_told_taken WriteAndVerify12 = refl
-disk_told_taken WriteAndVerify16 = refl
+disk_told_taken (HostOne TestUnitReady) thin there = refl
+disk_told_taken (HostOne RequestSense) thin there = refl
+disk_told_taken (HostOne Read6) thin there = refl
+disk_told_taken (HostOne Write6) thin there = refl
+disk_told_taken (HostOne Inquiry) thin there = refl
+disk_told_taken (HostOne ModeSense6) thin there = refl
+disk_told_taken (HostOne StartStopUnit) thin there = refl
+disk_told_taken (HostOne ReadCapacity10) thin there = refl
+disk_told_taken (HostOne Read10) thin there = refl
+disk_told_taken (HostOne Write10) thin there = refl
+disk_told_taken (HostOne Verify10) thin there = refl
+disk_told_taken (HostOne SynchronizeCache10) thin there = refl
+disk_told_taken (HostOne ModeSense10) thin there = refl
+disk_told_taken (HostOne Read16) thin there = refl
+disk_told_taken (HostOne Write16) thin there = refl
+disk_told_taken (HostOne Verify16) thin there = refl
+disk_told_taken (HostOne SynchronizeCache16) thin there = refl
+disk_told_taken (HostOne ReadCapacity16) thin there = refl
+disk_told_taken (HostOne ReportLuns) thin there = refl
+disk_told_taken (HostOne ReportSupportedOperationCodes) thin there = refl
+disk_told_taken (HostOne ReportSupportedTaskManagementFunctions) thin there = refl
+disk_told_taken (HostOne Read12) thin there = refl
+disk_told_taken (HostOne Write12) thin there = refl
+disk_told_taken (HostOne Verify12) thin there = refl
+disk_told_taken SendDiagnostic thin there = refl
+disk_told_taken PreFetch10 thin there = refl
+disk_told_taken PreFetch16 thin there = refl
+disk_told_taken WriteAndVerify10 thin there = refl
+disk_told_taken WriteAndVerify12 thin there = refl
+disk_told_taken WriteAndVerify16 thin there = refl
+disk_told_taken WriteSame10 thin there = refl
+disk_told_taken WriteSame16 thin there = refl
+disk_told_taken Unmap thin there = ap (λ (b : Bool). named_in_disk 0x42 0 b) there
+disk_told_taken GetLbaStatus thin there = ap (λ (b : Bool). named_in_disk 0x9e 0x12 b) there

@@ -21,7 +21,7 @@ use Rattle.host_commands.specs.declared.HostCommand.TheVariants.{ReportSupported
 use Rattle.host_commands.specs.declared.ModePages.{ModePages}
 use Rattle.host_commands.specs.declared.ModePages.TheVariants.{Caching, Control, All}
 use Rattle.host_commands.specs.declared.Work.{Work}
-use Rattle.host_commands.specs.declared.Work.TheVariants.{Nothing, Gives, Reads, Writes, Synchronizes, Verifies, Compares, WritesAndVerifies}
+use Rattle.host_commands.specs.declared.Work.TheVariants.{Nothing, Gives, Reads, Writes, Synchronizes, Verifies, Compares, WritesAndVerifies, Unmaps, WritesSame, TellsStatus}
 use Rattle.host_commands.specs.Fields.{action_in, code_in}
 use Rattle.host_commands.specs.Meaning.{asked_of}
 use Rattle.host_commands.specs.OperationCodes.{action_of}
@@ -65,7 +65,7 @@ data_numbers (TaskManagementFunctions extended) = 7 ∷ one_if extended ∷ []
 data_numbers (Capacity last_block block_length) = 8 ∷ []
 data_numbers (LongCapacity last_block block_length) = 9 ∷ []
 data_numbers (DiskSet given) = 10 ∷ disk_data_number given ∷ []
-data_numbers (DiskOperationCodes timeouts) = 11 ∷ one_if timeouts ∷ []
+data_numbers (DiskOperationCodes thin timeouts) = 11 ∷ one_if thin ∷ one_if timeouts ∷ []
 data_numbers (DiskOperationCode command timeouts) = 12 ∷ disk_number command ∷ []
 
 abbrev pub numbers : Result Work Sense → List ℕ
@@ -77,6 +77,9 @@ numbers (Ok (Synchronizes lba count)) = 4 ∷ lba ∷ count ∷ []
 numbers (Ok (Verifies lba count)) = 5 ∷ lba ∷ count ∷ []
 numbers (Ok (Compares lba count)) = 6 ∷ lba ∷ count ∷ []
 numbers (Ok (WritesAndVerifies lba count compares)) = 8 ∷ lba ∷ count ∷ one_if compares ∷ []
+numbers (Ok (Unmaps list through)) = 9 ∷ list ∷ one_if through ∷ []
+numbers (Ok (WritesSame lba count takes unmaps through)) = 10 ∷ lba ∷ count ∷ one_if takes ∷ one_if unmaps ∷ one_if through ∷ []
+numbers (Ok (TellsStatus lba count allocation)) = 11 ∷ lba ∷ allocation ∷ []
 numbers (Err sense) = 7 ∷ []
 
 abbrev pub are_same : List ℕ → List ℕ → Bool

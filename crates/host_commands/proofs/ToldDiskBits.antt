@@ -9,6 +9,7 @@ use Rattle.host_commands.specs.declared.BlockLength.TheVariants.{Bytes512}
 use Rattle.host_commands.specs.declared.CommandSet.TheVariants.{Disk}
 use Rattle.host_commands.specs.declared.disk_commands.DiskCommand.{DiskCommand}
 use Rattle.host_commands.specs.declared.disk_commands.DiskCommand.TheVariants.{Host as HostOne, SendDiagnostic, PreFetch10, PreFetch16, WriteAndVerify10, WriteAndVerify12, WriteAndVerify16}
+use Rattle.host_commands.specs.declared.disk_commands.DiskCommand.TheVariants.{WriteSame10, WriteSame16, Unmap, GetLbaStatus}
 use Rattle.host_commands.specs.declared.HostCommand.TheVariants.{TestUnitReady, RequestSense, Read6, Write6, Inquiry, ModeSense6, StartStopUnit, ReadCapacity10}
 use Rattle.host_commands.specs.declared.HostCommand.TheVariants.{Read10, Write10, Verify10, SynchronizeCache10, ModeSense10, Read16, Write16, Verify16}
 use Rattle.host_commands.specs.declared.HostCommand.TheVariants.{SynchronizeCache16, ReadCapacity16, ReportLuns, ReportSupportedOperationCodes}
@@ -28,6 +29,10 @@ use Rattle.host_commands.proofs.ToldBits.{all_below, are_same, below_all, both, 
 abbrev low_count : ℕ → ℕ → ℕ → ℕ
 low_count low place bit = if place == low then (if bit == 0 then 2 else (if bit == 1 then 1 else 0)) else 0
 
+-- a count of 1, or of 0 where its lowest bit is tried
+abbrev same_count : ℕ → ℕ → ℕ → ℕ
+same_count low place bit = if place == low && bit == 0 then 0 else 1
+
 abbrev disk_cdb_for : DiskCommand → ℕ → ℕ → List ℕ
 disk_cdb_for (HostOne command) place bit = cdb_for command place bit
 disk_cdb_for SendDiagnostic place bit = slice_set (zeros 16) 0 0x1d
@@ -36,10 +41,14 @@ disk_cdb_for WriteAndVerify12 place bit = slice_set (zeros 16) 0 0xae
 disk_cdb_for WriteAndVerify16 place bit = slice_set (zeros 16) 0 0x8e
 disk_cdb_for PreFetch10 place bit = slice_set (slice_set (zeros 16) 0 0x34) 8 (low_count 8 place bit)
 disk_cdb_for PreFetch16 place bit = slice_set (slice_set (zeros 16) 0 0x90) 13 (low_count 13 place bit)
+disk_cdb_for WriteSame10 place bit = slice_set (slice_set (zeros 16) 0 0x41) 8 (same_count 8 place bit)
+disk_cdb_for WriteSame16 place bit = slice_set (slice_set (zeros 16) 0 0x93) 13 (same_count 13 place bit)
+disk_cdb_for Unmap place bit = slice_set (zeros 16) 0 0x42
+disk_cdb_for GetLbaStatus place bit = slice_set (slice_set (zeros 16) 0 0x9e) 1 0x12
 
--- 2^20 blocks, 256 of which a transfer may have; of PRE-FETCH one block, or two where its low count is tried
+-- 2^20 blocks that can be given back, 256 of which a transfer may have; of PRE-FETCH one block, or two where its low count is tried
 abbrev disk_of : ℕ → Shape
-disk_of blocks = record (plain_shape blocks Bytes512 0) { disk = record usual_unit { most = 256 } }
+disk_of blocks = record (plain_shape blocks Bytes512 0) { disk = record usual_unit { thin = true; most = 256 } }
 
 abbrev blocks_for : DiskCommand → ℕ → ℕ
 blocks_for (HostOne command) place = 2 ^ 20
@@ -47,6 +56,10 @@ blocks_for SendDiagnostic place = 2 ^ 20
 blocks_for WriteAndVerify10 place = 2 ^ 20
 blocks_for WriteAndVerify12 place = 2 ^ 20
 blocks_for WriteAndVerify16 place = 2 ^ 20
+blocks_for WriteSame10 place = 2 ^ 20
+blocks_for WriteSame16 place = 2 ^ 20
+blocks_for Unmap place = 2 ^ 20
+blocks_for GetLbaStatus place = 2 ^ 20
 blocks_for PreFetch10 place = if place == 8 then 2 else 1
 blocks_for PreFetch16 place = if place == 13 then 2 else 1
 
@@ -104,6 +117,10 @@ tried PreFetch16 = refl
 tried WriteAndVerify10 = refl
 tried WriteAndVerify12 = refl
 tried WriteAndVerify16 = refl
+tried WriteSame10 = refl
+tried WriteSame16 = refl
+tried Unmap = refl
+tried GetLbaStatus = refl
 
 -- AND READ BACK
 

@@ -15,7 +15,7 @@ use Rattle.host_commands.specs.Fields.{code_in, ones}
 
 -- GET LBA STATUS is the service action 12h of 9Eh
 abbrev pub is_status_code : ℕ → ℕ → Bool → Bool
-is_status_code code action thin = thin && (code == 0x9e && action == 0x12)
+is_status_code code action thin = (code == 0x9e && action == 0x12) && thin
 
 -- the command of an operation code and a service action, which only A3h looks at, and 9Eh of a thin logical unit
 abbrev pub named_in_disk : ℕ → ℕ → Bool → Option DiskCommand
@@ -28,7 +28,7 @@ named_in_disk code action thin =
     else (if code == 0xae then Some WriteAndVerify12
     else (if code == 0x41 then Some WriteSame10
     else (if code == 0x93 then Some WriteSame16
-    else (if thin && code == 0x42 then Some Unmap
+    else (if code == 0x42 && thin then Some Unmap
     else (if is_status_code code action thin then Some GetLbaStatus
     else option_map Host (named_command code action))))))))))
 

@@ -335,7 +335,7 @@ same_asked invalid cdb extent takes shape =
     if invalid || has_same_fault cdb extent.count shape.disk.thin then Err invalid_field_in_cdb
     else (if shape.read_only then Err write_protected
     else in_range shape.blocks extent.lba extent.count
-        (WritesSame extent.lba extent.count takes (is_bit_set (slice_index cdb 1) 3) shape.disk.write_through))
+    (WritesSame extent.lba extent.count takes (is_bit_set (slice_index cdb 1) 3) shape.disk.write_through))
 
 -- GET LBA STATUS, of the blocks from 2-9 on up to the end, at most 2^32 - 1
 abbrev pub status_asked : List ℕ → ℕ → Result Work Sense

@@ -1,5 +1,5 @@
 -- The list of UNMAP and the data of GET LBA STATUS (SBC).
-use Rattle.std.specs.Prelude.{◌≡◌, ℕ, ◌+◌, ◌-◌, ◌*◌, ◌/◌, ◌<◌, ◌≤◌, nat_lt, min, Bool, true, false, ◌||◌, if◌then◌else◌, List, [], ◌∷◌, ◌++◌, length, map, Option, Some, None}
+use Rattle.std.specs.Prelude.{◌≡◌, ℕ, ◌+◌, ◌-◌, ◌*◌, ◌/◌, ◌<◌, ◌≤◌, nat_lt, min, Bool, true, false, ◌||◌, if◌then◌else◌, List, ◌∷◌, ◌++◌, length, map, Option, Some, None}
 use Rattle.std.specs.List.{list_any, range_with_len, sum}
 use Rattle.scsi_cmd.specs.declared.Sense.{Sense}
 use Rattle.scsi_cmd.specs.Fields.{eight_bytes, field_of_eight, field_of_four, field_of_two, four_bytes, zeros}
@@ -31,11 +31,11 @@ unfoldable pub unmapped_in_all : List ℕ → ℕ
 unmapped_in_all list = sum (map (unmap_blocks list) (unmap_indexes list))
 
 -- one of them ends above the end
-abbrev pub is_unmapped_beyond : List ℕ → ℕ → ℕ → Bool
-is_unmapped_beyond list blocks index = nat_lt blocks (unmap_block list index + unmap_blocks list index)
+abbrev pub unmap_end : List ℕ → ℕ → ℕ
+unmap_end list index = unmap_block list index + unmap_blocks list index
 
 unfoldable pub unmaps_beyond : List ℕ → ℕ → Bool
-unmaps_beyond list blocks = list_any (is_unmapped_beyond list blocks) (unmap_indexes list)
+unmaps_beyond list blocks = list_any (λ ends. nat_lt blocks ends) (map (unmap_end list) (unmap_indexes list))
 
 -- INVALID FIELD IN PARAMETER LIST
 abbrev pub invalid_field_in_list : Sense
@@ -63,7 +63,7 @@ status_data block count mapped =
 
 -- WHAT IS TRUE OF A LIST WITHOUT A FAULT: each descriptor names blocks of the logical unit, however it is read
 abbrev pub NamesItsBlocks : List ℕ → ℕ → Type 0
-NamesItsBlocks list blocks = (index : ℕ) → index < unmap_count list → unmap_block list index + unmap_blocks list index ≤ blocks
+NamesItsBlocks list blocks = (index : ℕ) → index < unmap_count list → unmap_end list index ≤ blocks
 
 abbrev pub UnmapNamesItsBlocks : Type 0
 UnmapNamesItsBlocks = (list : List ℕ) (blocks : ℕ) → unmap_fault list blocks ≡ None → NamesItsBlocks list blocks

@@ -12,7 +12,7 @@ use Rattle.host_commands.specs.declared.UnitAttention.{UnitAttention}
 use Rattle.host_commands.specs.Commands.{has_service_actions, usage_of}
 use Rattle.host_commands.specs.Fields.{action_in, code_in}
 use Rattle.host_commands.specs.Meaning.{asked_of, asked_of_none}
-use Rattle.host_commands.specs.DiskCommands.{disk_usage}
+use Rattle.host_commands.specs.DiskCommands.{disk_usage, is_there}
 use Rattle.host_commands.specs.OperationCodes.{action_of, disk_action_of}
 use Rattle.host_commands.specs.Shapes.{Shape}
 use Rattle.host_commands.specs.Told.{code_of, disk_code_of}
@@ -123,10 +123,11 @@ AgreeWhereReadInDisk command one other =
     (place bit : ℕ) → bit < 8 → is_read_in_disk command place bit ≡ true
     → is_bit_set (slice_index one place) bit ≡ is_bit_set (slice_index other place) bit
 
+-- of a logical unit that has the command
 abbrev pub DiskUsageIsWhatIsRead : Type 0
 DiskUsageIsWhatIsRead =
     (command : DiskCommand) (one other : List ℕ) (count : ℕ) (shape : Shape) (attention : Option UnitAttention)
-    → IsDiskCdbOf command one → IsDiskCdbOf command other → AgreeWhereReadInDisk command one other
+    → is_there shape.disk.thin command ≡ true → IsDiskCdbOf command one → IsDiskCdbOf command other → AgreeWhereReadInDisk command one other
     → asked_of one Disk shape count attention ≡ asked_of other Disk shape count attention
 
 abbrev pub DiskUsageIsWhatIsReadOfNone : Type 0

@@ -74,13 +74,7 @@ fn read_disk_command(
             writes_same(has_bit(cdb[1], 0), cdb, ten_extent(cdb), true, shape)
         }
         DiskCommand::WriteSame16 => {
-            writes_same(
-                false,
-                cdb,
-                sixteen_extent(cdb),
-                !has_bit(cdb[1], 0),
-                shape,
-            )
+            writes_same(false, cdb, sixteen_extent(cdb), !has_bit(cdb[1], 0), shape)
         }
         DiskCommand::Unmap => read_unmap(cdb, shape),
         DiskCommand::GetLbaStatus => read_status(cdb, shape.blocks()),

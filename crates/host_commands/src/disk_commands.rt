@@ -156,7 +156,7 @@ pub fn named_in_disk(code: u8, action: u8, thin: bool) -> Option<DiskCommand>
 pub(crate) fn is_status_code(code: u8, action: u16, thin: bool) -> bool
     ensures { result ≡ is_status_code code action thin }
 {
-    thin && (code == SERVICE_ACTION_IN_16 && action == GET_LBA_STATUS)
+    (code == SERVICE_ACTION_IN_16 && action == GET_LBA_STATUS) && thin
 }
 
 impl DiskCommand {

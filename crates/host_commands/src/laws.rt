@@ -1,6 +1,7 @@
 //! Laws of the command sets.
 ghost use Rattle.host_commands.specs.Laws.{ProfileIsKept, ProfileIsKeptOfNone, ReadOnlyIsKept};
 ghost use Rattle.host_commands.specs.Told.{DiskTakenAreTold, DiskToldAreTaken, PagesAreListed, PagesTellThemselves, TakenAreTold, ToldAreTaken};
+ghost use Rattle.host_commands.specs.UnmapLists.{UnmapNamesItsBlocks};
 ghost use Rattle.host_commands.specs.Usage.{DiskToldBitsAreRead, DiskUsageIsWhatIsRead, DiskUsageIsWhatIsReadOfNone};
 ghost use Rattle.host_commands.specs.Usage.{ToldBitsAreRead, UsageIsWhatIsRead, UsageIsWhatIsReadOfNone};
 
@@ -39,4 +40,10 @@ pub fn usage_is_what_is_read()
 #[tactic(auto, using(crate::proofs::ReadOnly::kept))]
 pub fn read_only_is_kept()
     ensures { ReadOnlyIsKept }
+{}
+
+/// Law: each descriptor of an UNMAP list without a fault names only blocks of the logical unit.
+#[tactic(auto, using(crate::proofs::UnmapLists::names_blocks))]
+pub fn unmap_lists_name_blocks()
+    ensures { UnmapNamesItsBlocks }
 {}

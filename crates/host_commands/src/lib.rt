@@ -4,11 +4,11 @@
 //! | Set | Commands |
 //! |---|---|
 //! | `Profile` | the nine of `scsi_cmd`, with the same answers byte for byte |
-//! | `Disk` | those of `Host`, WRITE AND VERIFY, PRE-FETCH and SEND DIAGNOSTIC; INQUIRY, READ CAPACITY(16) and MODE SENSE tell what `disk_units` has of a logical unit, its own number of blocks moves, and NACA is a fault |
+//! | `Disk` | those of `Host`, WRITE AND VERIFY, WRITE SAME, PRE-FETCH and SEND DIAGNOSTIC, and UNMAP and GET LBA STATUS where blocks can be given back; INQUIRY, READ CAPACITY(16) and MODE SENSE tell what `disk_units` has of a logical unit, its own number of blocks moves, and NACA is a fault |
 //! | `Host` | those, and VERIFY, REPORT LUNS, MODE SENSE, REQUEST SENSE, START STOP UNIT, READ and WRITE of 6 and 12 bytes, SYNCHRONIZE CACHE(16), vital product data, supported operation codes and task management functions (SPC, SBC) |
 //!
 //! A command is a [`Work`], whichever CDB asked for it: nothing, data of the logical unit, blocks that are read, written,
-//! synchronized, verified, compared, or written and verified. The faults are tested in this order:
+//! synchronized, verified, compared, given back, or told of. The faults are tested in this order:
 //!
 //! 1. an operation code, or a service action of A3h, that the set hasn't: INVALID COMMAND OPERATION CODE;
 //! 2. a field of the CDB, too many blocks and another service action of 9Eh among them: INVALID FIELD IN CDB; saved mode
@@ -54,13 +54,14 @@ pub use disk_units::{
     Rotation, SerialText, TransferLength, UnitNames, Uuid, Vendor,
 };
 pub use host::{read, read_without_logical_unit};
-pub use laws::{lists_are_true, profile_is_kept, read_only_is_kept, usage_is_what_is_read};
+pub use laws::{
+    lists_are_true, profile_is_kept, read_only_is_kept, unmap_lists_name_blocks,
+    usage_is_what_is_read,
+};
 use scsi_cmd::Sense;
 use std::marker::Model;
 use thiserror::Error;
-pub use unmap_list::{
-    MOST_UNMAP_BYTES, status_bytes, unmap_count, unmap_extent, unmap_fault,
-};
+pub use unmap_list::{MOST_UNMAP_BYTES, status_bytes, unmap_count, unmap_extent, unmap_fault};
 pub use writer::write_data;
 
 /// The bytes of a block.

@@ -137,7 +137,8 @@ fn allowed(read_only: bool, work: Work) -> Result<Work, Sense>
         Work::Writes { .. }
         | Work::WritesAndVerifies { .. }
         | Work::Unmaps { .. }
-        | Work::WritesSame { .. } if read_only => Err(WRITE_PROTECTED),
+        | Work::WritesSame { .. }
+            if read_only => Err(WRITE_PROTECTED),
         _ => Ok(work),
     }
 }

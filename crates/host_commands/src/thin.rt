@@ -54,7 +54,7 @@ pub(crate) fn writes_same(
     shape: &LogicalUnitShape,
 ) -> Result<Work, Sense>
     ensures work { result ≡ same_asked invalid cdb.now extent takes shape.now }
-    ensures on { (most : ℕ) → IfOk result (IsWorkOn shape.now.blocks most) }
+    ensures on { IfOk result (IsWorkOn shape.now.blocks shape.now.disk.most) }
 {
     let Extent { lba, count } = extent;
     if invalid || has_same_fault(cdb, count, shape.disk().thin) {

@@ -1,8 +1,8 @@
 //! The list of UNMAP, and the data of GET LBA STATUS.
-ghost use Rattle.std.specs.Prelude.{◌≡◌, ◌+◌, ◌<◌, ◌≤◌, None, length};
+ghost use Rattle.std.specs.Prelude.{◌≡◌, ◌+◌, ◌<◌, ◌≤◌, nat_lt, None, length};
 ghost use Rattle.scsi_cmd.specs.Fields.{field_of_four};
-ghost use Rattle.host_commands.specs.UnmapLists.{NamesItsBlocks, is_unmapped_beyond, provisioning_status, status_data, unmap_count};
-ghost use Rattle.host_commands.specs.UnmapLists.{unmap_extent, unmap_fault, unmapped_in_all, unmaps_beyond};
+ghost use Rattle.host_commands.specs.UnmapLists.{NamesItsBlocks, provisioning_status, status_data, unmap_count};
+ghost use Rattle.host_commands.specs.UnmapLists.{unmap_end, unmap_extent, unmap_fault, unmapped_in_all, unmaps_beyond};
 
 use disk_units::{eight_bytes, four_bytes};
 use scsi_cmd::Sense;
@@ -75,6 +75,7 @@ fn four_in(list: &[u8], at: usize) -> u32
 }
 
 /// The blocks of all descriptors.
+#[tactic(auto, using(crate::proofs::UnmapLists::blocks_more), unfolding(crate::specs::UnmapLists::unmapped_in_all))]
 fn unmapped_in_all(list: &[u8]) -> u64
     ensures { result ≡ unmapped_in_all list.now }
 {
@@ -87,20 +88,21 @@ fn unmapped_in_all(list: &[u8]) -> u64
 }
 
 /// Whether a descriptor ends above the end.
+#[tactic(auto, using(crate::proofs::UnmapLists::beyond_more, crate::proofs::UnmapLists::beyond_at), unfolding(crate::specs::UnmapLists::unmaps_beyond))]
 fn unmaps_beyond(list: &[u8], blocks: u64) -> bool
     ensures { result ≡ unmaps_beyond list.now blocks }
 {
     for index in 0..unmap_count(list) {
-        if is_unmapped_beyond(list, blocks, index) {
+        if ends_beyond(list, blocks, index) {
             return true;
         }
     }
     false
 }
 
-fn is_unmapped_beyond(list: &[u8], blocks: u64, index: usize) -> bool
+fn ends_beyond(list: &[u8], blocks: u64, index: usize) -> bool
     requires { index < unmap_count list.now }
-    ensures { result ≡ is_unmapped_beyond list.now blocks index }
+    ensures { result ≡ nat_lt blocks (unmap_end list.now index) }
 {
     let (block, count) = unmap_extent(list, index);
     block > blocks || u64::from(count) > blocks - block

@@ -247,7 +247,7 @@ data_words (given.TaskManagementFunctions extended) allocation = flag_word exten
 data_words (given.Capacity last_block block_length) allocation = []
 data_words (given.LongCapacity last_block block_length) allocation = allocation_words allocation
 data_words (given.Disk disk) allocation = allocation_words allocation
-data_words (given.DiskOperationCodes timeouts) allocation = allocation_words allocation
+data_words (given.DiskOperationCodes thin timeouts) allocation = allocation_words allocation
 data_words (given.DiskOperationCode command timeouts) allocation = allocation_words allocation
 
 unfoldable pub work_words : Work → List ℕ
@@ -259,6 +259,9 @@ work_words (work.Synchronizes lba count) = range_words lba count
 work_words (work.Verifies lba count) = range_words lba count
 work_words (work.Compares lba count) = range_words lba count ++ codes " compared"
 work_words (work.WritesAndVerifies lba count compares) = range_words lba count
+work_words (work.Unmaps list through) = []
+work_words (work.WritesSame lba count takes unmaps through) = range_words lba count
+work_words (work.TellsStatus lba count allocation) = range_words lba count
 
 -- By hand: 12 01 B0 00 40 00 is `INQUIRY page block limits allocation 64`; A8 00 00 00 00 05 00 00 00 08 00 00 is `READ(12) lba 5 count 8`.
 unfoldable pub host_words : HostCommand → Work → List ℕ

@@ -61,7 +61,7 @@ fn push_work(text: &mut Vec<u8>, work: &Work) -> Result<(), AllocError>
     ensures { OnOk result (text.new.items ≡ text.old.items ++ work_words work.now) }
 {
     match work {
-        Work::Nothing => Ok(()),
+        Work::Nothing | Work::Unmaps { .. } => Ok(()),
         Work::Gives { given, allocation } => push_data(text, given, *allocation),
         Work::Writes {
             lba,
@@ -78,7 +78,9 @@ fn push_work(text: &mut Vec<u8>, work: &Work) -> Result<(), AllocError>
         Work::Reads { lba, count }
         | Work::Synchronizes { lba, count }
         | Work::Verifies { lba, count }
-        | Work::WritesAndVerifies { lba, count, .. } => push_range(text, *lba, *count),
+        | Work::WritesAndVerifies { lba, count, .. }
+        | Work::WritesSame { lba, count, .. }
+        | Work::TellsStatus { lba, count, .. } => push_range(text, *lba, *count),
     }
 }
 

@@ -213,7 +213,7 @@ bool uas_xhci_next_request(uas_xhci *xhci, struct uas_request *request)
     call(xhci, &door, NULL, 0);
     if (door.good == 0)
         return false;
-    *request = (struct uas_request){ door.number, door.unit, door.block, door.count, door.kind, door.through != 0 };
+    *request = (struct uas_request){ door.number, door.unit, door.block, door.count, door.kind, (door.through & UAS_ASKED_THROUGH) != 0 };
     return true;
 }
 
@@ -231,10 +231,11 @@ uint8_t uas_xhci_answered(uas_xhci *xhci, uint64_t number, uint8_t outcome, cons
 
 uint8_t uas_xhci_tell(uas_xhci *xhci, uint64_t number, const struct uas_outcome *outcome, const uint8_t *bytes, size_t length)
 {
-    if (outcome->size != sizeof *outcome || outcome->flags > UAS_OUTCOME_AT || outcome->zero != 0 || outcome->count != 0)
+    if (outcome->size != sizeof *outcome || outcome->flags > (UAS_OUTCOME_AT | UAS_OUTCOME_MAPPED) || outcome->zero != 0)
         return UAS_TASKS_SIZE;
     struct uas_xhci_door door = {
-        .call = UAS_XHCI_CALL_ANSWERED, .number = number, .outcome = outcome->what, .good = outcome->flags, .block = outcome->at
+        .call = UAS_XHCI_CALL_ANSWERED, .number = number, .outcome = outcome->what, .good = outcome->flags & UAS_OUTCOME_AT,
+        .through = (outcome->flags & UAS_OUTCOME_MAPPED) != 0, .block = outcome->at, .count = outcome->count
     };
     return call(xhci, &door, bytes, length);
 }

@@ -1,14 +1,11 @@
 -- The list of an UNMAP: what comes of it. Cited by Sound and Keeping.
 use Rattle.std.proofs.Common.{◌≡◌, ℕ, zero, suc, ◌+◌, ◌-◌, ◌<◌, ◌≤◌, Bool, true, false, cond, List, length, take, Option, Some, None}
 use Rattle.std.proofs.Common.{refl, arith, ap, sym, ◌∙◌, inl, inr}
-use Rattle.std.specs.Prelude.{◌==◌, nat_lt}
-use Rattle.std.specs.List.{range_with_len}
-use Rattle.std.proofs.lemmas.Bool.{cases_le}
-use Rattle.std.proofs.lemmas.Bool.Decides.{nat_tests}
-use Rattle.std.proofs.lemmas.List.Folds.{list_any_at}
-use Rattle.std.proofs.lemmas.List.FromFn.{get_or-range_with_len, length-range_with_len}
+use Rattle.std.specs.Prelude.{◌==◌}
+use Rattle.std.proofs.lemmas.Bool.{cases_lt}
 use Rattle.scsi_cmd.specs.declared.Sense.{Sense}
-use Rattle.host_commands.specs.UnmapLists.{NamesItsBlocks, invalid_field_in_list, is_unmapped_beyond, unmap_block, unmap_blocks, unmap_count, unmap_extent, unmap_fault, unmapped_in_all, unmaps_beyond}
+use Rattle.host_commands.specs.UnmapLists.{unmap_count, unmap_extent, unmap_fault}
+use Rattle.host_commands.proofs.UnmapLists.{names_blocks}
 use Rattle.uas_tasks.specs.declared.Job.{Job}
 use Rattle.uas_tasks.specs.declared.JobKind.TheVariants.{Unmaps}
 use Rattle.uas_tasks.specs.declared.Stage.TheVariants.{Asking}
@@ -16,37 +13,6 @@ use Rattle.uas_tasks.specs.declared.Task.{Task}
 use Rattle.uas_tasks.specs.declared.Task.TheVariants.{Blocks}
 use Rattle.uas_tasks.specs.declared.unmapping.Extent.{Extent}
 use Rattle.uas_tasks.specs.Jobs.{ended_check, ended_good, extent_from, extent_task, unless_fault, unmapped}
-
--- A LIST WITHOUT A FAULT names blocks of the logical unit
-
-apart : {P : Type 0} → ◌≡◌ {A = Bool} false true → P
-apart is = let it : ⊥ = cc in absurd it
-
-inside : (list : List ℕ) (blocks index : ℕ) → unmaps_beyond list blocks ≡ false → index < unmap_count list → is_unmapped_beyond list blocks index ≡ false
-unfolding unmaps_beyond
-inside list blocks index none within =
-    let many = unmap_count list in
-    let at = get_or-range_with_len 0 many index 0 within in
-    let there : index < length (range_with_len 0 many) = omega (arith, length-range_with_len 0 many, within) in
-    let by : (b : Bool) → is_unmapped_beyond list blocks index ≡ b → is_unmapped_beyond list blocks index ≡ false =
-    λ b. elim b as (λ b. is_unmapped_beyond list blocks index ≡ b → is_unmapped_beyond list blocks index ≡ false) [
-      | true ↦ λ is. apart (sym none ∙ list_any_at (is_unmapped_beyond list blocks) (range_with_len 0 many) index 0 there (ap (is_unmapped_beyond list blocks) at ∙ is))
-      | false ↦ λ is. is
-    ]
-    in
-    by (is_unmapped_beyond list blocks index) refl
-
-second_none : (first second : Sense) (a b : Bool) → cond a (Some first) (cond b (Some second) None) ≡ None → b ≡ false
-second_none first second true b is = let no : ◌≡◌ {A = Option Sense} (Some first) None = is in let it : ⊥ = cc in absurd it
-second_none first second false true is = let no : ◌≡◌ {A = Option Sense} (Some second) None = is in let it : ⊥ = cc in absurd it
-second_none first second false false is = refl
-
-names_its_blocks : (list : List ℕ) (blocks : ℕ) → unmap_fault list blocks ≡ None → NamesItsBlocks list blocks
-names_its_blocks list blocks is index within =
-    let not_beyond = inside list blocks index (second_none _ _ _ (unmaps_beyond list blocks) is) within in
-    grind (arith, nat_tests)
-
--- WHAT COMES OF A LIST
 
 -- the first descriptor that names blocks is one of the list, and behind it nothing is asked
 extent_from-so : (P : Option Extent → Type 0) (list : List ℕ) (index left : ℕ) → index + left ≤ unmap_count list → P None →
@@ -75,10 +41,10 @@ unmapped-so P buffer bytes from through unit job on good check =
         P (unless_fault unit fault (extent_task bytes through unit job (extent_from list from (unmap_count list - from))))
     by_fault (Some sense) is = check sense
     by_fault None is =
-        elim (cases_le from (unmap_count list)) [
+        elim (cases_lt from (unmap_count list)) [
           | inl within ↦
               extent_from-so (λ extent. P (extent_task bytes through unit job extent)) list from (unmap_count list - from) (omega (arith, within)) good
-              (λ extent there block count. on extent.index extent.block extent.count (rw (block, count) (names_its_blocks list job.count is extent.index there)))
+              (λ extent there block count. on extent.index extent.block extent.count (rw (block, count) (names_blocks list job.count is extent.index there)))
           | inr past ↦
               let none : unmap_count list - from ≡ 0 = omega (arith, past) in
               rw none good

@@ -46,7 +46,7 @@ use Rattle.uas_tasks.specs.Slots.{started, started_none, started_none_work, star
 use Rattle.uas_tasks.specs.Soundness.{IsAnswer, IsJobOf, IsJobOn, IsTaskWithin, IsUnit, IsWithin, StartsOn}
 use Rattle.uas_tasks.specs.Stale.{stale_unit, unit_written}
 use Rattle.uas_tasks.proofs.Counts.{Keeps}
-use Rattle.uas_tasks.specs.Jobs.{came, giving_task, is_zero, told_status, unmapped}
+use Rattle.uas_tasks.specs.Jobs.{came, is_zero, told_status, unmapped}
 use Rattle.uas_tasks.specs.Slots.{bytes_taken, same_kind}
 use Rattle.uas_tasks.proofs.Sound.{after_bad-so}
 use Rattle.uas_tasks.proofs.Descriptors.{unmapped-so}
@@ -433,11 +433,8 @@ after_answer-within shapes outcome chunk buffer (Some (Blocks unit job Waiting))
     by_outcome WriteProtected = job_there shapes unit job within
     by_outcome Aborted = job_there shapes unit job within
     by_outcome Busy = job_there shapes unit job within
-    by_outcome (Mapped mapped many) = giving_within (length (told_status job.kind job.lba mapped many))
-      where
-        giving_within : (many : ℕ) → IsTaskWithin shapes (giving_task (Some unit) many)
-        giving_within zero = job_there shapes unit job within
-        giving_within (suc many) = job_there shapes unit job within
+    by_outcome (Mapped mapped many) =
+        (giving-rests shapes (Some unit) (told_status job.kind job.lba mapped many) (job_there shapes unit job within)).1
 after_answer-within shapes outcome chunk buffer (Some (Blocks unit job (Moving at))) within = within
 after_answer-within shapes outcome chunk buffer (Some (Ended unit answer)) within = within
 after_answer-within shapes outcome chunk buffer (Some (Failed unit failure)) within = within

@@ -27,7 +27,7 @@ use Rattle.uas_tasks.specs.Saved.{moving_span, part_of, restored_slot, stage_spa
 use Rattle.uas_tasks.specs.Jobs.{chunk_blocks, chunk_bytes, request_bytes}
 use Rattle.uas_tasks.specs.Slots.{SlotState, fresh_slot}
 use Rattle.uas_tasks.specs.Soundness.{EachFits, IsSoundJob, IsSoundKind, FitsRoom, IsJobOf, IsSoundMachine, IsSoundSlot, IsSoundStage, IsSoundTask, IsTaskWithin, IsUnit, IsWithin, lengths_of, shapes_of}
-use Rattle.host_commands.specs.declared.TheConstants.{MOST_UNMAP_BYTES}
+use Rattle.host_commands.specs.declared.unmap_list.TheConstants.{MOST_UNMAP_BYTES}
 use Rattle.uas_tasks.specs.Slots.{chunk_room}
 use Rattle.uas_tasks.proofs.Room.{blocks_most, bytes_of_kind, chunk_fits}
 use Rattle.uas_tasks.proofs.Keeping.{waits}

@@ -19,7 +19,7 @@ use Rattle.uas_tasks.specs.declared.Task.{Task}
 use Rattle.uas_tasks.specs.declared.Task.TheVariants.{Giving, Blocks, Ended, Failed, Held}
 use Rattle.uas_tasks.specs.Machine.{Machine, slot_of}
 use Rattle.uas_tasks.specs.Saved.{is_free, is_job_of, is_job_on, is_kind, is_stage, is_tag_state, is_task, is_unit, may_restore, restored_slot}
-use Rattle.host_commands.specs.declared.TheConstants.{MOST_UNMAP_BYTES}
+use Rattle.host_commands.specs.declared.unmap_list.TheConstants.{MOST_UNMAP_BYTES}
 use Rattle.uas_tasks.specs.Slots.{SlotState, chunk_room, is_tag}
 use Rattle.uas_tasks.specs.Soundness.{EachFits, FitsRoom, IsJobOf, IsJobOn, IsSoundKind, IsUnit, lengths_of, shapes_of}
 use Rattle.uas_tasks.proofs.Counts.{Keeps}

@@ -7,7 +7,7 @@ use Rattle.std.specs.Option.{option_map_or}
 use Rattle.std.proofs.lemmas.Bool.{ltb-true}
 use Rattle.std.proofs.lemmas.Bool.Decides.{nat_tests}
 use Rattle.device_server.specs.declared.Answer.TheVariants.{Good}
-use Rattle.host_commands.specs.declared.TheConstants.{MOST_UNMAP_BYTES}
+use Rattle.host_commands.specs.declared.unmap_list.TheConstants.{MOST_UNMAP_BYTES}
 use Rattle.uas_target.specs.declared.DeviceAnswer.TheVariants.{Status}
 use Rattle.uas_tasks.specs.declared.Job.{Job}
 use Rattle.uas_tasks.specs.declared.JobKind.{JobKind}
@@ -21,7 +21,7 @@ use Rattle.uas_tasks.specs.Jobs.{after_bad, after_outcome, before_bad, chunk_blo
 use Rattle.uas_tasks.specs.Slots.{after_answer}
 use Rattle.uas_tasks.specs.Jobs.{is_begun, is_moved, is_reading, medium_error, next_chunk}
 use Rattle.uas_tasks.specs.Jobs.{came, giving_task, is_zero, kind_bytes, most_blocks, told_status, unmapped}
-use Rattle.uas_tasks.specs.Slots.{chunk_room, gave_task, outcome_given, task_given, took_task}
+use Rattle.uas_tasks.specs.Slots.{chunk_room, gave_task, outcome_given, task_given, took_task, waiting}
 use Rattle.uas_tasks.specs.Soundness.{FitsRoom, IsSoundJob, IsSoundKind, IsSoundStage, IsSoundTask}
 use Rattle.uas_tasks.proofs.Descriptors.{unmapped-so}
 
@@ -236,12 +236,18 @@ after_bad-fits chunk room block brings unit job fits = after_bad-so (FitsRoom ch
 
 -- data of the device, or none
 giving-sound : (chunk : ℕ) (unit : Option ℕ) (given : List ℕ) → IsSoundTask chunk (length given) (giving_task unit (length given))
-giving-sound chunk unit [] = tt
-giving-sound chunk unit (byte ∷ given) = omega arith
+giving-sound chunk unit given =
+    elim (length given == 0) as (λ b. (length given == 0) ≡ b → IsSoundTask chunk (length given) (cond b (Ended unit (Status Good)) (Giving unit 0))) [
+      | true ↦ λ none. tt
+      | false ↦ λ some. grind (arith, nat_tests)
+    ] refl
+
+either-fits : (chunk room : ℕ) (b : Bool) (one other : Task) → FitsRoom chunk room one → FitsRoom chunk room other → FitsRoom chunk room (cond b one other)
+either-fits chunk room true one other first second = first
+either-fits chunk room false one other first second = second
 
 giving-fits : (chunk room many : ℕ) (unit : Option ℕ) → FitsRoom chunk room (giving_task unit many)
-giving-fits chunk room zero unit = tt
-giving-fits chunk room (suc many) unit = tt
+giving-fits chunk room many unit = either-fits chunk room (many == 0) (Ended unit (Status Good)) (Giving unit 0) tt tt
 
 after_outcome-sound : (outcome : Outcome) (chunk : ℕ) (given : List ℕ) (unit : ℕ) (buffer : List ℕ) (job : Job) → 1 ≤ chunk → IsSoundJob job →
     IsSoundTask chunk (length (outcome_given outcome given job)) (after_outcome outcome chunk buffer unit job)
@@ -323,10 +329,6 @@ gave_task-sound chunk given moved (Some (Blocks unit job (Moving at))) some soun
 gave_task-sound chunk given moved (Some (Ended unit answer)) some sound = tt
 gave_task-sound chunk given moved (Some (Failed unit failure)) some sound = tt
 gave_task-sound chunk given moved (Some (Held unit code)) some sound = tt
-
-either-fits : (chunk room : ℕ) (b : Bool) (one other : Task) → FitsRoom chunk room one → FitsRoom chunk room other → FitsRoom chunk room (cond b one other)
-either-fits chunk room true one other first second = first
-either-fits chunk room false one other first second = second
 
 pub gave_task-fits : (chunk given room moved : ℕ) (task : Option Task) → 1 ≤ chunk → IfSome task (IsSoundTask chunk given) → IfSome task (FitsRoom chunk room) →
     IfSome (option_map (gave_task chunk given moved) task) (FitsRoom chunk room)
@@ -422,4 +424,20 @@ brought_most before count len most =
     let some : before * (len / count) ≤ count * (len / count) = mul-le-mul_right (len / count) most in
     omega (arith, all, some)
 
-pub ruleset gives = (gave_task-sound, gave_task-fits)
+-- a request is out
+
+pub waiting-sound : (chunk given : ℕ) (task : Option Task) → IfSome task (IsSoundTask chunk given) → IfSome (option_map waiting task) (IsSoundTask chunk given)
+waiting-sound chunk given None sound = tt
+waiting-sound chunk given (Some (Giving unit at)) sound = sound
+waiting-sound chunk given (Some (Blocks unit job stage)) sound = (sound.0, tt)
+waiting-sound chunk given (Some (Ended unit answer)) sound = tt
+waiting-sound chunk given (Some (Failed unit failure)) sound = tt
+waiting-sound chunk given (Some (Held unit code)) sound = tt
+
+pub waiting-fits : (chunk room : ℕ) (task : Option Task) → IfSome task (FitsRoom chunk room) → IfSome (option_map waiting task) (FitsRoom chunk room)
+waiting-fits chunk room None fits = tt
+waiting-fits chunk room (Some (Giving unit at)) fits = tt
+waiting-fits chunk room (Some (Blocks unit job stage)) fits = fits
+waiting-fits chunk room (Some (Ended unit answer)) fits = tt
+waiting-fits chunk room (Some (Failed unit failure)) fits = tt
+waiting-fits chunk room (Some (Held unit code)) fits = tt

@@ -4,7 +4,8 @@ use Rattle.std.specs.Prelude.{Option, None, is_some, option_and_then, option_map
 use Rattle.std.specs.List.{list_any}
 use Rattle.std.specs.Option.{option_map_or}
 use Rattle.scsi_cmd.specs.Buffers.{with_bytes_at}
-use Rattle.host_commands.specs.declared.TheConstants.{MOST_DATA_BYTES, MOST_UNMAP_BYTES}
+use Rattle.host_commands.specs.declared.TheConstants.{MOST_DATA_BYTES}
+use Rattle.host_commands.specs.declared.unmap_list.TheConstants.{MOST_UNMAP_BYTES}
 use Rattle.host_commands.specs.declared.UnitAttention.{UnitAttention}
 use Rattle.host_commands.specs.Shapes.{Shape, block_bytes}
 use Rattle.uas_profile.specs.declared.TheConstants.{GREATEST_TAG, MAX_UNITS}

@@ -6,7 +6,7 @@ use Rattle.scsi_cmd.specs.Buffers.{with_bytes_at}
 use Rattle.scsi_cmd.specs.declared.Sense.{Sense}
 use Rattle.device_server.specs.declared.Answer.TheVariants.{Good, Check}
 use Rattle.host_commands.specs.declared.BlockLength.{BlockLength}
-use Rattle.host_commands.specs.declared.TheConstants.{MOST_UNMAP_BYTES}
+use Rattle.host_commands.specs.declared.unmap_list.TheConstants.{MOST_UNMAP_BYTES}
 use Rattle.host_commands.specs.declared.Work.{Work}
 use Rattle.host_commands.specs.declared.Work.TheVariants.{Nothing, Gives as GivesWork, Reads as ReadsWork, Writes as WritesWork, Synchronizes as SynchronizesWork}
 use Rattle.host_commands.specs.declared.Work.TheVariants.{Verifies as VerifiesWork, Compares as ComparesWork, WritesAndVerifies as WritesAndVerifiesWork}

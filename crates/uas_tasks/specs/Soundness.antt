@@ -6,7 +6,8 @@ use Rattle.host_commands.specs.declared.Work.TheVariants.{Nothing, Gives as Give
 use Rattle.host_commands.specs.declared.Work.TheVariants.{Verifies as VerifiesWork, Compares as ComparesWork, WritesAndVerifies as WritesAndVerifiesWork}
 use Rattle.host_commands.specs.declared.Work.TheVariants.{Unmaps as UnmapsWork, WritesSame as WritesSameWork, TellsStatus as TellsStatusWork}
 use Rattle.host_commands.specs.Data.{IsOfDevice}
-use Rattle.host_commands.specs.declared.TheConstants.{MOST_DATA_BYTES, MOST_UNMAP_BYTES}
+use Rattle.host_commands.specs.declared.TheConstants.{MOST_DATA_BYTES}
+use Rattle.host_commands.specs.declared.unmap_list.TheConstants.{MOST_UNMAP_BYTES}
 use Rattle.host_commands.specs.Shapes.{Shape, block_bytes}
 use Rattle.uas_profile.specs.declared.TheConstants.{GREATEST_TAG, MAX_UNITS}
 use Rattle.uas_tasks.specs.declared.Job.{Job}

@@ -1,7 +1,7 @@
 //! What comes of a request of a command on blocks, and of bytes that moved.
 ghost use Rattle.std.specs.Prelude.{◌≡◌, ◌≤◌, IfSome, if◌then◌else◌, length, option_map};
 ghost use Rattle.std.specs.List.{list_all};
-ghost use Rattle.host_commands.specs.declared.TheConstants.{MOST_UNMAP_BYTES};
+ghost use Rattle.host_commands.specs.declared.unmap_list.TheConstants.{MOST_UNMAP_BYTES};
 ghost use Rattle.uas_tasks.specs.Jobs.{after_bad, after_outcome, came, done_by, ended_check, ended_good, failed_at, gave_chunk, is_reading, is_zero, medium_error, next_chunk, told_status};
 ghost use Rattle.uas_tasks.specs.Slots.{after_answer};
 ghost use Rattle.uas_tasks.specs.declared.JobKind.{JobKind};

@@ -144,7 +144,6 @@ impl Slot {
     }
 
     /// Its request is out now.
-    #[tactic(auto, using(crate::proofs::Room::out_fits))]
     pub(crate) fn ask(&mut self)
         requires { slot_wants self.old ≡ Wants.Asks }
         ensures { self.new ≡ asked_slot self.old }
@@ -257,7 +256,6 @@ impl Slot {
     }
 
     /// Gives the next bytes.
-    #[tactic(auto, using(crate::proofs::Sound::gives))]
     pub(crate) fn give(&mut self, bytes: &mut [u8])
         requires { MayGive (slot_wants self.old) (length bytes.old) }
         ensures slot { self.new ≡ gave_slot self.old (length bytes.old) }

@@ -2,7 +2,7 @@
 ghost use Rattle.std.specs.Prelude.{◌≡◌, ℕ, ◌+◌, ◌<◌, ◌≤◌, IfOk, None, Some, length, true};
 ghost use Rattle.host_commands.specs.Meaning.{asked_of};
 ghost use Rattle.host_commands.specs.Shapes.{block_bytes};
-ghost use Rattle.host_commands.specs.declared.TheConstants.{MOST_UNMAP_BYTES};
+ghost use Rattle.host_commands.specs.declared.unmap_list.TheConstants.{MOST_UNMAP_BYTES};
 ghost use Rattle.host_commands.specs.declared.Work.{Work};
 ghost use Rattle.uas_profile.specs.declared.TheConstants.{MAX_UNITS};
 ghost use Rattle.uas_tasks.specs.Machine.{begun, kept_attention};

@@ -1,6 +1,6 @@
 //! The list of an UNMAP (SBC), at the front of the chunk buffer: its descriptors in turn.
 ghost use Rattle.std.specs.Prelude.{◌≡◌, ◌-◌, ◌≤◌, length, take};
-ghost use Rattle.host_commands.specs.declared.TheConstants.{MOST_UNMAP_BYTES};
+ghost use Rattle.host_commands.specs.declared.unmap_list.TheConstants.{MOST_UNMAP_BYTES};
 ghost use Rattle.host_commands.specs.UnmapLists.{unmap_count};
 ghost use Rattle.uas_tasks.specs.Jobs.{extent_from, extent_task, unmapped};
 ghost use Rattle.uas_tasks.specs.declared.JobKind.TheVariants.{Unmaps};

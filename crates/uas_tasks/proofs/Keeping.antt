@@ -47,7 +47,7 @@ use Rattle.uas_tasks.specs.Soundness.{IsAnswer, IsJobOf, IsJobOn, IsTaskWithin, 
 use Rattle.uas_tasks.specs.Stale.{stale_unit, unit_written}
 use Rattle.uas_tasks.proofs.Counts.{Keeps}
 use Rattle.uas_tasks.specs.Jobs.{came, is_zero, told_status, unmapped}
-use Rattle.uas_tasks.specs.Slots.{bytes_taken, same_kind}
+use Rattle.uas_tasks.specs.Slots.{bytes_taken, filled, same_kind}
 use Rattle.uas_tasks.proofs.Sound.{after_bad-so}
 use Rattle.uas_tasks.proofs.Descriptors.{unmapped-so}
 
@@ -442,7 +442,10 @@ after_answer-within shapes outcome chunk buffer (Some (Held unit code)) within =
 
 pub answered-within : (shapes : List Shape) (slot : SlotState) (out : Out) (outcome : Outcome) (new : List ℕ) → IsWithin shapes slot →
     IsWithin shapes (answered_slot slot out outcome new)
-answered-within shapes slot out outcome new was = record { task = after_answer-within shapes outcome slot.chunk slot.bytes slot.task was.task; written = tt }
+answered-within shapes slot out outcome new was = record {
+  task = after_answer-within shapes outcome slot.chunk (filled slot out outcome new) slot.task was.task;
+  written = tt;
+}
 
 -- and nothing is stale
 none-either : (b : Bool) (unit : Option ℕ) → unit ≡ None → cond b None unit ≡ None

@@ -9,6 +9,7 @@ use Rattle.std.proofs.lemmas.List.{drop_at, get_or_default, get_or_past, length-
 use Rattle.std.proofs.lemmas.List.Elements.{All-get_or}
 use Rattle.std.proofs.lemmas.Nat.{mul-le}
 use Rattle.host_commands.specs.declared.CommandSet.{CommandSet}
+use Rattle.host_commands.specs.declared.TheConstants.{MOST_DATA_BYTES}
 use Rattle.scsi_cmd.specs.Buffers.{with_bytes_at}
 use Rattle.host_commands.specs.Shapes.{block_bytes}
 use Rattle.uas_tasks.specs.declared.Job.{Job}
@@ -113,13 +114,13 @@ stage-is chunk unit job Asking still sound = refl
 stage-is chunk unit job Waiting still sound = apart (sym still)
 stage-is chunk unit job (Moving at) still sound = and_from _ _ sound.1 (lt-ltb at (chunk_bytes chunk job) sound.0)
 
-task-is : (units : List LogicalUnit) (chunk : ℕ) (given bytes : List ℕ) (task : Task) → length given ≤ 604 → IsSoundTask chunk (length given) task →
+task-is : (units : List LogicalUnit) (chunk : ℕ) (given bytes : List ℕ) (task : Task) → length given ≤ MOST_DATA_BYTES → IsSoundTask chunk (length given) task →
     FitsRoom chunk (length bytes) task → IsTaskWithin (shapes_of units) task → waits (Some task) ≡ false →
     is_task units chunk (length (task_kept chunk given bytes task)) task ≡ true
 task-is units chunk given bytes (Giving unit at) few sound fits within still =
     let left = length-drop at given in
     and_from _ _ (and_from _ _ (unit-is units unit within) (lt-ltb 0 (length (drop at given)) (omega (arith, left, sound))))
-    (le-leb (at + length (drop at given)) 604 (omega (arith, left, sound, few)))
+    (le-leb (at + length (drop at given)) MOST_DATA_BYTES (omega (arith, left, sound, few)))
 task-is units chunk given bytes (Blocks unit job stage) few sound fits within still =
     and_from _ _ (and_from _ _ (job-is units unit job within sound.0.left sound.0.kind) (stage-is chunk unit job stage still sound.1))
     (eq-eqb (length (part_of (stage_span chunk job stage) bytes)) (stage_span chunk job stage).many
@@ -148,7 +149,7 @@ chunk-few chunk job most sound =
     (mul-le job.block_bytes (chunk_blocks chunk job) 4096 128 sound.most (omega (arith, most, blocks_most chunk job.kind)))
     (λ list few. omega (arith, few))
 
-task-few : (chunk : ℕ) (given bytes : List ℕ) (task : Task) → chunk ≤ 128 → length given ≤ 604 → IsSoundTask chunk (length given) task →
+task-few : (chunk : ℕ) (given bytes : List ℕ) (task : Task) → chunk ≤ 128 → length given ≤ MOST_DATA_BYTES → IsSoundTask chunk (length given) task →
     length (task_kept chunk given bytes task) ≤ 524288
 task-few chunk given bytes (Giving unit at) most few sound = omega (arith, length-drop at given, few)
 task-few chunk given bytes (Blocks unit job stage) most few sound =

@@ -27,7 +27,7 @@ use Rattle.uas_tasks.specs.declared.slot.Out.{Out}
 use Rattle.uas_tasks.specs.Laws.{AsksNotOf, LastAnswerFrees, NothingStalePasses, WhatIsAskedLaterLandsLater}
 use Rattle.uas_tasks.specs.Machine.{Machine, answer_fault, answer_on, answered_out, answered_unless, has_stale, is_held, next_by, no_slot, number_of, out_of_number, slot_of, slot_under, wanted, with_slot, with_slot_under}
 use Rattle.uas_tasks.specs.Jobs.{moved_way, request_of, stage_wants}
-use Rattle.uas_tasks.specs.Slots.{SlotState, after_answer, answered_slot, asked_slot, out_of, slot_wants, task_wants}
+use Rattle.uas_tasks.specs.Slots.{SlotState, after_answer, answered_slot, asked_slot, filled, out_of, slot_wants, task_wants}
 use Rattle.uas_tasks.specs.Stale.{held_by, is_stale, unit_in}
 use Rattle.uas_tasks.proofs.Counts.{any_counted, one}
 use Rattle.uas_tasks.proofs.Keeping.{answered-stale, asked-stale}
@@ -198,7 +198,7 @@ by_fault machine number tag outcome bytes held code count is task out None done 
     (last_gone number machine.slots tag (answered_slot (slot_of machine tag) out outcome bytes) count is
     (ap (is_at number) (answered-stale (slot_of machine tag) out outcome bytes)))
     (under_so (λ s. s.task ≡ Some (Held number code)) (λ s. answered_slot s out outcome bytes)
-    (λ s was. ap (option_map (after_answer outcome s.chunk s.bytes)) was) machine.slots tag held task)
+    (λ s was. ap (option_map (after_answer outcome s.chunk (filled s out outcome bytes))) was) machine.slots tag held task)
 
 freed : (machine : Machine) (number tag : ℕ) (outcome : Outcome) (bytes : List ℕ) (held code : ℕ) → count_by (is_stale number) machine.slots ≡ 1 →
     is_stale number (slot_of machine tag) ≡ true → (slot_of machine held).task ≡ Some (Held number code) → (out : Option Out) →

@@ -1,7 +1,8 @@
 -- What has room in a chunk buffer: a chunk, an UNMAP's list, a request's bytes. Cited by the calls that read and write it.
 use Rattle.std.proofs.Math.Nat.{mul-le-mul_right}
-use Rattle.std.proofs.Common.{◌≡◌, ℕ, ◌+◌, ◌*◌, ◌<◌, ◌≤◌, true, false, Option, Some, None, IfSome, arith}
-use Rattle.std.specs.Prelude.{option_and_then}
+use Rattle.std.proofs.Common.{◌≡◌, ℕ, ◌+◌, ◌*◌, ◌<◌, ◌≤◌, true, false, Option, Some, None, IfSome, Bool, cond, ◌-◌, subst, arith}
+use Rattle.std.specs.Prelude.{option_and_then, is_some, length}
+use Rattle.std.specs.Option.{option_map_or}
 use Rattle.std.proofs.lemmas.Nat.{mul-le}
 use Rattle.host_commands.specs.declared.unmap_list.TheConstants.{MOST_UNMAP_BYTES}
 use Rattle.uas_tasks.specs.declared.Job.{Job}
@@ -10,9 +11,11 @@ use Rattle.uas_tasks.specs.declared.JobKind.TheVariants.{Reads, ReadsBeforeBad, 
 use Rattle.uas_tasks.specs.declared.Task.{Task}
 use Rattle.uas_tasks.specs.declared.Task.TheVariants.{Giving, Blocks, Ended, Failed, Held}
 use Rattle.uas_tasks.specs.declared.slot.Out.{Out}
-use Rattle.uas_tasks.specs.Jobs.{chunk_blocks, chunk_bytes, kind_bytes, most_blocks, request_bytes}
-use Rattle.uas_tasks.specs.Slots.{chunk_room, out_of}
-use Rattle.uas_tasks.specs.Soundness.{FitsRoom, IsSoundKind, IsSoundTask}
+use Rattle.uas_tasks.specs.declared.Stage.TheVariants.{Moving}
+use Rattle.uas_tasks.specs.declared.Wants.TheVariants.{Absent, Waits}
+use Rattle.uas_tasks.specs.Jobs.{chunk_blocks, chunk_bytes, kind_bytes, most_blocks, moved_way, request_bytes}
+use Rattle.uas_tasks.specs.Slots.{SlotState, chunk_room, out_of, slot_wants, task_wants}
+use Rattle.uas_tasks.specs.Soundness.{FitsRoom, IsSoundKind, IsSoundSlot, IsSoundTask, MayTake}
 
 -- a chunk has at most so many blocks
 pub blocks_most : (chunk : ℕ) (kind : JobKind) → most_blocks kind chunk ≤ chunk
@@ -87,4 +90,29 @@ out_fits chunk given room (Some (Ended unit answer)) sound fits = tt
 out_fits chunk given room (Some (Failed unit failure)) sound fits = tt
 out_fits chunk given room (Some (Held unit code)) sound fits = tt
 
-pub ruleset rooms = (chunk_fits, out_fits, room_block, room_list)
+-- bytes that are taken are some of the chunk
+may_moved : (out : Bool) (kind : JobKind) (bytes moved : ℕ) → MayTake (cond out Waits (moved_way kind bytes)) moved → moved ≤ bytes
+may_moved true kind bytes moved may = absurd may
+may_moved false Reads bytes moved may = absurd may
+may_moved false ReadsBeforeBad bytes moved may = absurd may
+may_moved false (Writes through) bytes moved may = may
+may_moved false Compares bytes moved may = may
+may_moved false Verifies bytes moved may = absurd may
+may_moved false Synchronizes bytes moved may = absurd may
+may_moved false (WritesAndVerifies compares has_written) bytes moved may = may
+may_moved false (WritesSame unmaps through) bytes moved may = may
+may_moved false (Zeroes unmaps through) bytes moved may = absurd may
+may_moved false (Unmaps list index block count through) bytes moved may = may
+may_moved false (TellsStatus most) bytes moved may = absurd may
+
+pub put_fits : (slot : SlotState) (unit at moved : ℕ) (job : Job) → IsSoundSlot slot → slot.task ≡ Some (Blocks unit job (Moving at)) →
+    MayTake (slot_wants slot) moved → at + moved ≤ length slot.bytes
+put_fits slot unit at moved job sound is may =
+    let fits : chunk_room slot.chunk job.block_bytes ≤ length slot.bytes = subst (λ t. IfSome t (FitsRoom slot.chunk (length slot.bytes))) is sound.fits in
+    let so : IsSoundTask slot.chunk (length slot.given) (Blocks unit job (Moving at)) =
+    subst (λ t. IfSome t (IsSoundTask slot.chunk (length slot.given))) is sound.task in
+    let wants : MayTake (cond (is_some slot.out) Waits (moved_way job.kind (chunk_bytes slot.chunk job - at))) moved =
+    subst (λ t. MayTake (option_map_or (task_wants slot.chunk (is_some slot.out) (length slot.given)) t Absent) moved) is may in
+    let less = may_moved (is_some slot.out) job.kind (chunk_bytes slot.chunk job - at) moved wants in
+    let all = chunk_fits slot.chunk (length slot.bytes) job so.0.kind fits in
+    omega (arith, less, all, so.1.0)

@@ -1,12 +1,14 @@
 -- Slots stay sound. Cited by the answers of a slot's calls.
 use Rattle.std.proofs.Math.Nat.{mul-div-le, mul-le-mul_right}
-use Rattle.std.proofs.Common.{◌≡◌, ℕ, ◌+◌, ◌*◌, ◌/◌, ◌<◌, ◌≤◌, true, false, cond, Option, Some, None, IfSome, arith, refl, subst}
+use Rattle.std.proofs.Common.{◌≡◌, ℕ, ◌+◌, ◌*◌, ◌/◌, ◌<◌, ◌≤◌, true, false, cond, Option, Some, None, IfSome, arith, refl, subst, min, length-take}
 use Rattle.std.specs.Prelude.{Bool, nat_le, nat_lt, option_map, zero, suc, length, take, List, [], ◌∷◌, ◌==◌, ◌-◌, ◌&&◌}
 use Rattle.std.specs.List.{list_all}
 use Rattle.std.specs.Option.{option_map_or}
 use Rattle.std.proofs.lemmas.Bool.{ltb-true}
 use Rattle.std.proofs.lemmas.Bool.Decides.{nat_tests}
 use Rattle.device_server.specs.declared.Answer.TheVariants.{Good}
+use Rattle.host_commands.specs.declared.TheConstants.{MOST_DATA_BYTES}
+use Rattle.host_commands.specs.UnmapLists.{status_data}
 use Rattle.host_commands.specs.declared.unmap_list.TheConstants.{MOST_UNMAP_BYTES}
 use Rattle.uas_target.specs.declared.DeviceAnswer.TheVariants.{Status}
 use Rattle.uas_tasks.specs.declared.Job.{Job}
@@ -423,6 +425,64 @@ brought_most before count len most =
     let all : count * (len / count) ≤ len = mul-div-le len count in
     let some : before * (len / count) ≤ count * (len / count) = mul-le-mul_right (len / count) most in
     omega (arith, all, some)
+
+-- a READ that passes gives no data of the device
+
+done_given : (given : List ℕ) (task : Option Task) → option_map_or (task_given Done given) task given ≡ given
+done_given given None = refl
+done_given given (Some (Giving unit at)) = refl
+done_given given (Some (Blocks unit job Asking)) = refl
+done_given given (Some (Blocks unit job Waiting)) = refl
+done_given given (Some (Blocks unit job (Moving at))) = refl
+done_given given (Some (Ended unit answer)) = refl
+done_given given (Some (Failed unit failure)) = refl
+done_given given (Some (Held unit code)) = refl
+
+pub after_done-sound : (chunk : ℕ) (given buffer : List ℕ) (task : Option Task) → 1 ≤ chunk → IfSome task (IsSoundTask chunk (length given)) →
+    IfSome (option_map (after_answer Done chunk buffer) task) (IsSoundTask chunk (length given))
+after_done-sound chunk given buffer task some sound =
+    subst (λ g. IfSome (option_map (after_answer Done chunk buffer) task) (IsSoundTask chunk (length g))) (done_given given task)
+    (after_answer-sound Done chunk given buffer task some sound)
+
+-- what is told of mapped blocks has room
+
+told_few : (kind : JobKind) (lba many : ℕ) (mapped : Bool) → length (told_status kind lba mapped many) ≤ MOST_DATA_BYTES
+told_few Reads lba many mapped = omega arith
+told_few ReadsBeforeBad lba many mapped = omega arith
+told_few (Writes through) lba many mapped = omega arith
+told_few Compares lba many mapped = omega arith
+told_few Verifies lba many mapped = omega arith
+told_few Synchronizes lba many mapped = omega arith
+told_few (WritesAndVerifies compares has_written) lba many mapped = omega arith
+told_few (WritesSame unmaps through) lba many mapped = omega arith
+told_few (Zeroes unmaps through) lba many mapped = omega arith
+told_few (Unmaps list index block count through) lba many mapped = omega arith
+told_few (TellsStatus most) lba many mapped =
+    omega (arith, length-take (min most 24) (status_data lba (min many 4294967295) mapped))
+
+outcome_few : (outcome : Outcome) (given : List ℕ) (job : Job) → length given ≤ MOST_DATA_BYTES → length (outcome_given outcome given job) ≤ MOST_DATA_BYTES
+outcome_few Done given job few = few
+outcome_few Differs given job few = few
+outcome_few MediumError given job few = few
+outcome_few NotReady given job few = few
+outcome_few (DiffersAt byte) given job few = few
+outcome_few (MediumErrorAt block brings) given job few = few
+outcome_few NoSpace given job few = few
+outcome_few WriteProtected given job few = few
+outcome_few Aborted given job few = few
+outcome_few Busy given job few = few
+outcome_few (Mapped mapped many) given job few = told_few job.kind job.lba many mapped
+
+pub given_few : (outcome : Outcome) (given : List ℕ) (task : Option Task) → length given ≤ MOST_DATA_BYTES →
+    length (option_map_or (task_given outcome given) task given) ≤ MOST_DATA_BYTES
+given_few outcome given None few = few
+given_few outcome given (Some (Giving unit at)) few = few
+given_few outcome given (Some (Blocks unit job Asking)) few = few
+given_few outcome given (Some (Blocks unit job Waiting)) few = outcome_few outcome given job few
+given_few outcome given (Some (Blocks unit job (Moving at))) few = few
+given_few outcome given (Some (Ended unit answer)) few = few
+given_few outcome given (Some (Failed unit failure)) few = few
+given_few outcome given (Some (Held unit code)) few = few
 
 -- a request is out
 

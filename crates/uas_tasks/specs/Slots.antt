@@ -154,7 +154,7 @@ given_after outcome slot = option_map_or (task_given outcome slot.given) slot.ta
 -- its request is answered
 abbrev pub answered_slot : SlotState → Out → Outcome → List ℕ → SlotState
 answered_slot slot out outcome new = record slot {
-  task = option_map (after_answer outcome slot.chunk slot.bytes) slot.task;
+  task = option_map (after_answer outcome slot.chunk (filled slot out outcome new)) slot.task;
   out = None;
   given = given_after outcome slot;
   bytes = filled slot out outcome new;

@@ -5,7 +5,7 @@ ghost use Rattle.scsi_cmd.specs.Buffers.{with_bytes_at};
 ghost use Rattle.host_commands.specs.Data.{IsOfDevice, given_bytes};
 ghost use Rattle.std.specs.Option.{option_map_or};
 ghost use Rattle.uas_tasks.specs.Outcomes.{has_place};
-ghost use Rattle.uas_tasks.specs.Slots.{SlotState, answered_slot, asked_slot, brings_bytes, fresh_slot, gave_slot, giving_slot, task_given};
+ghost use Rattle.uas_tasks.specs.Slots.{SlotState, answered_slot, asked_slot, brings_bytes, bytes_taken, fresh_slot, gave_slot, giving_slot, task_given};
 ghost use Rattle.uas_tasks.specs.Slots.{is_wrong_length, next_bytes, passed_out, passing_out, slot_wants, took_slot, with_task};
 ghost use Rattle.uas_tasks.specs.Soundness.{FitsRoom, IsSoundSlot, IsSoundTask, MayGive, MayTake};
 ghost use Rattle.uas_tasks.specs.Stale.{held_by, stale_unit, stale_without, writes_out};
@@ -248,10 +248,14 @@ impl Slot {
         ensures len { length self.new.bytes ≡ length self.old.bytes }
     {
         let brings = self.brings_bytes(out, outcome);
-        let task = after_answer(outcome, self.chunk, self.buffer.as_slice(), self.task);
-        give_told(&mut self.given, outcome, &self.task);
         fill(&mut self.buffer, brings, bytes);
-        self.task = task;
+        give_told(&mut self.given, outcome, &self.task);
+        self.task = after_answer(
+            outcome,
+            self.chunk,
+            self.buffer.as_slice(),
+            self.task,
+        );
         self.out = None;
     }
 
@@ -322,6 +326,21 @@ impl Slot {
         ensures slot { self.new ≡ took_slot self.old bytes.now }
         ensures len { length self.new.bytes ≡ length self.old.bytes }
     {
+        self.put_next(bytes);
+        self.task = took_task(
+            self.chunk,
+            bytes.len(),
+            self.buffer.as_slice(),
+            self.task,
+        );
+    }
+
+    /// The next bytes are in the chunk buffer.
+    fn put_next(&mut self, bytes: &[u8])
+        requires { MayTake (slot_wants self.old) (length bytes.now) }
+        ensures slot { self.new ≡ record self.old { bytes = bytes_taken self.old bytes.now } }
+        ensures len { length self.new.bytes ≡ length self.old.bytes }
+    {
         if let Some(
             Task::Blocks {
                 stage: Stage::Moving { at },
@@ -331,12 +350,6 @@ impl Slot {
         {
             self.buffer.write_at(at, bytes);
         }
-        self.task = took_task(
-            self.chunk,
-            bytes.len(),
-            self.buffer.as_slice(),
-            self.task,
-        );
     }
 }
 

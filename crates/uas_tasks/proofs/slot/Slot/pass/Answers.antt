@@ -2,7 +2,7 @@ use Rattle.std.proofs.Common.{IfSome, length, subst}
 use Rattle.uas_tasks.specs.declared.Outcome.TheVariants.{Done}
 use Rattle.uas_tasks.specs.Slots.{SlotState}
 use Rattle.uas_tasks.specs.Soundness.{FitsRoom, IsSoundTask}
-use Rattle.uas_tasks.proofs.Sound.{after_answer-fits, after_answer-sound, gave_task-fits, gave_task-sound}
+use Rattle.uas_tasks.proofs.Sound.{after_answer-fits, after_done-sound, gave_task-fits, gave_task-sound}
 use Rattle.uas_tasks.proofs.slot.Slot.pass.Goals as goal
 
 pub set_done-requires-clause-sound : goal.set_done-requires-clause-sound
@@ -10,7 +10,7 @@ set_done-requires-clause-sound c =
     let slot = c.self.inside in
     let sound = c.self.invariant in
     subst (λ (s : SlotState). IfSome c.after_answer-done.result (IsSoundTask s.chunk (length s.given))) c.self.view_is
-    (rw c.after_answer-done.ensures (after_answer-sound Done slot.chunk slot.given.items slot.buffer slot.task sound.some sound.task))
+    (rw c.after_answer-done.ensures (after_done-sound slot.chunk slot.given.items c.as_slice.result.now slot.task sound.some sound.task))
 
 pub set_done-requires-clause-fits : goal.set_done-requires-clause-fits
 set_done-requires-clause-fits c =
@@ -18,7 +18,7 @@ set_done-requires-clause-fits c =
     let sound = c.self.invariant in
     subst (λ (s : SlotState). IfSome c.after_answer-done.result (FitsRoom s.chunk (length s.bytes))) c.self.view_is
     (rw c.after_answer-done.ensures
-    (after_answer-fits Done slot.chunk (length slot.given.items) (length slot.buffer) slot.buffer slot.task sound.some sound.task sound.fits))
+    (after_answer-fits Done slot.chunk (length slot.given.items) (length slot.buffer) c.as_slice.result.now slot.task sound.some sound.task sound.fits))
 
 pub invariant_of-self : goal.invariant_of-self
 invariant_of-self c =

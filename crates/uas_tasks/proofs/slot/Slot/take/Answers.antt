@@ -4,8 +4,8 @@ use Rattle.uas_tasks.proofs.slot.Slot.take.Goals as goal
 
 pub invariant_of-self : goal.invariant_of-self
 invariant_of-self c =
-    let slot = c.self-2.inside in
-    let sound = c.self-2.invariant in
+    let slot = c.self.inside in
+    let sound = c.self.invariant in
     record {
       some = sound.some;
       most = sound.most;

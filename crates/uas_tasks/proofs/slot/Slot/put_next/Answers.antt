@@ -9,8 +9,11 @@ use Rattle.uas_tasks.proofs.slot.Slot.put_next.Goals as goal
 pub write_at-requires : goal.write_at-requires
 write_at-requires c =
     let found = c.in-Some-Blocks-default-default-Moving in
+    let one = found.is in
+    let two = rw one at found.field-0-is in
+    let three = rw (one, two) at found.field-0-2-is in
     let is : c.self.inside.task ≡ Some (Blocks found.field-0-0 found.field-0-1 (Moving found.at)) =
-    found.is ∙ ap Some found.field-0-is ∙ ap (λ s. Some (Blocks found.field-0-0 found.field-0-1 s)) (found.at-1-is ∙ found.field-0-2-is)
+    one ∙ ap Some (two ∙ ap (Blocks found.field-0-0 found.field-0-1) three)
     in
     let may = subst (λ (s : SlotState). MayTake (slot_wants s) (length c.args.bytes.now)) (sym c.self.view_is) c.requires in
     put_fits _ found.field-0-0 found.at (length c.args.bytes.now) found.field-0-1 c.self.invariant is may

@@ -10,9 +10,7 @@ ghost use Rattle.uas_tasks.specs.Soundness.{FitsRoom, IsSoundJob, IsSoundWork};
 use crate::jobs::{chunk_blocks, first_stage};
 use crate::moves::giving_task;
 use crate::unmapping::unmapped;
-use crate::{
-    Answer, Detail, DeviceAnswer, Failure, Job, JobKind, Outcome, SenseData, Stage, Task,
-};
+use crate::{Answer, Detail, DeviceAnswer, Failure, Job, JobKind, Outcome, SenseData, Stage, Task};
 use arrayvec::ArrayVec;
 use host_commands::status_bytes;
 use scsi_cmd::Sense;

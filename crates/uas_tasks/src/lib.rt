@@ -190,16 +190,27 @@ pub enum JobKind {
     Reads,
     /// The last blocks of a READ: the one behind them can't be read.
     ReadsBeforeBad,
-    Writes { through: bool },
+    Writes {
+        through: bool,
+    },
     Compares,
     Verifies,
     Synchronizes,
     /// Each chunk is written through and then verified, or compared; whether it has been written.
-    WritesAndVerifies { compares: bool, has_written: bool },
+    WritesAndVerifies {
+        compares: bool,
+        has_written: bool,
+    },
     /// It takes one block, and writes it on each: WRITE SAME. Of zeros it becomes `Zeroes`.
-    WritesSame { unmaps: bool, through: bool },
+    WritesSame {
+        unmaps: bool,
+        through: bool,
+    },
     /// It writes zeros, and may give the room back where it `unmaps`.
-    Zeroes { unmaps: bool, through: bool },
+    Zeroes {
+        unmaps: bool,
+        through: bool,
+    },
     /// It takes a list of so many bytes, and then discards `count` blocks from `block` on, which are those of the descriptor of this index. Its job is
     /// all blocks of the logical unit.
     Unmaps {
@@ -210,7 +221,9 @@ pub enum JobKind {
         through: bool,
     },
     /// It tells whether blocks are mapped, in at most so many bytes.
-    TellsStatus { most: u8 },
+    TellsStatus {
+        most: u8,
+    },
 }
 
 /// The blocks of a command, `count` from `lba` on, of which `done` are done.

@@ -48,12 +48,7 @@ pub(crate) fn gave_task(chunk: u16, given: usize, moved: usize, task: Option<Tas
 }
 
 /// A task that took so many bytes of its chunk, which are in its chunk buffer.
-pub(crate) fn took_task(
-    chunk: u16,
-    moved: usize,
-    buffer: &[u8],
-    task: Option<Task>,
-) -> Option<Task>
+pub(crate) fn took_task(chunk: u16, moved: usize, buffer: &[u8], task: Option<Task>) -> Option<Task>
     requires sound { IfSome task (IsSoundWork chunk) }
     requires some { 1 ≤ chunk }
     requires fits { IfSome task (FitsRoom chunk (length buffer.now)) }
@@ -67,14 +62,7 @@ pub(crate) fn took_task(
     }
 }
 
-fn took_blocks(
-    chunk: u16,
-    moved: usize,
-    buffer: &[u8],
-    unit: usize,
-    job: Job,
-    stage: Stage,
-) -> Task
+fn took_blocks(chunk: u16, moved: usize, buffer: &[u8], unit: usize, job: Job, stage: Stage) -> Task
     requires job { IsSoundJob job }
     requires stage { IsSoundStage chunk job stage }
     requires some { 1 ≤ chunk }

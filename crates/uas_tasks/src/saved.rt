@@ -13,7 +13,9 @@ use crate::receiver::is_tag;
 use crate::slot::Slot;
 use crate::{Job, JobKind, LogicalUnit, Stage, Task, Tasks};
 use arrayvec::ArrayVec;
-use host_commands::{CommandSet, LogicalUnitShape, MOST_DATA_BYTES, MOST_UNMAP_BYTES, UnitAttention};
+use host_commands::{
+    CommandSet, LogicalUnitShape, MOST_DATA_BYTES, MOST_UNMAP_BYTES, UnitAttention,
+};
 use scsi_cmd::Buffer;
 use thiserror::Error;
 
@@ -310,10 +312,7 @@ fn moving_span(kind: JobKind, at: usize, bytes: usize) -> Span
         | JobKind::Compares
         | JobKind::WritesAndVerifies { .. }
         | JobKind::WritesSame { .. }
-        | JobKind::Unmaps { .. } => Span {
-            from: 0,
-            many: at,
-        },
+        | JobKind::Unmaps { .. } => Span { from: 0, many: at },
         JobKind::Verifies
         | JobKind::Synchronizes
         | JobKind::Zeroes { .. }

@@ -250,12 +250,7 @@ impl Slot {
         let brings = self.brings_bytes(out, outcome);
         fill(&mut self.buffer, brings, bytes);
         give_told(&mut self.given, outcome, &self.task);
-        self.task = after_answer(
-            outcome,
-            self.chunk,
-            self.buffer.as_slice(),
-            self.task,
-        );
+        self.task = after_answer(outcome, self.chunk, self.buffer.as_slice(), self.task);
         self.out = None;
     }
 
@@ -327,12 +322,7 @@ impl Slot {
         ensures len { length self.new.bytes ≡ length self.old.bytes }
     {
         self.put_next(bytes);
-        self.task = took_task(
-            self.chunk,
-            bytes.len(),
-            self.buffer.as_slice(),
-            self.task,
-        );
+        self.task = took_task(self.chunk, bytes.len(), self.buffer.as_slice(), self.task);
     }
 
     /// The next bytes are in the chunk buffer.
@@ -354,11 +344,7 @@ impl Slot {
 }
 
 /// What a task that waits gives once it is told of mapped blocks.
-fn give_told(
-    given: &mut ArrayVec<u8, MOST_DATA_BYTES>,
-    outcome: Outcome,
-    task: &Option<Task>,
-)
+fn give_told(given: &mut ArrayVec<u8, MOST_DATA_BYTES>, outcome: Outcome, task: &Option<Task>)
     ensures { given.new.items ≡ option_map_or (task_given outcome given.old.items) task.now given.old.items }
 {
     if let Outcome::Mapped { mapped, count } = outcome {

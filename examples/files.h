@@ -57,11 +57,18 @@ static inline enum image_fault lock_file(int file)
     return errno == EAGAIN || errno == EACCES ? IMAGE_LOCKED : IMAGE_FAILED;
 }
 
-/* Opens and locks a file. The second open file is of the first one's file, whatever stands at the path meanwhile. */
+/* Leaves it to whoever locks it next. */
+static inline void unlock_file(int file)
+{
+    struct flock whole = { .l_type = F_UNLCK, .l_whence = SEEK_SET };
+    fcntl(file, F_OFD_SETLK, &whole);
+    flock(file, LOCK_UN);
+}
+
+/* Opens a file. The second open file is of the first one's file, whatever stands at the path meanwhile. */
 static inline enum image_fault open_files(struct image *image, const char *path)
 {
     char same[40];
-    image->syncing = -1;
     image->file = open(path, O_RDWR | O_CLOEXEC);
     if (image->file < 0)
         return IMAGE_FAILED;
@@ -71,20 +78,27 @@ static inline enum image_fault open_files(struct image *image, const char *path)
     if (image->syncing < 0 || end < 0)
         return IMAGE_FAILED;
     image->bytes = (uint64_t)end;
-    return image->bytes % UAS_BLOCK_BYTES != 0 ? IMAGE_NOT_WHOLE : lock_file(image->file);
+    return image->bytes % UAS_BLOCK_BYTES != 0 ? IMAGE_NOT_WHOLE : IMAGE_GOOD;
 }
 
-/* An image of the file at a path, which nobody else has until close_image. Where there is a fault nothing is left open. */
-static inline enum image_fault open_image(struct image *image, const char *path)
+/* An image of the file at a path, which nobody else has until close_image where it is locked. Where there is a fault nothing is left open. */
+static inline enum image_fault open_image_as(struct image *image, const char *path, bool locked)
 {
-    *image = (struct image){ .bad = UINT64_MAX, .order = PTHREAD_MUTEX_INITIALIZER };
+    *image = (struct image){ .file = -1, .syncing = -1, .bad = UINT64_MAX, .order = PTHREAD_MUTEX_INITIALIZER };
     enum image_fault fault = open_files(image, path);
+    if (fault == IMAGE_GOOD && locked)
+        fault = lock_file(image->file);
     if (fault != IMAGE_GOOD) {
         int why = errno;
         close_image(image);
         errno = why;
     }
     return fault;
+}
+
+static inline enum image_fault open_image(struct image *image, const char *path)
+{
+    return open_image_as(image, path, true);
 }
 
 /* Reads or writes all of some bytes of a file. */

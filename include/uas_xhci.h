@@ -153,7 +153,7 @@ uint8_t uas_xhci_work(uas_xhci *xhci, const struct uas_region *regions, size_t c
 
 /* The same, and the ranges that were written, in the order of the writes, for whoever keeps a record of changed memory: the first turn->noted
  * of `room` ranges. Where there were more of them, and with no room at all, turn->lost is 1, and any byte that is lent may have been written;
- * else none beside these ranges was, which is tested and not proved. Most steps write two or three ranges.
+ * else each byte beside these ranges is as it was. That no range is noted that wasn't written is tested. Most steps write two or three.
  * Faults: those of uas_xhci_work. */
 uint8_t uas_xhci_work_noting(uas_xhci *xhci, const struct uas_region *regions, size_t count, struct uas_xhci_turn *turn,
                              struct uas_range *written, size_t room);
@@ -206,7 +206,15 @@ bool uas_xhci_take_message(uas_xhci *xhci);
  * each write of USBCMD. */
 bool uas_xhci_host_error(uas_xhci *xhci);
 
-/* ---- The disk and the function ---- */
+/* ---- The disk and the function ----
+ *
+ * What a machine's maker does (examples/machine.c):
+ *
+ *     a reset, a pull     waits until each request that is at work is done, and answers it, or a late write would land on later ones; the call; then
+ *                         looks at the pin, and works
+ *     a save              stops the guest's processors, takes no more steps, answers each request that is out, saves the guest's memory and the blocks,
+ *                         and the controller
+ *     a load              puts the memory and the blocks back, and loads; looks at the pin, and works once the processors run */
 
 /* The disk is plugged in, or unplugged with all its tasks. */
 void uas_xhci_plug(uas_xhci *xhci, bool attached);

@@ -1,110 +1,48 @@
-/* A PCI device for QEMU 7.2: the library's xHCI controller with its disk, over the guest's memory, with each logical unit's blocks in a file.
+/* A PCI device for QEMU 7.2: the library's xHCI controller with its disk, over the guest's memory, with each logical unit's blocks in a file or a
+ * drive of QEMU's. It is saved and moved with its machine.
  *
- *   -device uas-xhci,file=PATH[,serial=N][,file1=PATH[,serial1=N]]..[,bootindex=N][,bulk-only=off][,msix=on|off|auto][,msi=on|off|auto]
- *           [,attached=off][,bad=BLOCK]
+ *   -device uas-xhci,file=PATH|drive=ID[,serial=N][,file1=PATH|drive1=ID[,serial1=N]]..[,bootindex=N][,bulk-only=off][,msix=on|off|auto]
+ *           [,msi=on|off|auto][,attached=off][,bad=BLOCK]
  *
  * QEMU's part is the bus: configuration space, the page of registers, the guest's memory by address, an interrupt, and threads for the files.
  * Rings, contexts, commands and the disk are the library's. A register write notes what is to be done and takes a number of steps; what is
  * left is done by a bottom half, in turns, so that no processor of the guest waits in its register access for a long ring. README.md says
  * how it is built, and what is trusted. */
 #include "qemu/osdep.h"
-#include "block/aio.h"
-#include "block/thread-pool.h"
-#include "exec/memory.h"
 #include "hw/pci/msi.h"
 #include "hw/pci/msix.h"
-#include "hw/pci/pci.h"
 #include "hw/qdev-properties.h"
 #include "migration/vmstate.h"
 #include "qapi/error.h"
 #include "qemu/error-report.h"
-#include "qemu/main-loop.h"
 #include "qemu/module.h"
 #include "qemu/timer.h"
-#include "qom/object.h"
-#include "sysemu/sysemu.h"
-#include "uas-units.h"
-#include "uas_xhci.h"
+#include "uas-memory.h"
 
-/* A request to a file is of at most 64 KiB. */
-enum { CHUNK_BLOCKS = 128, CHUNK_BYTES = CHUNK_BLOCKS * UAS_BLOCK_BYTES };
-
-/* Most steps write two or three ranges. */
-enum { STEPS_A_TURN = 256, RANGES = 4 * STEPS_A_TURN, MICROFRAME_NS = 125000 };
+/* More than any saved controller has: 240 tags, each with a chunk. */
+enum { MOST_SAVED_BYTES = 32 << 20 };
 
 enum { MSI_AT = 0x70, MSIX_AT = 0x90, MSIX_TABLE = 0x2000, MSIX_PBA = 0x3000, BAR_BYTES = 0x4000 }; /* in configuration space; in BAR 0 */
 
-#define TYPE_UAS_XHCI "uas-xhci"
-OBJECT_DECLARE_SIMPLE_TYPE(UasXhci, UAS_XHCI)
+/* ---- Blocks ---- */
 
-struct UasXhci {
-    PCIDevice parent;
-    MemoryRegion bar, registers;
-    MemoryListener listener;
-    struct uas_region regions[UAS_XHCI_REGIONS]; /* what the device reaches of the machine's RAM: nothing where it isn't bus master */
-    size_t lent;
-    struct uas_range written[RANGES];
-    QEMUBH *turn;
-    uas_xhci *xhci;
-    uint32_t jobs; /* requests that are at work */
-    bool drains;   /* they are waited for, and none begins */
-    bool attached;
-    bool bulk_only; /* the disk tells Bulk-Only Transport before UAS */
-    int32_t bootindex;
-    OnOffAuto msix, msi;
-    uint64_t bad; /* of unit 0 */
-    struct unit units[MOST_UNITS];
-};
-
-/* ---- Blocks: each request is a job of QEMU's thread pool ---- */
-
-struct job {
-    UasXhci *device;
-    struct uas_request request;
-    uint64_t looked; /* blocks of a VERIFY that are looked through */
-    struct uas_outcome outcome;
-    uint8_t bytes[CHUNK_BYTES];
-};
-
-/* Does a request, or the next part of a VERIFY, in a thread of the pool. */
-static int do_job(void *opaque)
+/* The controller drops the answer itself where the task is gone. */
+static void job_ended(struct job *job)
 {
-    struct job *job = opaque;
-    struct uas_request next = job->request.kind == UAS_REQUEST_VERIFY ? next_look(&job->request, job->looked) : job->request;
-    job->outcome = try_request(&job->device->units[next.unit].image, &next, job->bytes);
-    return 0;
-}
-
-static void submit(struct job *job);
-
-/* In QEMU's main loop again. A VERIFY goes on, unless the device is going. The controller drops the answer itself where the task is gone. */
-static void job_done(void *opaque, int ran)
-{
-    struct job *job = opaque;
     UasXhci *device = job->device;
-    if (job->request.kind == UAS_REQUEST_VERIFY && job->outcome.what == UAS_DONE) {
-        job->looked += LOOK_BLOCKS;
-        if (job->looked < job->request.count && !device->drains) {
-            submit(job);
-            return;
-        }
-        job->outcome = told(job->looked < job->request.count ? UAS_ABORTED : UAS_DONE);
-    }
     uas_xhci_tell(device->xhci, job->request.number, &job->outcome, job->bytes, bytes_of(&job->request, &job->outcome));
     device->jobs--;
     qemu_bh_schedule(device->turn);
     g_free(job);
 }
 
-static void submit(struct job *job)
-{
-    thread_pool_submit_aio(aio_get_thread_pool(qemu_get_aio_context()), do_job, job, job_done, job);
-}
-
 static void begin_request(UasXhci *device, const struct uas_request *request)
 {
     struct job *job = g_new(struct job, 1);
+    job->ended = job_ended;
     job->device = device;
+    job->unit = &device->units[request->unit];
+    job->given_up = &device->drains;
     job->request = *request;
     job->looked = 0;
     if (request->kind == UAS_REQUEST_WRITE || request->kind == UAS_REQUEST_COMPARE)
@@ -122,53 +60,15 @@ static void drain(UasXhci *device)
     device->drains = false;
 }
 
-/* ---- Memory: the machine's RAM, wherever it stands ---- */
-
-/* Lends a range of RAM: with the region before it where both are one. */
-static bool lend(Int128 start, Int128 length, const MemoryRegion *region, hwaddr offset, void *opaque)
-{
-    UasXhci *device = opaque;
-    struct uas_region *last = device->lent > 0 ? &device->regions[device->lent - 1] : NULL;
-    if (!region->ram || region->readonly || region->ram_device)
-        return false;
-    struct uas_region one = { int128_get64(start), memory_region_get_ram_ptr((MemoryRegion *)region) + offset, int128_get64(length) };
-    if (last != NULL && last->address + last->length == one.address && last->bytes + last->length == one.bytes)
-        last->length += one.length;
-    else if (device->lent < UAS_XHCI_REGIONS)
-        device->regions[device->lent++] = one;
-    else
-        warn_report_once("uas-xhci: the machine's memory is in more than %d parts, of which the others aren't reached", UAS_XHCI_REGIONS);
-    return false;
-}
-
-static void memory_changed(MemoryListener *listener)
-{
-    UasXhci *device = container_of(listener, UasXhci, listener);
-    RCU_READ_LOCK_GUARD();
-    device->lent = 0;
-    flatview_for_each_range(address_space_to_flatview(pci_get_address_space(&device->parent)), lend, device);
-    qemu_bh_schedule(device->turn);
-}
-
-/* Tells QEMU that RAM was written, as a mapping that ends does: translated code is dropped, pages are dirty. */
-static void tell_written(UasXhci *device, uint64_t address, uint64_t length)
-{
-    AddressSpace *space = pci_get_address_space(&device->parent);
-    for (hwaddr part; length > 0; address += part, length -= part) {
-        part = length;
-        void *bytes = address_space_map(space, address, &part, true, MEMTXATTRS_UNSPECIFIED);
-        if (bytes == NULL)
-            break;
-        address_space_unmap(space, bytes, part, true, part);
-    }
-}
-
 /* ---- Registers, steps, interrupts ---- */
 
 static void work(UasXhci *device)
 {
     struct uas_xhci_turn turn = { .budget = STEPS_A_TURN };
-    if (device->lent > 0 && uas_xhci_work_noting(device->xhci, device->regions, device->lent, &turn, device->written, RANGES) != UAS_OK)
+    if (device->lent == 0) {
+        bool is_master = pci_get_word(device->parent.config + PCI_COMMAND) & PCI_COMMAND_MASTER;
+        turn.more = is_master && copied_work(device);
+    } else if (uas_xhci_work_noting(device->xhci, device->regions, device->lent, &turn, device->written, RANGES) != UAS_OK)
         error_report_once("uas-xhci: the machine's memory was refused");
     for (size_t i = 0; i < turn.noted; i++)
         tell_written(device, device->written[i].address, device->written[i].length);
@@ -193,7 +93,7 @@ static void turn(void *opaque)
 {
     UasXhci *device = opaque;
     struct uas_request request;
-    if (device->drains)
+    if (device->drains || !device->runs)
         return;
     work(device);
     while (uas_xhci_next_request(device->xhci, &request))
@@ -231,9 +131,103 @@ static void reset(DeviceState *state)
     interrupt(device);
 }
 
+/* ---- Saving and moving ---- */
+
+/* While the machine stands still no request is at work and nothing is written; what was left to do is done when it runs again. */
+static void runs_changed(void *opaque, bool running, RunState state)
+{
+    UasXhci *device = opaque;
+    device->runs = running;
+    if (!running) {
+        drain(device);
+        return;
+    }
+    lock_units(device->units);
+    qemu_bh_schedule(device->turn);
+}
+
+static void forget_saved(UasXhci *device)
+{
+    g_free(device->saved);
+    device->saved = NULL;
+    device->saved_bytes = 0;
+}
+
+/* The files of a machine that moves are left to the other one. */
+static int before_save(void *opaque)
+{
+    UasXhci *device = opaque;
+    size_t length = 0;
+    drain(device);
+    forget_saved(device);
+    uint8_t fault = uas_xhci_save(device->xhci, NULL, 0, &length);
+    if (fault == UAS_XHCI_ROOM && length <= MOST_SAVED_BYTES) {
+        device->saved = g_malloc(length);
+        device->saved_bytes = (uint32_t)length;
+        fault = uas_xhci_save(device->xhci, device->saved, length, &length);
+    }
+    if (fault != UAS_OK) {
+        error_report("uas-xhci: not saved: %s", uas_fault_name(fault));
+        return -EINVAL;
+    }
+    if (runstate_check(RUN_STATE_FINISH_MIGRATE))
+        leave_units(device->units);
+    return 0;
+}
+
+static int after_save(void *opaque)
+{
+    forget_saved(opaque);
+    return 0;
+}
+
+static int before_load(void *opaque)
+{
+    UasXhci *device = opaque;
+    drain(device);
+    forget_saved(device);
+    return 0;
+}
+
+static bool is_of_saved_size(void *opaque, int version)
+{
+    return ((UasXhci *)opaque)->saved_bytes <= MOST_SAVED_BYTES;
+}
+
+/* A machine whose bytes are refused doesn't run: QEMU says which device it was. */
+static int after_load(void *opaque, int version)
+{
+    UasXhci *device = opaque;
+    struct uas_xhci_loaded loaded = { 0 };
+    struct uas_region text = { 0, device->saved, device->saved_bytes };
+    uint8_t fault = device->saved_bytes == 0 ? UAS_XHCI_SHORT : uas_xhci_take_state(device->xhci, &loaded, &text, 1);
+    if (fault != UAS_OK)
+        error_report("uas-xhci: not loaded: %s at byte %" PRIu64, uas_fault_name(fault), loaded.at);
+    forget_saved(device);
+    return fault == UAS_OK ? 0 : -EINVAL;
+}
+
+static const VMStateDescription state = {
+    .name = TYPE_UAS_XHCI,
+    .version_id = 1,
+    .minimum_version_id = 1,
+    .pre_save = before_save,
+    .post_save = after_save,
+    .pre_load = before_load,
+    .post_load = after_load,
+    .fields = (VMStateField[]){
+        VMSTATE_PCI_DEVICE(parent, UasXhci),
+        VMSTATE_MSIX(parent, UasXhci),
+        VMSTATE_BOOL(attached, UasXhci),
+        VMSTATE_UINT32(saved_bytes, UasXhci),
+        VMSTATE_VALIDATE("uas-xhci's bytes", is_of_saved_size),
+        VMSTATE_VARRAY_UINT32_ALLOC(saved, UasXhci, saved_bytes, 1, vmstate_info_uint8, uint8_t),
+        VMSTATE_END_OF_LIST() },
+};
+
 /* ---- The device ---- */
 
-/* Opens the files and makes a controller with a disk of as many logical units. */
+/* Opens the logical units and makes a controller with a disk of as many. */
 static bool open_disk(UasXhci *device, Error **errp)
 {
     struct uas_disk disks[MOST_UNITS];
@@ -245,7 +239,7 @@ static bool open_disk(UasXhci *device, Error **errp)
     if (fault == UAS_OK && device->bulk_only)
         fault = uas_xhci_offer_bulk_only(device->xhci, (uint8_t)(count - 1), device->units[0].serial);
     if (fault != UAS_OK)
-        error_setg(errp, "uas-xhci: %s: %s", device->units[0].path, uas_fault_name(fault));
+        error_setg(errp, "uas-xhci: %s", uas_fault_name(fault));
     return fault == UAS_OK;
 }
 
@@ -314,6 +308,8 @@ static void realize(PCIDevice *parent, Error **errp)
     pci_config_set_interrupt_pin(parent->config, 1);
     pci_register_bar(parent, 0, PCI_BASE_ADDRESS_SPACE_MEMORY | PCI_BASE_ADDRESS_MEM_TYPE_64, &device->bar);
     device->turn = new_turn(device);
+    device->runs = runstate_is_running();
+    device->runs_told = qdev_add_vm_change_state_handler(DEVICE(device), runs_changed, device);
     device->listener = (MemoryListener){ .name = TYPE_UAS_XHCI, .commit = memory_changed };
     memory_listener_register(&device->listener, pci_get_address_space(parent));
 }
@@ -323,8 +319,10 @@ static void unrealize(PCIDevice *parent)
 {
     UasXhci *device = UAS_XHCI(parent);
     memory_listener_unregister(&device->listener);
+    qemu_del_vm_change_state_handler(device->runs_told);
     device->lent = 0;
     drain(device);
+    forget_saved(device);
     qemu_bh_delete(device->turn);
     drop_messages(device);
     close_disk(device);
@@ -362,9 +360,6 @@ static Property properties[] = {
     DEFINE_PROP_UINT64("bad", UasXhci, bad, UINT64_MAX), /* a block of unit 0 that can't be read or written, for tests */
     DEFINE_PROP_END_OF_LIST(),
 };
-
-/* The library tells nobody its state, so that a machine with it can be neither saved nor moved. */
-static const VMStateDescription state = { .name = TYPE_UAS_XHCI, .unmigratable = 1 };
 
 static void class_init(ObjectClass *class, void *data)
 {

@@ -7,7 +7,8 @@
 
 static struct uas_request asked; /* what the library asks for, whenever it is asked */
 static int begun, answered, resets, plugs;
-static uint8_t outcome;
+static uint8_t outcome, told_bytes[65536];
+static uint64_t told_place, told_length;
 static atomic_int writing; /* writes that are on their way into the file */
 static int writing_at_reset = -1;
 static struct uas_disk disks[MOST_UNITS];
@@ -54,8 +55,11 @@ bool uas_xhci_next_request(uas_xhci *xhci, struct uas_request *request)
 
 uint8_t uas_xhci_tell(uas_xhci *xhci, uint64_t number, const struct uas_outcome *came, const uint8_t *bytes, size_t length)
 {
-    (void)xhci, (void)number, (void)bytes, (void)length;
+    (void)xhci, (void)number;
     outcome = came->what;
+    told_place = came->flags == UAS_OUTCOME_AT ? came->at : UINT64_MAX;
+    told_length = length;
+    memcpy(told_bytes, bytes, length);
     answered++;
     return UAS_OK;
 }
@@ -77,6 +81,32 @@ void uas_xhci_plug(uas_xhci *xhci, bool attached)
 uint8_t uas_xhci_work_noting(uas_xhci *xhci, const struct uas_region *regions, size_t count, struct uas_xhci_turn *turn, struct uas_range *written, size_t room)
 {
     (void)xhci, (void)regions, (void)count, (void)turn, (void)written, (void)room;
+    return UAS_OK;
+}
+
+static uint8_t saves = UAS_XHCI_ROOM, loads = UAS_OK; /* what the library says */
+static int writing_at_save = -1;
+
+uint8_t uas_xhci_save(const uas_xhci *xhci, uint8_t *bytes, size_t room, size_t *length)
+{
+    (void)xhci;
+    writing_at_save = writing;
+    *length = 3;
+    if (saves != UAS_XHCI_ROOM || room < 3)
+        return saves;
+    memcpy(bytes, "abc", 3);
+    return UAS_OK;
+}
+
+uint8_t uas_xhci_take_state(uas_xhci *xhci, struct uas_xhci_loaded *loaded, struct uas_region *text, size_t count)
+{
+    (void)xhci, (void)loaded;
+    return count == 1 && text->length == 3 && memcmp(text->bytes, "abc", 3) == 0 ? loads : UAS_XHCI_SUM;
+}
+
+uint8_t uas_xhci_work_asking(uas_xhci *xhci, const struct uas_region *regions, size_t count, struct uas_xhci_turn *turn, struct uas_range *written, size_t room, struct uas_range *wanted)
+{
+    (void)xhci, (void)regions, (void)count, (void)turn, (void)written, (void)room, (void)wanted;
     return UAS_OK;
 }
 
@@ -214,10 +244,13 @@ static void refuses_units(const char *path, const char *other)
 {
     UasXhci *device = named(NULL);
     device->units[1].path = (char *)other;
-    tell("unit 1 without unit 0", refused(device, "file=PATH is missing"));
+    tell("unit 1 without unit 0", refused(device, "file=PATH or drive=ID is missing"));
     device = named(path);
     device->units[2].path = (char *)other;
     tell("a gap", refused(device, "file2 is given, but not file1"));
+    device = named(path);
+    device->units[0].drive = (BlockBackend *)other;
+    tell("a file and a drive", refused(device, "file and drive are both given"));
     device = named(path);
     device->units[14].serial = 9;
     tell("a number without a file", refused(device, "serial14 is given, but not file14"));
@@ -255,6 +288,125 @@ static void has_units(const char *path, const char *other)
     free(device);
 }
 
+/* Has a device do one request, to its end. */
+static void done(UasXhci *device, struct uas_request request)
+{
+    begun = answered = 0;
+    asked = request;
+    write_register(device, 0, 0, 4);
+    asked.kind = 0;
+    tell("a request is done", answered == 1 && device->jobs == 0);
+}
+
+/* A drive of QEMU's: its blocks, a bad one, and what goes through. */
+static void has_a_drive(void)
+{
+    static BlockBackend drive;
+    Error *error = NULL;
+    UasXhci *device = named(NULL);
+    device->units[0].drive = &drive;
+    drive.bad = -1;
+    for (int i = 0; i < DRIVE_BYTES; i++)
+        drive.bytes[i] = (uint8_t)(i / 512);
+    realize(&device->parent, &error);
+    tell("a drive", error == NULL && units == 1 && disks[0].blocks == 100 && disks[0].flags == 0);
+    done(device, (struct uas_request){ .block = 8, .count = 64, .kind = UAS_REQUEST_READ });
+    tell("is read", outcome == UAS_DONE && told_length == 64 * 512 && told_bytes[0] == 8 && told_bytes[64 * 512 - 1] == 71 && drive.reads == 1);
+    for (uint64_t bad = 8; bad < 72; bad++) {
+        drive.bad = (int64_t)bad * 512 + 5;
+        done(device, (struct uas_request){ .block = 8, .count = 64, .kind = UAS_REQUEST_READ });
+        tell("up to its bad block", outcome == UAS_MEDIUM_ERROR && told_place == bad && told_length == (bad - 8) * 512);
+        tell("with the blocks before it", told_length == 0 || (told_bytes[0] == 8 && told_bytes[told_length - 1] == bad - 1));
+        done(device, (struct uas_request){ .block = 8, .count = 64, .kind = UAS_REQUEST_VERIFY });
+        tell("a bad block isn't verified", outcome == UAS_MEDIUM_ERROR);
+    }
+    drive.bad = -1;
+    done(device, (struct uas_request){ .block = 8, .count = 8, .kind = UAS_REQUEST_COMPARE });
+    tell("what differs is told", outcome == UAS_DIFFERS && told_place == 0);
+    done(device, (struct uas_request){ .block = 8, .count = 8, .kind = UAS_REQUEST_WRITE, .through = true });
+    tell("is written through", outcome == UAS_DONE && drive.bytes[8 * 512] == 7 && drive.bytes[16 * 512 - 1] == 7 && drive.through == 1);
+    done(device, (struct uas_request){ .block = 8, .count = 8, .kind = UAS_REQUEST_COMPARE });
+    tell("and compared", outcome == UAS_DONE);
+    done(device, (struct uas_request){ .block = 8, .count = 9, .kind = UAS_REQUEST_COMPARE });
+    tell("up to the byte that differs", outcome == UAS_DIFFERS && told_place == 8 * 512);
+    done(device, (struct uas_request){ .block = 96, .count = 8, .kind = UAS_REQUEST_WRITE });
+    tell("want of room is told", outcome == UAS_NO_SPACE && drive.through == 1);
+    done(device, (struct uas_request){ .count = 100, .kind = UAS_REQUEST_SYNC });
+    tell("is synced", outcome == UAS_DONE && drive.flushes == 1);
+    unrealize(&device->parent);
+    free(device);
+    device = named(NULL);
+    device->units[0].drive = &drive;
+    drive.only_read = true;
+    realize(&device->parent, &error);
+    tell("a drive that is read only", error == NULL && disks[0].flags == UAS_DISK_READ_ONLY);
+    unrealize(&device->parent);
+    free(device);
+}
+
+/* A machine that stands still: what is at work is waited for, and nothing begins. */
+static void stands_still(const char *path)
+{
+    const struct uas_request write = { .block = 8, .count = 8, .kind = UAS_REQUEST_WRITE };
+    UasXhci *device = working(path, write);
+    runs_told(device, false, RUN_STATE_PAUSED);
+    tell("a machine that stops waits for a write", writing == 0 && answered == 1 && device->jobs == 0);
+    write_register(device, 0, 0, 4);
+    while (aio_poll(NULL, false))
+        ;
+    tell("while it stands still no request begins", answered == 1 && device->jobs == 0);
+    asked.kind = 0;
+    runs_told(device, true, RUN_STATE_RUNNING);
+    tell("it goes on when it runs", bottom_half.due);
+    unrealize(&device->parent);
+    free(device);
+}
+
+/* A machine that moves: its file is the other one's, until it runs here again. */
+static void is_moved(const char *path)
+{
+    Error *error = NULL;
+    asked.kind = 0;
+    UasXhci *from = made(path, &error);
+    run_state = RUN_STATE_INMIGRATE;
+    UasXhci *to = made(path, &error);
+    tell("a machine that comes opens the file of one that runs", error == NULL && !to->units[0].locked);
+    from->runs = false;
+    run_state = RUN_STATE_FINISH_MIGRATE;
+    saves = UAS_XHCI_OUT;
+    tell("what isn't saved isn't moved, and keeps its file", before_save(from) != 0 && from->units[0].locked);
+    saves = UAS_XHCI_ROOM;
+    tell("what is saved leaves its file", before_save(from) == 0 && from->saved_bytes == 3 && writing_at_save == 0 && !from->units[0].locked);
+    tell("nothing is loaded of nothing", after_load(to, 1) != 0);
+    to->saved = malloc(3);
+    memcpy(to->saved, from->saved, 3);
+    to->saved_bytes = 3;
+    loads = UAS_XHCI_SHAPE;
+    tell("what the library refuses isn't loaded", after_load(to, 1) != 0 && to->saved == NULL);
+    to->saved = malloc(3);
+    memcpy(to->saved, from->saved, 3);
+    to->saved_bytes = 3;
+    loads = UAS_OK;
+    tell("what it takes is", is_of_saved_size(to, 1) && after_load(to, 1) == 0 && after_save(from) == 0 && from->saved == NULL);
+    to->saved_bytes = UINT32_MAX;
+    tell("more bytes than any has are refused", !is_of_saved_size(to, 1));
+    to->saved_bytes = 0;
+    run_state = RUN_STATE_RUNNING;
+    runs_changed(to, true, RUN_STATE_RUNNING);
+    tell("it runs, and has the file", to->units[0].locked);
+    runs_changed(from, true, RUN_STATE_RUNNING);
+    tell("the other one hasn't", !from->units[0].locked);
+    begun = answered = 0;
+    asked = (struct uas_request){ .block = 8, .count = 8, .kind = UAS_REQUEST_WRITE };
+    write_register(from, 0, 0, 4);
+    tell("and writes nothing", answered == 1 && outcome == UAS_NOT_READY && writing == 0);
+    asked.kind = 0;
+    unrealize(&to->parent);
+    unrealize(&from->parent);
+    free(to);
+    free(from);
+}
+
 /* Makes a file of so many blocks, and has its name in `path`. */
 static bool make_file(char *path, uint64_t blocks)
 {
@@ -274,6 +426,9 @@ int main(void)
     opens_files(path);
     refuses_units(path, other);
     has_units(path, other);
+    has_a_drive();
+    stands_still(path);
+    is_moved(path);
     unlink(path);
     unlink(other);
     return failed > 0;

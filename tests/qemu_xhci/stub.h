@@ -4,6 +4,7 @@
 #define STUB_H
 #include <errno.h>
 #include <fcntl.h>
+#include <inttypes.h>
 #include <pthread.h>
 #include <stdarg.h>
 #include <stdbool.h>
@@ -30,7 +31,12 @@ typedef struct FlatView FlatView;
 typedef struct AioContext AioContext;
 typedef struct ThreadPool ThreadPool;
 typedef struct Property { const char *name; } Property;
-typedef struct VMStateDescription { const char *name; int unmigratable; } VMStateDescription;
+typedef struct BlockBackend BlockBackend;
+typedef struct BlockConf { BlockBackend *blk; } BlockConf;
+typedef struct QEMUIOVector { void *bytes; size_t size; } QEMUIOVector;
+typedef struct VMChangeStateEntry VMChangeStateEntry;
+typedef enum RunState { RUN_STATE_RUNNING, RUN_STATE_PAUSED, RUN_STATE_INMIGRATE, RUN_STATE_FINISH_MIGRATE } RunState;
+typedef struct VMStateField { const char *name; } VMStateField;
 typedef struct InterfaceInfo { const char *type; } InterfaceInfo;
 typedef enum OnOffAuto { ON_OFF_AUTO_AUTO, ON_OFF_AUTO_ON, ON_OFF_AUTO_OFF } OnOffAuto;
 typedef struct QEMUBH { void (*run)(void *); void *opaque; bool due; } QEMUBH;
@@ -39,6 +45,13 @@ struct MemoryListener {
     const char *name;
     void (*commit)(MemoryListener *);
 };
+
+typedef struct VMStateDescription {
+    const char *name;
+    int version_id, minimum_version_id;
+    int (*pre_save)(void *), (*post_save)(void *), (*pre_load)(void *), (*post_load)(void *, int);
+    VMStateField *fields;
+} VMStateDescription;
 
 typedef struct MemoryRegionOps {
     uint64_t (*read)(void *, hwaddr, unsigned);
@@ -72,6 +85,7 @@ static PCIDeviceClass pci_class;
 static DeviceClass device_class;
 static QEMUBH bottom_half;
 
+enum { MEMTX_OK = 0, PCI_COMMAND = 4, PCI_COMMAND_MASTER = 4 };
 enum { DEVICE_LITTLE_ENDIAN, QEMU_CLOCK_VIRTUAL, PCI_CLASS_PROG = 9, PCI_VENDOR_ID_REDHAT_QUMRANET = 0x1af4, PCI_CLASS_SERIAL_USB = 0x0c03 };
 enum { PCI_BASE_ADDRESS_SPACE_MEMORY = 0, PCI_BASE_ADDRESS_MEM_TYPE_64 = 4, DEVICE_CATEGORY_USB = 0, MEMTXATTRS_UNSPECIFIED = 0 };
 
@@ -85,17 +99,27 @@ enum { PCI_BASE_ADDRESS_SPACE_MEMORY = 0, PCI_BASE_ADDRESS_MEM_TYPE_64 = 4, DEVI
 #define PCI_DEVICE_CLASS(class) ((void)(class), &pci_class)
 #define DEVICE_CLASS(class) ((void)(class), &device_class)
 #define DEFINE_PROP_STRING(name, type, field) { name }
+#define DEFINE_PROP_DRIVE(name, type, field) { name }
 #define DEFINE_PROP_BOOL(name, type, field, value) { name }
 #define DEFINE_PROP_ON_OFF_AUTO(name, type, field, value) { name }
 #define DEFINE_PROP_UINT32(name, type, field, value) { name }
 #define DEFINE_PROP_UINT64(name, type, field, value) { name }
 #define DEFINE_PROP_END_OF_LIST() { NULL }
+#define VMSTATE_PCI_DEVICE(field, type) { #field }
+#define VMSTATE_MSIX(field, type) { #field }
+#define VMSTATE_BOOL(field, type) { #field }
+#define VMSTATE_UINT32(field, type) { #field }
+#define VMSTATE_VALIDATE(name, test) { (void *)(test) == NULL ? NULL : name }
+#define VMSTATE_VARRAY_UINT32_ALLOC(field, type, many, version, info, element) { #field }
+#define VMSTATE_END_OF_LIST() { NULL }
 #define type_init(function) void (*const registers_types)(void) = function;
 #define container_of(at, type, field) ((type *)((char *)(at) - offsetof(type, field)))
 #define MIN(a, b) ((a) < (b) ? (a) : (b))
 #define RCU_READ_LOCK_GUARD() ((void)0)
 #define g_new(type, count) ((type *)malloc(sizeof(type) * (count)))
+#define g_malloc malloc
 #define g_free free
+#define error_report(...) (fprintf(stderr, __VA_ARGS__), fputc(10, stderr))
 #define error_report_once(...) fprintf(stderr, __VA_ARGS__)
 #define warn_report_once(...) fprintf(stderr, __VA_ARGS__)
 #define qemu_bh_new_guarded(run, opaque, guard) ((void)(guard), new_bottom_half(run, opaque))
@@ -183,6 +207,64 @@ static inline bool aio_poll(AioContext *context, bool blocking)
     return true;
 }
 
+static inline void aio_bh_schedule_oneshot(AioContext *context, void (*run)(void *), void *opaque) { (void)context; run(opaque); }
+
+/* ---- The machine: it runs, unless a test says something else ---- */
+
+static RunState run_state = RUN_STATE_RUNNING;
+static void (*runs_told)(void *, bool, RunState);
+
+static inline bool runstate_is_running(void) { return run_state == RUN_STATE_RUNNING; }
+static inline bool runstate_check(RunState state) { return run_state == state; }
+static inline VMChangeStateEntry *qdev_add_vm_change_state_handler(DeviceState *device, void (*told)(void *, bool, RunState), void *opaque) { (void)device, (void)opaque; runs_told = told; return NULL; }
+static inline void qemu_del_vm_change_state_handler(VMChangeStateEntry *entry) { (void)entry; runs_told = NULL; }
+
+/* ---- A drive: blocks in memory, of which one is bad and none is written through without being told ---- */
+
+enum { BDRV_REQ_FUA = 16, DRIVE_BYTES = 100 * 512 };
+
+struct BlockBackend {
+    uint8_t bytes[DRIVE_BYTES];
+    int64_t bad; /* its place in bytes, or -1 */
+    int flushes, through, reads;
+    bool only_read;
+};
+
+static inline int64_t blk_getlength(BlockBackend *drive) { (void)drive; return DRIVE_BYTES; }
+static inline bool blk_supports_write_perm(BlockBackend *drive) { return !drive->only_read; }
+static inline const char *blk_name(BlockBackend *drive) { (void)drive; return "drive"; }
+static inline bool blkconf_apply_backend_options(BlockConf *drive, bool only_read, bool resizes, Error **error) { (void)error; return only_read == drive->blk->only_read && !resizes; }
+static inline void qemu_iovec_init_buf(QEMUIOVector *vector, void *bytes, size_t size) { *vector = (QEMUIOVector){ bytes, size }; }
+
+static inline bool is_bad(const BlockBackend *drive, int64_t at, size_t size)
+{
+    return at < 0 || at + (int64_t)size > DRIVE_BYTES || (drive->bad >= at && drive->bad < at + (int64_t)size);
+}
+
+static inline void blk_aio_preadv(BlockBackend *drive, int64_t at, QEMUIOVector *vector, int flags, void (*done)(void *, int), void *opaque)
+{
+    bool bad = is_bad(drive, at, vector->size) || flags != 0;
+    drive->reads++;
+    if (!bad)
+        memcpy(vector->bytes, drive->bytes + at, vector->size);
+    done(opaque, bad ? -EIO : 0);
+}
+
+static inline void blk_aio_pwritev(BlockBackend *drive, int64_t at, QEMUIOVector *vector, int flags, void (*done)(void *, int), void *opaque)
+{
+    bool bad = is_bad(drive, at, vector->size);
+    if (!bad)
+        memcpy(drive->bytes + at, vector->bytes, vector->size);
+    drive->through += flags == BDRV_REQ_FUA;
+    done(opaque, bad ? -ENOSPC : 0);
+}
+
+static inline void blk_aio_flush(BlockBackend *drive, void (*done)(void *, int), void *opaque)
+{
+    drive->flushes++;
+    done(opaque, 0);
+}
+
 /* ---- What does nothing ---- */
 
 static inline uint64_t int128_get64(Int128 it) { return it; }
@@ -192,6 +274,9 @@ static inline FlatView *address_space_to_flatview(AddressSpace *space) { (void)s
 static inline void flatview_for_each_range(FlatView *view, bool (*each)(Int128, Int128, const MemoryRegion *, hwaddr, void *), void *opaque) { (void)view, (void)each, (void)opaque; }
 static inline void *address_space_map(AddressSpace *space, hwaddr at, hwaddr *length, bool writes, int how) { (void)space, (void)at, (void)length, (void)writes, (void)how; return NULL; }
 static inline void address_space_unmap(AddressSpace *space, void *bytes, hwaddr length, bool writes, hwaddr used) { (void)space, (void)bytes, (void)length, (void)writes, (void)used; }
+static inline int pci_dma_read(PCIDevice *device, uint64_t at, void *bytes, uint64_t length) { (void)device, (void)at, (void)bytes, (void)length; return 1; }
+static inline int pci_dma_write(PCIDevice *device, uint64_t at, const void *bytes, uint64_t length) { (void)device, (void)at, (void)bytes, (void)length; return 1; }
+static inline uint16_t pci_get_word(const uint8_t *config) { return (uint16_t)(config[0] | config[1] << 8); }
 static inline bool msix_enabled(PCIDevice *device) { (void)device; return false; }
 static inline void msix_notify(PCIDevice *device, unsigned vector) { (void)device, (void)vector; }
 static inline int msix_init(PCIDevice *device, unsigned short vectors, MemoryRegion *table, uint8_t table_bar, unsigned table_at, MemoryRegion *pending, uint8_t pending_bar, unsigned pending_at, uint8_t at, Error **error) { (void)device, (void)vectors, (void)table, (void)table_bar, (void)table_at, (void)pending, (void)pending_bar, (void)pending_at, (void)at, (void)error; return 0; }

@@ -10,15 +10,18 @@
  * The device knows tasks, commands, sense data and order. It has no blocks: each move of blocks is a *request* to the backend, which is
  * whoever calls it. uas_tasks_next tells what the device does next on a tag: it gives or takes bytes, in any parts; it asks, and from then
  * on the request is out until uas_tasks_answered tells what came of it; or it ends, and uas_tasks_status has the information unit that
- * answers. Requests of different tags may be answered in any order. A request has a number of its own: where its task was aborted meanwhile
- * its answer is dropped, and the tag may already have another task.
+ * answers. In their place uas_tasks_ask and uas_tasks_tell do for any command set, and they alone for UAS_SET_DISK, since who doesn't know
+ * all requests would take one for another. Requests of different tags may be answered in any order. A request has a number of its own: where
+ * its task was aborted meanwhile its answer is dropped, and the tag may already have another task.
  *
- * A write that is out while its task is gone is *stale*, and makes its logical unit wait: no request of that unit is asked, and the Response
- * of an ABORT TASK or a LOGICAL UNIT RESET that ended a command there is held back (UAS_WAITS), so what a host is told and does later lands
- * later. After uas_tasks_answered of a stale request any tag of that unit that waited may go on, so look at all of them.
+ * A request that writes and is out while its task is gone is *stale*, and makes its logical unit wait: no request of that unit is asked, and
+ * the Response of an ABORT TASK or a LOGICAL UNIT RESET that ended a command there is held back (UAS_WAITS), so what a host is told and does
+ * later lands later. After a stale request is answered any tag of that unit that waited may go on, so look at all of them.
  *
  * A READ asks for one chunk at a time and gives it; a WRITE, and a VERIFY with BYTCHK 1, takes a chunk and then asks, chunk by chunk.
  * SYNCHRONIZE CACHE, START STOP UNIT and any other VERIFY ask once. A chunk is of at most as many blocks as the device was made with.
+ * With UAS_SET_DISK a WRITE SAME takes one block and asks once for all of its blocks, an UNMAP takes its list and asks for one range of it at a
+ * time, and GET LBA STATUS asks once.
  *
  * The duties of a caller are those of uas.h, for a uas_tasks pointer as for its others; but a call finds 8 KiB of stack. Memory is taken by
  * uas_tasks_new and uas_tasks_new_disks alone. */
@@ -80,15 +83,16 @@ UAS_TASKS_ASSERT(sizeof(struct uas_disk) == 152 && offsetof(struct uas_disk, ser
 
 enum {
     UAS_DISK_READ_ONLY = 1,
-    UAS_DISK_THIN = 2,          /* UNMAP; refused, since it isn't served yet, as REMOVABLE and QUIET */
-    UAS_DISK_REMOVABLE = 4,     /* the medium can be taken out */
-    UAS_DISK_WRITE_THROUGH = 8, /* with UAS_SET_DISK each WRITE's request is through, and MODE SENSE tells so (WCE 0) */
+    UAS_DISK_THIN = 2,          /* with UAS_SET_DISK room can be given back: UNMAP, WRITE SAME with UNMAP, GET LBA STATUS */
+    UAS_DISK_REMOVABLE = 4,     /* the medium can be taken out; refused, since it isn't served yet, as QUIET */
+    UAS_DISK_WRITE_THROUGH = 8, /* with UAS_SET_DISK each request that writes is through, and MODE SENSE tells so (WCE 0) */
     UAS_DISK_QUIET = 16         /* a change of it isn't told */
 };
 
 /* The same of logical units that say what there is to tell of them: one behind another in `bytes` bytes, so an array and its sizeof. With
- * UAS_SET_DISK INQUIRY, vital product data, READ CAPACITY(16) and MODE SENSE tell it, WRITE AND VERIFY, PRE-FETCH and SEND DIAGNOSTIC are taken, NACA is a
- * fault, and `most` isn't looked at; the other sets tell the names, the block length and whether it is read only.
+ * UAS_SET_DISK INQUIRY, vital product data, READ CAPACITY(16) and MODE SENSE tell it, WRITE AND VERIFY, WRITE SAME, PRE-FETCH and SEND
+ * DIAGNOSTIC are taken, UNMAP and GET LBA STATUS where it is thin, NACA is a fault, and `most` isn't looked at; the other sets tell the names,
+ * the block length and whether it is read only.
  * Faults: UAS_UNITS; of the first logical unit with one UAS_UNITS (the sixteenth), UAS_TASKS_SIZE (it isn't whole, too), UAS_BLOCKS,
  * UAS_TASKS_BLOCK_BYTES, UAS_TASKS_DISK; UAS_TASKS_SET, UAS_TASKS_CHUNK, UAS_NO_MEMORY. */
 uint8_t uas_tasks_new_disks(const struct uas_disk *disks, size_t bytes, uint8_t set, uint16_t most, uint16_t chunk, uas_tasks **tasks);
@@ -109,7 +113,7 @@ enum {
     UAS_REQUEST_COMPARE = 3,
     UAS_REQUEST_VERIFY = 4,
     UAS_REQUEST_SYNC = 5,
-    UAS_REQUEST_ZERO = 6,    /* zeros, from here on of UAS_SET_DISK alone */
+    UAS_REQUEST_ZERO = 6,    /* zeros; from here on of UAS_SET_DISK alone */
     UAS_REQUEST_DISCARD = 7, /* zeros, whose room may be given back */
     UAS_REQUEST_STATUS = 9   /* how many from the first one on are all mapped, or all not */
 };
@@ -138,13 +142,15 @@ enum {
     UAS_TASKS_CALL_STATUS = 7,
     UAS_TASKS_CALL_SENT = 8,
     UAS_TASKS_CALL_RESET = 9,
-    UAS_TASKS_CALL_STALE = 10
+    UAS_TASKS_CALL_STALE = 10,
+    UAS_TASKS_CALL_ASK = 11, /* as NEXT and ANSWERED, which are refused with UAS_SET_DISK */
+    UAS_TASKS_CALL_TELL = 12
 };
 
 /* What goes in and comes out beside the bytes, where a call has it. */
 struct uas_tasks_door {
     uint8_t call;    /* in: UAS_TASKS_CALL_... */
-    uint8_t phase;   /* out of NEXT */
+    uint8_t phase;   /* out of NEXT; here and below NEXT is ASK too, and ANSWERED is TELL */
     uint8_t good;    /* out of RECEIVE: 1 where a task began; in of ANSWERED: 1 where `block` is a place */
     uint8_t kind;    /* out of a NEXT that asks: UAS_REQUEST_... */
     uint8_t through; /* out of a NEXT that asks: UAS_ASKED_...; in of ANSWERED: 1 where blocks are mapped */
@@ -175,11 +181,12 @@ struct uas_request {
     bool through;
 };
 
-/* What the device does next on a tag: *phase, and *length bytes where it gives or takes. Where it asks, *request is out from then on. No
- * fault. */
+/* What the device does next on a tag: *phase, and *length bytes where it gives or takes. Where it asks, *request is out from then on.
+ * Fault: UAS_TASKS_SET (a device of UAS_SET_DISK, for which uas_tasks_ask is). */
 uint8_t uas_tasks_next(uas_tasks *tasks, uint16_t tag, uint8_t *phase, uint64_t *length, struct uas_request *request);
 
-/* A request of logical units of uas_tasks_new_disks. With UAS_ASKED_ONE the data are one block, to be written on each. */
+/* A request of any command set. UAS_ASKED_THROUGH is of requests that write: what they write is on the medium when they are done. With
+ * UAS_ASKED_ONE the data are one block, to be written on each of `count`. */
 enum { UAS_ASKED_THROUGH = 1, UAS_ASKED_ONE = 2 };
 
 struct uas_asked {
@@ -189,11 +196,11 @@ struct uas_asked {
     uint16_t tag;
     uint64_t number;
     uint64_t unit, block, count;
-    uint64_t bytes; /* of its data, which uas_tasks_data has, or which are to be told */
+    uint64_t bytes; /* of its data, which uas_tasks_data has, or, of a read, which are to be told */
 };
 UAS_TASKS_ASSERT(sizeof(struct uas_asked) == 48 && offsetof(struct uas_asked, number) == 8);
 
-/* The same as uas_tasks_next, with such a request.
+/* The same as uas_tasks_next with any command set: where it asks, all of *asked but its size is written.
  * Fault: UAS_TASKS_SIZE (not such a record). */
 uint8_t uas_tasks_ask(uas_tasks *tasks, uint16_t tag, uint8_t *phase, uint64_t *length, struct uas_asked *asked);
 
@@ -208,17 +215,19 @@ uint8_t uas_tasks_data(uas_tasks *tasks, uint64_t number, uint8_t *bytes, size_t
 
 /* What came of a request. `bytes` are those of its blocks where it read and is done, and aren't looked at otherwise. What was asked for a task
  * that is gone is dropped.
- * Faults: UAS_TASKS_CALL (no such outcome), UAS_TASKS_NOT_OUT, UAS_TASKS_LENGTH. */
+ * Faults: UAS_TASKS_SET (a device of UAS_SET_DISK, for which uas_tasks_tell is), UAS_TASKS_CALL (no such outcome), UAS_TASKS_NOT_OUT,
+ * UAS_TASKS_LENGTH. */
 uint8_t uas_tasks_answered(uas_tasks *tasks, uint64_t number, uint8_t outcome, const uint8_t *bytes, size_t length);
 
-/* The same of logical units of uas_tasks_new_disks, with the place where it is known: what a host is told then is the first bad block, or the
- * first byte of its data that differs. */
+/* The same with any command set; with UAS_SET_DISK with the place where it is known, too: what a host is told then is the first bad block, or
+ * the first byte of its data that differs. */
 enum { UAS_OUTCOME_AT = 1, UAS_OUTCOME_MAPPED = 2 };
 
 struct uas_outcome {
     uint32_t size;    /* sizeof(struct uas_outcome) */
     uint8_t what;     /* UAS_DONE and its like */
-    uint8_t flags;    /* UAS_OUTCOME_AT: `at` is told, with UAS_DIFFERS and UAS_MEDIUM_ERROR; UAS_OUTCOME_MAPPED: `count` blocks are mapped */
+    uint8_t flags;    /* UAS_OUTCOME_AT: `at` is told, with UAS_DIFFERS and UAS_MEDIUM_ERROR; UAS_OUTCOME_MAPPED: `count` blocks are mapped, with
+                       * UAS_DONE of UAS_REQUEST_STATUS */
     uint16_t zero;    /* 0 */
     uint64_t at;      /* the byte of the request's data, or the block */
     uint64_t count;   /* of UAS_REQUEST_STATUS: so many from the first one on, 1 or more, are all mapped or all not; of another 0 */
@@ -232,7 +241,7 @@ UAS_TASKS_ASSERT(sizeof(struct uas_outcome) == 24 && offsetof(struct uas_outcome
 uint8_t uas_tasks_tell(uas_tasks *tasks, uint64_t number, const struct uas_outcome *outcome, const uint8_t *bytes, size_t length);
 
 /* The next stale request: *number is 0 to begin, else the last one that was told; it becomes the number of the next, by rising tag, or 0. Its
- * outcome doesn't matter to the device, so a caller may cancel it, but tells by uas_tasks_answered when it changes no block any more. No fault. */
+ * outcome doesn't matter to the device, so a caller may cancel it, but tells an outcome when it changes no block any more. No fault. */
 uint8_t uas_tasks_stale(const uas_tasks *tasks, uint64_t *number);
 
 /* Writes the information unit that answers a task, Sense or Response, into the first *length of `room` bytes. 112 bytes always do.
@@ -272,7 +281,11 @@ enum {
     UAS_WORK_VERIFIES = 5,
     UAS_WORK_COMPARES = 6,
     UAS_WORK_WRITES_AND_VERIFIES = 7, /* of UAS_SET_DISK: written through, and then found to be readable */
-    UAS_WORK_WRITES_AND_COMPARES = 8  /* or to be these bytes */
+    UAS_WORK_WRITES_AND_COMPARES = 8, /* or to be these bytes */
+    UAS_WORK_UNMAPS = 9,              /* `allocation` bytes of a list come */
+    UAS_WORK_WRITES_SAME = 10,        /* one block comes, which is written on each */
+    UAS_WORK_ZEROES = 11,             /* zeros are */
+    UAS_WORK_TELLS_STATUS = 12        /* at most `allocation` bytes are given */
 };
 
 struct uas_tasks_work {
@@ -280,7 +293,7 @@ struct uas_tasks_work {
     uint32_t count;      /* how many */
     uint32_t allocation; /* of UAS_WORK_GIVES: the most bytes */
     uint8_t kind;        /* UAS_WORK_... */
-    uint8_t through;     /* of UAS_WORK_WRITES: 1 where they are on the medium when it ends (FUA) */
+    uint8_t through;     /* of what writes: 1 where it is on the medium when it ends (FUA); 2 more for a WRITE SAME with UNMAP */
     uint16_t reserved;
     uint32_t reserved_too;
 };
@@ -291,7 +304,7 @@ UAS_TASKS_ASSERT(sizeof(struct uas_tasks_work) == 24 && offsetof(struct uas_task
  * Faults: UAS_UNITS, UAS_BLOCKS, UAS_TASKS_BLOCK_BYTES, UAS_TASKS_SERIAL, UAS_TASKS_SET, UAS_CDB_CHECK. */
 uint8_t uas_tasks_cdb_parse(const uint8_t cdb[16], const struct uas_tasks_target *target, struct uas_tasks_work *work, struct uas_sense *sense);
 
-enum { UAS_TASKS_DATA_BYTES = 604 /* always do for uas_tasks_cdb_data */ };
+enum { UAS_TASKS_DATA_BYTES = 684 /* always do for uas_tasks_cdb_data */ };
 
 /* The data that a CDB asks for, cut to its allocation length, into the first *length of `room` bytes: none where it asks for no data, or for
  * blocks.

@@ -4,8 +4,8 @@
  *
  *     a driver writes registers -----> uas_xhci_write     notes the doorbell, takes no step
  *                                      uas_xhci_work      steps: TRBs are fetched from the memory that is lent, data moves, events are posted
- *     the backend <------------------- uas_xhci_next_request, uas_xhci_data
- *     the backend -------------------> uas_xhci_answered  and then uas_xhci_work again
+ *     the backend <------------------- uas_xhci_ask, uas_xhci_data
+ *     the backend -------------------> uas_xhci_tell      and then uas_xhci_work again
  *     the driver is interrupted <----- uas_xhci_interrupt (the pin) or uas_xhci_take_message (MSI, MSI-X)
  *
  * The controller is whole: registers, one device slot, a USB 2.0 port without anything, a USB 3.0 port with the disk, command ring, event
@@ -64,7 +64,7 @@ uint8_t uas_xhci_new_disks(const struct uas_disk *disks, size_t bytes, uint8_t s
 
 /* The disk tells Bulk-Only Transport as alternate setting 0 and UAS as alternate setting 1, as disks that are sold do: firmware boots from it, and
  * Linux takes it by UAS. `most_lun` is the number of logical units less 1, `serial` the serial number of logical unit 0. To be called before the
- * guest runs: the disk is reset by it. Firmware in setting 0 doesn't flush, so writes of that setting ask to go through (UAS_REQUEST_WRITE with `through`).
+ * guest runs: the disk is reset by it. Firmware in setting 0 doesn't flush, so writes of that setting ask to go through (`through`).
  * Faults: UAS_UNITS (above 14), UAS_TASKS_SERIAL. */
 uint8_t uas_xhci_offer_bulk_only(uas_xhci *xhci, uint8_t most_lun, uint32_t serial);
 
@@ -91,21 +91,23 @@ enum {
     UAS_XHCI_CALL_STALE = 11,
     UAS_XHCI_CALL_HOST_ERROR = 12,
     UAS_XHCI_CALL_OFFER = 13,
-    UAS_XHCI_CALL_SAVE = 14
+    UAS_XHCI_CALL_SAVE = 14,
+    UAS_XHCI_CALL_ASK = 15 /* as REQUEST, which finds none with UAS_SET_DISK */
 };
 
 /* What goes in and comes out beside the bytes, where a call has it. */
 struct uas_xhci_door {
     uint8_t call;    /* in: UAS_XHCI_CALL_... */
     uint8_t width;   /* in of READ, WRITE: 1, 2, 4 or 8 */
-    uint8_t good;    /* out of INTERRUPT, MESSAGE, REQUEST, HOST_ERROR: 1 where there is one; of SAVE where there was room */
-    uint8_t kind;    /* out of REQUEST: UAS_REQUEST_... */
-    uint8_t through; /* out of REQUEST: 1 where a write is to be on the medium when it is done */
+    uint8_t good;    /* out of INTERRUPT, MESSAGE, REQUEST, HOST_ERROR: 1 where there is one; of SAVE where there was room; in of ANSWERED: 1 where
+                      * `block` is a place */
+    uint8_t kind;    /* out of REQUEST: UAS_REQUEST_...; here and below REQUEST is ASK too */
+    uint8_t through; /* out of REQUEST: UAS_ASKED_...; in of ANSWERED: 1 where blocks are mapped */
     uint8_t outcome; /* in of ANSWERED: UAS_DONE and its like */
     uint16_t reserved;
     uint64_t offset; /* in of READ, WRITE */
-    uint64_t value;  /* in of WRITE, PLUG, FRAME, OFFER; out of READ, SAVE */
-    uint64_t number, unit, block, count; /* out of REQUEST; `number` in of DATA, ANSWERED, STALE, OFFER; out of STALE */
+    uint64_t value;  /* in of WRITE, PLUG, FRAME, OFFER; out of READ, SAVE; of REQUEST the bytes of its data */
+    uint64_t number, unit, block, count; /* out of REQUEST; `number` in of DATA, ANSWERED, STALE, OFFER; out of STALE; `block`, `count` in of ANSWERED */
 };
 UAS_XHCI_ASSERT(sizeof(struct uas_xhci_door) == 56 && offsetof(struct uas_xhci_door, offset) == 8);
 
@@ -256,10 +258,16 @@ uint8_t uas_xhci_take_state(uas_xhci *xhci, struct uas_xhci_loaded *loaded, stru
 /* ---- Blocks ---- */
 
 /* The next request that is out newly: false where there is none. To be taken after each work. A request stays out until it is answered,
- * also where its task is gone meanwhile; where it writes, its logical unit waits for it (uas_tasks.h). */
+ * also where its task is gone meanwhile; where it writes, its logical unit waits for it (uas_tasks.h). With UAS_SET_DISK it finds none:
+ * uas_xhci_ask does. */
 bool uas_xhci_next_request(uas_xhci *xhci, struct uas_request *request);
 
-/* The bytes of a request that writes or compares, all of them.
+/* The same with any command set: where there is a request all of *asked but its size is written; where there is none asked->number is 0, as no
+ * request's is.
+ * Fault: UAS_TASKS_SIZE (not such a record). */
+uint8_t uas_xhci_ask(uas_xhci *xhci, struct uas_asked *asked);
+
+/* The bytes of a request that writes or compares, all of them: of one with UAS_ASKED_ONE those of one block.
  * Faults: UAS_TASKS_NOT_OUT, UAS_TASKS_LENGTH. */
 uint8_t uas_xhci_data(uas_xhci *xhci, uint64_t number, uint8_t *bytes, size_t length);
 
@@ -268,7 +276,7 @@ uint8_t uas_xhci_data(uas_xhci *xhci, uint64_t number, uint8_t *bytes, size_t le
  * Faults: UAS_TASKS_CALL (no such outcome), UAS_TASKS_NOT_OUT, UAS_TASKS_LENGTH. */
 uint8_t uas_xhci_answered(uas_xhci *xhci, uint64_t number, uint8_t outcome, const uint8_t *bytes, size_t length);
 
-/* The same with its place, of the logical units of uas_xhci_new_disks; faults as uas_tasks_tell's. */
+/* The same with a record, as uas_tasks_tell, and with its faults. */
 uint8_t uas_xhci_tell(uas_xhci *xhci, uint64_t number, const struct uas_outcome *outcome, const uint8_t *bytes, size_t length);
 
 /* The next write that is out while its task is gone, as uas_tasks_stale tells it. */

@@ -31,32 +31,28 @@ uint8_t uas_tasks_next(uas_tasks *tasks, uint16_t tag, uint8_t *phase, uint64_t 
 {
     struct uas_tasks_door door = { .call = UAS_TASKS_CALL_NEXT, .tag = tag };
     uint8_t fault = call(tasks, &door, NULL, 0);
+    if (fault != UAS_OK)
+        return fault;
     *phase = door.phase;
     *length = door.phase == UAS_ASKS ? 0 : door.length;
     if (door.phase == UAS_ASKS)
-        *request = (struct uas_request){ door.number, door.unit, door.block, door.count, door.kind, (door.through & UAS_ASKED_THROUGH) != 0 };
-    return fault;
+        *request = (struct uas_request){ door.number, door.unit, door.block, door.count, door.kind, door.through != 0 };
+    return UAS_OK;
 }
 
 uint8_t uas_tasks_ask(uas_tasks *tasks, uint16_t tag, uint8_t *phase, uint64_t *length, struct uas_asked *asked)
 {
     if (asked->size != sizeof *asked)
         return UAS_TASKS_SIZE;
-    struct uas_tasks_door door = { .call = UAS_TASKS_CALL_NEXT, .tag = tag };
+    struct uas_tasks_door door = { .call = UAS_TASKS_CALL_ASK, .tag = tag };
     uint8_t fault = call(tasks, &door, NULL, 0);
+    if (fault != UAS_OK)
+        return fault;
     *phase = door.phase;
     *length = door.phase == UAS_ASKS ? 0 : door.length;
-    if (door.phase == UAS_ASKS) {
-        asked->kind = door.kind;
-        asked->flags = door.through;
-        asked->tag = tag;
-        asked->number = door.number;
-        asked->unit = door.unit;
-        asked->block = door.block;
-        asked->count = door.count;
-        asked->bytes = door.length;
-    }
-    return fault;
+    if (door.phase == UAS_ASKS)
+        *asked = (struct uas_asked){ sizeof *asked, door.kind, door.through, tag, door.number, door.unit, door.block, door.count, door.length };
+    return UAS_OK;
 }
 
 uint8_t uas_tasks_give(uas_tasks *tasks, uint16_t tag, uint8_t *bytes, size_t length)
@@ -88,7 +84,7 @@ uint8_t uas_tasks_tell(uas_tasks *tasks, uint64_t number, const struct uas_outco
     if (outcome->size != sizeof *outcome || outcome->flags > (UAS_OUTCOME_AT | UAS_OUTCOME_MAPPED) || outcome->zero != 0)
         return UAS_TASKS_SIZE;
     struct uas_tasks_door door = {
-        .call = UAS_TASKS_CALL_ANSWERED, .number = number, .outcome = outcome->what, .good = outcome->flags & UAS_OUTCOME_AT,
+        .call = UAS_TASKS_CALL_TELL, .number = number, .outcome = outcome->what, .good = outcome->flags & UAS_OUTCOME_AT,
         .through = (outcome->flags & UAS_OUTCOME_MAPPED) != 0, .block = outcome->at, .count = outcome->count
     };
     return call(tasks, &door, bytes, length);

@@ -213,8 +213,24 @@ bool uas_xhci_next_request(uas_xhci *xhci, struct uas_request *request)
     call(xhci, &door, NULL, 0);
     if (door.good == 0)
         return false;
-    *request = (struct uas_request){ door.number, door.unit, door.block, door.count, door.kind, (door.through & UAS_ASKED_THROUGH) != 0 };
+    *request = (struct uas_request){ door.number, door.unit, door.block, door.count, door.kind, door.through != 0 };
     return true;
+}
+
+/* A request's number is that of its tag, and 256 times that of its turn. */
+uint8_t uas_xhci_ask(uas_xhci *xhci, struct uas_asked *asked)
+{
+    if (asked->size != sizeof *asked)
+        return UAS_TASKS_SIZE;
+    struct uas_xhci_door door = { .call = UAS_XHCI_CALL_ASK };
+    uint8_t fault = call(xhci, &door, NULL, 0);
+    if (fault != UAS_OK)
+        return fault;
+    asked->number = 0;
+    if (door.good != 0)
+        *asked = (struct uas_asked){ sizeof *asked, door.kind, door.through, (uint16_t)(door.number % 256), door.number, door.unit, door.block,
+                                     door.count, door.value };
+    return UAS_OK;
 }
 
 uint8_t uas_xhci_data(uas_xhci *xhci, uint64_t number, uint8_t *bytes, size_t length)

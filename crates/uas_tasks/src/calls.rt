@@ -5,7 +5,7 @@ ghost use Rattle.std.specs.Option.{option_copied};
 ghost use Rattle.uas_profile.specs.declared.TheConstants.{GREATEST_TAG, MAX_UNITS};
 ghost use Rattle.uas_tasks.specs.Machine.{answered, attention_on, bytes_out, gave, given, greatest_block, is_long, next_asked, next_by, next_of, no_slot, opening};
 ghost use Rattle.uas_tasks.specs.Machine.{out_of_number, passed, passing, quiet, request_out, slot_of, slot_under, took, wanted, with_slot, without_task};
-ghost use Rattle.uas_tasks.specs.Outcomes.{has_place};
+ghost use Rattle.uas_tasks.specs.Outcomes.{has_place, is_disk};
 ghost use Rattle.uas_tasks.specs.Slots.{answered_slot, chunk_room, fresh_slot, is_wrong_length, passed_out, passing_out};
 ghost use Rattle.uas_tasks.specs.Soundness.{MayGive, MayTake};
 
@@ -55,6 +55,13 @@ impl Tasks {
             return None;
         }
         self.slots.get(usize::from(tag) - 1)
+    }
+
+    /// Whether its commands are those of the disk set.
+    pub fn is_disk(&self) -> bool
+        ensures { result ≡ is_disk self.now.set }
+    {
+        matches!(self.set, CommandSet::Disk)
     }
 
     /// What the device wants on a tag; of a tag that no task may have it is `Absent`.

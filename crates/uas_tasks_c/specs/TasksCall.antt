@@ -2,7 +2,7 @@
 use Rattle.std.specs.Prelude.{ℕ, ◌+◌, ◌==◌, nat_lt, if◌then◌else◌, List, [], ◌∷◌, ◌++◌, length, drop, Option, None, Some, unwrap_or, Result, Ok, Err}
 use Rattle.c_common.specs.Bytes.{yes}
 use Rattle.c_common.specs.Door.{After, DoorAfter, numbered, refused, with_bytes}
-use Rattle.c_common.specs.declared.faults.TheConstants.{TASKS_CALL, TASKS_LENGTH, TASKS_NOT_OUT, TASKS_OVERLAP, TASKS_PHASE, TASKS_PLACE}
+use Rattle.c_common.specs.declared.faults.TheConstants.{TASKS_CALL, TASKS_LENGTH, TASKS_NOT_OUT, TASKS_OVERLAP, TASKS_PHASE, TASKS_PLACE, TASKS_SET}
 use Rattle.uas_iu.specs.declared.Iu.{Iu}
 use Rattle.uas_iu.specs.Units.{unit_size, unit_text}
 use Rattle.uas_target.specs.declared.Overlap.{Overlap}
@@ -13,6 +13,7 @@ use Rattle.uas_tasks.specs.declared.AnswerFault.TheVariants.{NotOut, NoSuchOutco
 use Rattle.uas_tasks.specs.declared.Next.{Next}
 use Rattle.uas_tasks.specs.declared.Next.TheVariants as nexts
 use Rattle.uas_tasks.specs.declared.Outcome.{Outcome}
+use Rattle.uas_tasks.specs.Outcomes.{is_disk}
 use Rattle.c_tasks.specs.Outcomes.{outcome_told}
 use Rattle.uas_tasks.specs.declared.Request.{Request}
 use Rattle.uas_tasks.specs.declared.Request.TheVariants as requests
@@ -35,7 +36,8 @@ after_receive machine door bytes = told (received machine bytes)
     told (after, Ok took) = (0, (after, with_took door took))
     told (after, Err overlap) = refused TASKS_OVERLAP after door
 
--- a request: 1 reads, 2 writes, 3 compares, 4 verifies, 5 brings to the medium
+-- a request: 1 reads, 2 writes, 3 compares, 4 verifies, 5 brings to the medium, 6 zeroes, 7 discards, 9 tells what is mapped; with 2 in `through`
+-- one block is written on each
 abbrev pub with_request : UasTasksDoor → Request → UasTasksDoor
 with_request door (requests.Read unit block count) = record door { kind = 1; through = 0; unit = unit; block = block; count = count }
 with_request door (requests.Write unit block count through) =
@@ -51,7 +53,7 @@ with_request door (requests.WriteSame unit block count through) =
     record door { kind = 2; through = 2 + yes through; unit = unit; block = block; count = count }
 with_request door (requests.Status unit block count) = record door { kind = 9; through = 0; unit = unit; block = block; count = count }
 
--- NEXT (2): what the device does next on the door's tag; a request is out from then on, of data of so many bytes
+-- ASK (11): what the device does next on the door's tag; a request is out from then on, of data of so many bytes
 abbrev pub with_next : Machine → UasTasksDoor → Next → UasTasksDoor
 with_next machine door nexts.Absent = record door { phase = 0; length = 0 }
 with_next machine door (nexts.Gives bytes) = record door { phase = 1; length = bytes }
@@ -60,8 +62,12 @@ with_next machine door nexts.Ends = record door { phase = 3; length = 0 }
 with_next machine door (nexts.Asks number request) = with_request (record door { phase = 4; length = length (unwrap_or (bytes_out machine number) []); number = number }) request
 with_next machine door nexts.Waits = record door { phase = 5; length = 0 }
 
+abbrev pub after_ask : Machine → UasTasksDoor → DoorAfter Machine UasTasksDoor
+after_ask machine door = let after = next_of machine door.tag in (0, (after.0, with_next after.0 door after.1))
+
+-- NEXT (2): the same; in the disk set it is refused, since who doesn't know all of its requests would take one for another
 abbrev pub after_next : Machine → UasTasksDoor → DoorAfter Machine UasTasksDoor
-after_next machine door = let after = next_of machine door.tag in (0, (after.0, with_next after.0 door after.1))
+after_next machine door = if is_disk machine.set then refused TASKS_SET machine door else after_ask machine door
 
 -- GIVE (3): as many bytes as there are, of those that the tag gives
 abbrev pub after_give : Machine → UasTasksDoor → List ℕ → After Machine UasTasksDoor
@@ -90,7 +96,7 @@ after_data machine door bytes = by (bytes_out machine door.number)
     by (Some out) =
         if length out == length bytes then (0, (machine, (door, out))) else with_bytes bytes (refused TASKS_LENGTH machine door)
 
--- ANSWERED (6): what came of a request, at a block or a byte where `good` is 1
+-- TELL (12): what came of a request, at a block or a byte where `good` is 1
 abbrev pub answer_told : UasTasksDoor → Machine × Result Unit AnswerFault → DoorAfter Machine UasTasksDoor
 answer_told door (after, Ok done) = (0, (after, door))
 answer_told door (after, Err NotOut) = refused TASKS_NOT_OUT after door
@@ -98,12 +104,16 @@ answer_told door (after, Err NoSuchOutcome) = refused TASKS_CALL after door
 answer_told door (after, Err WrongPlace) = refused TASKS_PLACE after door
 answer_told door (after, Err WrongLength) = refused TASKS_LENGTH after door
 
-abbrev pub after_answer : Machine → UasTasksDoor → List ℕ → DoorAfter Machine UasTasksDoor
-after_answer machine door bytes = by (outcome_told door.outcome (door.good == 1) door.block (length bytes) (door.through == 1) door.count)
+abbrev pub after_tell : Machine → UasTasksDoor → List ℕ → DoorAfter Machine UasTasksDoor
+after_tell machine door bytes = by (outcome_told door.outcome (door.good == 1) door.block (length bytes) (door.through == 1) door.count)
   where
     by : Option Outcome → DoorAfter Machine UasTasksDoor
     by None = refused TASKS_CALL machine door
     by (Some outcome) = answer_told door (answered machine door.number outcome bytes)
+
+-- ANSWERED (6): the same; in the disk set it is refused
+abbrev pub after_answer : Machine → UasTasksDoor → List ℕ → DoorAfter Machine UasTasksDoor
+after_answer machine door bytes = if is_disk machine.set then refused TASKS_SET machine door else after_tell machine door bytes
 
 -- STATUS (7): the answer of a tag whose task has ended, at the front of the bytes
 abbrev pub after_status : Machine → UasTasksDoor → List ℕ → After Machine UasTasksDoor
@@ -134,7 +144,8 @@ after_stale machine door = (0, (machine, record door { number = unwrap_or (stale
 abbrev pub call_numbered : ℕ → Option Call
 call_numbered =
     numbered ((1, calls.Receive) ∷ (2, calls.Next) ∷ (3, calls.Give) ∷ (4, calls.Take) ∷ (5, calls.Data) ∷ (6, calls.Answered) ∷ (7, calls.Status)
-    ∷ (8, calls.Sent) ∷ (9, calls.Reset) ∷ (10, calls.Stale) ∷ [])
+    ∷ (8, calls.Sent) ∷ (9, calls.Reset) ∷ (10, calls.Stale) ∷ (11, calls.Ask)
+    ∷ (12, calls.Tell) ∷ [])
 
 abbrev pub after_named : Machine → UasTasksDoor → List ℕ → Call → After Machine UasTasksDoor
 after_named machine door bytes calls.Receive = with_bytes bytes (after_receive machine door bytes)
@@ -147,6 +158,8 @@ after_named machine door bytes calls.Status = after_status machine door bytes
 after_named machine door bytes calls.Sent = with_bytes bytes (after_sent machine door)
 after_named machine door bytes calls.Reset = with_bytes bytes (after_reset machine door)
 after_named machine door bytes calls.Stale = with_bytes bytes (after_stale machine door)
+after_named machine door bytes calls.Ask = with_bytes bytes (after_ask machine door)
+after_named machine door bytes calls.Tell = with_bytes bytes (after_tell machine door bytes)
 
 -- a call of a number that is none is refused
 abbrev pub after_call : Machine → UasTasksDoor → List ℕ → After Machine UasTasksDoor

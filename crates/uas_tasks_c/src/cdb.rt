@@ -44,9 +44,10 @@ pub struct UasTasksWork {
     pub count: u32,
     /// The most bytes of data that are wanted.
     pub allocation: u32,
-    /// 0 nothing, 1 data of the logical unit, 2 reads, 3 writes, 4 synchronizes, 5 verifies, 6 compares.
+    /// 0 nothing, 1 data of the logical unit, 2 reads, 3 writes, 4 synchronizes, 5 verifies, 6 compares, 7 and 8 writes and does either, 9 unmaps,
+    /// 10 writes one block on each, 11 zeroes, 12 tells what is mapped.
     pub kind: u8,
-    /// 1 where what is written is on the medium when the command ends (FUA).
+    /// 1 where what is written is on the medium when the command ends (FUA); 2 more for a WRITE SAME with UNMAP.
     pub through: u8,
     pub reserved: u16,
     pub reserved_too: u32,
@@ -103,7 +104,7 @@ pub extern "C" fn uas_tasks_cdb_parse(
 }
 
 /// The data of the logical unit or the device that a CDB asks for, at the front of `bytes`, and how many bytes they are: none where it asks
-/// for no data, or for blocks. The faults of `uas_tasks_cdb_parse`, and `TASKS_LENGTH` where they don't fit: then nothing is written. 604 bytes
+/// for no data, or for blocks. The faults of `uas_tasks_cdb_parse`, and `TASKS_LENGTH` where they don't fit: then nothing is written. 684 bytes
 /// always do.
 #[unsafe(no_mangle)]
 pub extern "C" fn uas_tasks_cdb_data(

@@ -1,11 +1,11 @@
 //! A device without blocks for C: information units in, requests, data and information units out, over one call with a door.
 ghost use Rattle.std.specs.Prelude.{◌≡◌, [], length, unwrap_or};
 ghost use Rattle.uas_tasks.specs.Machine.{bytes_out};
-ghost use Rattle.uas_tasks_c.specs.TasksCall.{after_answer, after_call, after_data, after_give, after_next, after_receive, after_sent, after_stale, after_status};
-ghost use Rattle.uas_tasks_c.specs.TasksCall.{after_take, answer_told, call_numbered, with_next, with_request, with_took};
+ghost use Rattle.uas_tasks_c.specs.TasksCall.{after_answer, after_ask, after_call, after_data, after_give, after_next, after_receive, after_sent, after_stale, after_status};
+ghost use Rattle.uas_tasks_c.specs.TasksCall.{after_take, after_tell, answer_told, call_numbered, with_next, with_request, with_took};
 
 use c_common::faults::{
-    TASKS_CALL, TASKS_LENGTH, TASKS_NOT_OUT, TASKS_OVERLAP, TASKS_PHASE, TASKS_PLACE,
+    TASKS_CALL, TASKS_LENGTH, TASKS_NOT_OUT, TASKS_OVERLAP, TASKS_PHASE, TASKS_PLACE, TASKS_SET,
 };
 use c_common::put_unit;
 use c_tasks::outcome_told;
@@ -16,15 +16,16 @@ use uas_tasks::{AnswerFault, Next, Request, Tasks, Took, Wants};
 #[repr(C)]
 #[derive(Clone, Copy)]
 pub struct UasTasksDoor {
-    /// The call, 1 to 10.
+    /// The call, 1 to 12.
     pub call: u8,
-    /// Out of NEXT: 0 absent, 1 gives, 2 takes, 3 ends, 4 asks, 5 waits.
+    /// Out of NEXT: 0 absent, 1 gives, 2 takes, 3 ends, 4 asks, 5 waits. Here and below NEXT is ASK too, and ANSWERED is TELL.
     pub phase: u8,
     /// Out of RECEIVE: 1 where a task began, else 0. Of ANSWERED: 1 where `block` is a place.
     pub good: u8,
-    /// Out of a NEXT that asks: 1 reads, 2 writes, 3 compares, 4 verifies, 5 brings to the medium.
+    /// Out of a NEXT that asks: 1 reads, 2 writes, 3 compares, 4 verifies, 5 brings to the medium, 6 zeroes, 7 discards, 9 tells what is mapped.
     pub kind: u8,
-    /// Out of a NEXT that asks: 1 where a write goes through to the medium, else 0.
+    /// Out of a NEXT that asks: 1 where it goes through to the medium, and 2 where one block is written on each. Of ANSWERED: 1 where blocks are
+    /// mapped.
     pub through: u8,
     /// Of ANSWERED: 0 done, 1 differs, 2 medium error, 3 not ready, 4 no space, 5 write protected, 6 aborted, 7 busy.
     pub outcome: u8,
@@ -38,7 +39,7 @@ pub struct UasTasksDoor {
     pub number: u64,
     /// Out of a NEXT that asks: the first block. Of ANSWERED: the first bad block, or the first byte that differs.
     pub block: u64,
-    /// Out of a NEXT that asks: how many blocks.
+    /// Out of a NEXT that asks: how many blocks. Of ANSWERED of a status: how many are mapped, or not.
     pub count: u64,
 }
 
@@ -69,6 +70,8 @@ enum Call {
     Sent,
     Reset,
     Stale,
+    Ask,
+    Tell,
 }
 
 fn call_numbered(number: u8) -> Option<Call>
@@ -85,6 +88,8 @@ fn call_numbered(number: u8) -> Option<Call>
         8 => Some(Call::Sent),
         9 => Some(Call::Reset),
         10 => Some(Call::Stale),
+        11 => Some(Call::Ask),
+        12 => Some(Call::Tell),
         _ => None,
     }
 }
@@ -111,6 +116,8 @@ pub(crate) fn serve(kept: &mut KeptTasks, door: &mut UasTasksDoor, bytes: &mut [
             0
         }
         Call::Stale => show_stale(tasks, door),
+        Call::Ask => ask(tasks, door),
+        Call::Tell => tell(tasks, door, bytes),
     }
 }
 
@@ -136,9 +143,19 @@ fn show_took(door: &mut UasTasksDoor, took: Took)
     }
 }
 
-/// What the device does next on the door's tag.
+/// The same as `ask`, refused in the disk set: who doesn't know all of its requests would take one for another.
 fn show_next(tasks: &mut Tasks, door: &mut UasTasksDoor) -> u8
     ensures { (result, (tasks.new, door.new)) ≡ after_next tasks.old door.old }
+{
+    if tasks.is_disk() {
+        return TASKS_SET;
+    }
+    ask(tasks, door)
+}
+
+/// What the device does next on the door's tag.
+fn ask(tasks: &mut Tasks, door: &mut UasTasksDoor) -> u8
+    ensures { (result, (tasks.new, door.new)) ≡ after_ask tasks.old door.old }
 {
     let next = tasks.next(door.tag);
     tell_next(tasks, door, &next);
@@ -255,8 +272,19 @@ fn show_data(tasks: &Tasks, door: &UasTasksDoor, bytes: &mut [u8]) -> u8
     0
 }
 
+/// The same as `tell`, refused in the disk set.
 fn answer(tasks: &mut Tasks, door: &UasTasksDoor, bytes: &[u8]) -> u8
     ensures { (result, (tasks.new, door.now)) ≡ after_answer tasks.old door.now bytes.now }
+{
+    if tasks.is_disk() {
+        return TASKS_SET;
+    }
+    tell(tasks, door, bytes)
+}
+
+/// What came of the request of the door's number.
+fn tell(tasks: &mut Tasks, door: &UasTasksDoor, bytes: &[u8]) -> u8
+    ensures { (result, (tasks.new, door.now)) ≡ after_tell tasks.old door.now bytes.now }
 {
     let told = outcome_told(
         door.outcome,

@@ -22,6 +22,7 @@ use Rattle.uas_tasks.specs.declared.Task.TheVariants.{Giving, Blocks, Ended, Fai
 use Rattle.uas_tasks.specs.declared.Wants.{Wants}
 use Rattle.uas_tasks.specs.declared.Wants.TheVariants as wants
 use Rattle.uas_tasks.specs.declared.Outcome.{Outcome}
+use Rattle.uas_tasks.specs.Outcomes.{is_disk}
 use Rattle.uas_tasks.specs.Machine.{Machine as Tasks, answer_fault, answered_out, answered_unless, next_by, next_of, number_of, out_of_number, slot_of, wanted}
 use Rattle.uas_tasks.specs.Slots.{SlotState, asked_slot, out_of, task_wants}
 use Rattle.uas_tasks.proofs.Keeping.{wanted-free}
@@ -36,7 +37,7 @@ use Rattle.uas_xhci_c.specs.declared.saving.TheConstants.{XHCI_OUT}
 use Rattle.uas_xhci_c.specs.declared.door.Call.{Call}
 use Rattle.uas_xhci_c.specs.declared.door.Call.TheVariants as calls
 use Rattle.uas_xhci_c.specs.declared.door.UasXhciDoor.{UasXhciDoor}
-use Rattle.uas_xhci_c.specs.XhciCall.{after_call, after_named, after_request, answer_told, answered_with, asked_on, call_numbered, first_asking}
+use Rattle.uas_xhci_c.specs.XhciCall.{after_call, after_ask, after_named, answer_told, answered_with, asked_on, call_numbered, first_asking}
 use Rattle.uas_xhci_c.specs.XhciCall.{given_out, read_at, save_told, width_of, with_next, written_at}
 
 -- nothing, no such call, bytes that are more or fewer than a request's, no such request, a place that isn't one of it, no such logical unit or
@@ -96,10 +97,13 @@ module _ (machine : Machine) (door : UasXhciDoor) (bytes : List ℕ) where
   named calls.Plug = done _ door bytes
   named calls.Frame = done _ door bytes
   named calls.Reset = done _ door bytes
-  named calls.Request = done _ _ bytes
+  named calls.Request = elim (cases_Bool (is_disk machine.device.tasks.set)) [
+    | inl disk ↦ rw disk (done machine _ bytes)
+    | inr other ↦ rw other (done _ _ bytes)
+  ]
   named calls.Data = either Whole (given_out machine door bytes) _ _ (refl, λ some. refl) given
   named calls.Answered =
-      either (λ after. Whole (with_bytes bytes after)) (answered_with machine door bytes) (outcome_told door.outcome (door.good == 1) door.block (length bytes)) _ (refl, λ some. refl)
+      either (λ after. Whole (with_bytes bytes after)) (answered_with machine door bytes) (outcome_told door.outcome (door.good == 1) door.block (length bytes) (door.through == 1) door.count) _ (refl, λ some. refl)
       (λ outcome. at_out (door.number % 256) outcome (out_of_number machine.device.tasks door.number))
   named calls.Stale = done _ _ bytes
   named calls.HostError = done _ _ bytes
@@ -111,13 +115,14 @@ module _ (machine : Machine) (door : UasXhciDoor) (bytes : List ℕ) where
     | inr other ↦ rw other (refl, λ some. refl)
   ]
   named calls.Save = saved (save_of machine bytes)
+  named calls.Ask = done _ _ bytes
 
   pub calls_are_whole : Whole (after_call machine door bytes)
   calls_are_whole = either Whole (after_named machine door bytes) (call_numbered door.call) _ (refl, λ some. refl) named
 
--- REQUEST tells of one exactly where a tag's request is to be asked
+-- ASK tells of one exactly where a tag's request is to be asked
 abbrev pub IsTold : Machine → UasXhciDoor → Type 0
-IsTold machine door = (after_request machine door).1.1.good ≡ yes (is_some (first_asking machine.device))
+IsTold machine door = (after_ask machine door).1.1.good ≡ yes (is_some (first_asking machine.device))
 
 found : (test : ℕ → Bool) (list : List ℕ) (x : ℕ) → find test list ≡ Some x → test x ≡ true
 found test [] x is = absurd (none-some x is)

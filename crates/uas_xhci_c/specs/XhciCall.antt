@@ -13,6 +13,7 @@ use Rattle.uas_tasks.specs.declared.AnswerFault.TheVariants.{NotOut, NoSuchOutco
 use Rattle.uas_tasks.specs.declared.Next.{Next}
 use Rattle.uas_tasks.specs.declared.Next.TheVariants as nexts
 use Rattle.uas_tasks.specs.declared.Outcome.{Outcome}
+use Rattle.uas_tasks.specs.Outcomes.{is_disk}
 use Rattle.c_tasks.specs.Outcomes.{outcome_told}
 use Rattle.uas_tasks.specs.declared.Request.{Request}
 use Rattle.uas_tasks.specs.declared.Request.TheVariants as requests
@@ -94,7 +95,8 @@ asked_on machine tag =
 abbrev pub next_request : Machine → Machine × Option Next
 next_request machine = option_map_or (asked_on machine) (first_asking machine.device) (machine, None)
 
--- 1 reads, 2 writes, 3 compares, 4 verifies, 5 brings to the medium
+-- 1 reads, 2 writes, 3 compares, 4 verifies, 5 brings to the medium, 6 zeroes, 7 discards, 9 tells what is mapped; with 2 in `through` one block is
+-- written on each
 abbrev pub with_request : UasXhciDoor → Request → UasXhciDoor
 with_request door (requests.Read unit block count) = record door { kind = 1; through = 0; unit = unit; block = block; count = count }
 with_request door (requests.Write unit block count through) =
@@ -114,9 +116,19 @@ abbrev pub with_next : UasXhciDoor → Option Next → UasXhciDoor
 with_next door (Some (nexts.Asks number request)) = with_request (record door { good = 1; number = number }) request
 with_next door _ = record door { good = 0 }
 
--- REQUEST (8)
+-- how many bytes its data have
+abbrev pub bytes_asked : Machine × Option Next → ℕ
+bytes_asked (machine, Some (nexts.Asks number request)) = length (unwrap_or (bytes_out machine.device.tasks number) [])
+bytes_asked (machine, next) = 0
+
+-- ASK (15)
+abbrev pub after_ask : Machine → UasXhciDoor → DoorAfter Machine UasXhciDoor
+after_ask machine door =
+    (0, ((next_request machine).0, record (with_next door (next_request machine).1) { value = bytes_asked (next_request machine) }))
+
+-- REQUEST (8): the same; in the disk set there is none, since who doesn't know all of its requests would take one for another
 abbrev pub after_request : Machine → UasXhciDoor → DoorAfter Machine UasXhciDoor
-after_request machine door = (0, ((next_request machine).0, with_next door (next_request machine).1))
+after_request machine door = if is_disk machine.device.tasks.set then (0, (machine, record door { good = 0 })) else after_ask machine door
 
 -- DATA (9): the bytes of a request that writes or compares, which are as many as the caller's
 abbrev pub given_out : Machine → UasXhciDoor → List ℕ → List ℕ → After Machine UasXhciDoor
@@ -174,7 +186,7 @@ abbrev pub call_numbered : ℕ → Option Call
 call_numbered =
     numbered ((1, calls.Read) ∷ (2, calls.Write) ∷ (3, calls.Interrupt) ∷ (4, calls.Message) ∷ (5, calls.Plug) ∷ (6, calls.Frame) ∷ (7, calls.Reset)
     ∷ (8, calls.Request) ∷ (9, calls.Data) ∷ (10, calls.Answered) ∷ (11, calls.Stale) ∷ (12, calls.HostError)
-    ∷ (13, calls.Offer) ∷ (14, calls.Save) ∷ [])
+    ∷ (13, calls.Offer) ∷ (14, calls.Save) ∷ (15, calls.Ask) ∷ [])
 
 abbrev pub after_named : Machine → UasXhciDoor → List ℕ → Call → After Machine UasXhciDoor
 after_named machine door bytes calls.Read = with_bytes bytes (after_read machine door)
@@ -191,6 +203,7 @@ after_named machine door bytes calls.Stale = with_bytes bytes (after_stale machi
 after_named machine door bytes calls.HostError = with_bytes bytes (after_host_error machine door)
 after_named machine door bytes calls.Offer = with_bytes bytes (after_offer machine door)
 after_named machine door bytes calls.Save = after_save machine door bytes
+after_named machine door bytes calls.Ask = with_bytes bytes (after_ask machine door)
 
 -- a call of a number that is none is refused
 abbrev pub after_call : Machine → UasXhciDoor → List ℕ → After Machine UasXhciDoor

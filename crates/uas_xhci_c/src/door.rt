@@ -1,8 +1,8 @@
 //! A controller over a caller's memory for C: register accesses, interrupts and requests, over one call with a door.
 ghost use Rattle.std.specs.Prelude.{◌≡◌};
 ghost use Rattle.uas_xhci_c.specs.CallLaws.{IsTold, IsWhole};
-ghost use Rattle.uas_xhci_c.specs.XhciCall.{after_answer, after_call, after_data, after_offer, after_read, after_request, after_save, after_stale, after_write, call_numbered};
-ghost use Rattle.uas_xhci_c.specs.XhciCall.{width_of, with_next, with_request};
+ghost use Rattle.uas_xhci_c.specs.XhciCall.{after_answer, after_ask, after_call, after_data, after_offer, after_read, after_request, after_save, after_stale, after_write, bytes_asked};
+ghost use Rattle.uas_xhci_c.specs.XhciCall.{call_numbered, width_of, with_next, with_request};
 
 use crate::saving::XHCI_OUT;
 use c_common::faults::{TASKS_CALL, TASKS_LENGTH, TASKS_NOT_OUT, TASKS_PLACE, TASKS_SERIAL, UNITS};
@@ -18,16 +18,17 @@ use xhci_machine::{Machine, SaveFault, Width};
 #[repr(C)]
 #[derive(Clone, Copy)]
 pub struct UasXhciDoor {
-    /// The call, 1 to 14.
+    /// The call, 1 to 15.
     pub call: u8,
     /// Of READ and WRITE: 1, 2, 4 or 8 bytes.
     pub width: u8,
     /// Out of INTERRUPT, MESSAGE and HOST_ERROR: 1 where there is one; of REQUEST: 1 where one is out newly; of SAVE: 1 where there was room. Of
     /// ANSWERED: 1 where `block` is a place.
     pub good: u8,
-    /// Out of REQUEST: 1 reads, 2 writes, 3 compares, 4 verifies, 5 brings to the medium.
+    /// Out of REQUEST: 1 reads, 2 writes, 3 compares, 4 verifies, 5 brings to the medium, 6 zeroes, 7 discards, 9 tells what is mapped. Here and
+    /// below REQUEST is ASK too.
     pub kind: u8,
-    /// Out of REQUEST: 1 where a write goes through to the medium, else 0.
+    /// Out of REQUEST: 1 where it goes through to the medium, and 2 where one block is written on each. Of ANSWERED: 1 where blocks are mapped.
     pub through: u8,
     /// Of ANSWERED: 0 done, 1 differs, 2 medium error, 3 not ready, 4 no space, 5 write protected, 6 aborted, 7 busy.
     pub outcome: u8,
@@ -35,7 +36,7 @@ pub struct UasXhciDoor {
     /// Of READ and WRITE: where in the register page.
     pub offset: u64,
     /// Of WRITE: what is written; of PLUG: 0 to pull the disk; of FRAME: MFINDEX; of OFFER: the serial number. Out of READ: what was read; of
-    /// SAVE: how many bytes it takes.
+    /// SAVE: how many bytes it takes; of REQUEST: how many the data have.
     pub value: u64,
     /// Out of REQUEST, and of DATA and ANSWERED: the request's number. Of STALE: the last one told, or 0; out: the next, or 0. Of OFFER: the
     /// greatest logical unit's.
@@ -44,7 +45,7 @@ pub struct UasXhciDoor {
     pub unit: u64,
     /// Out of REQUEST: the first block. Of ANSWERED: the first bad block, or the first byte that differs.
     pub block: u64,
-    /// Out of REQUEST: how many blocks.
+    /// Out of REQUEST: how many blocks. Of ANSWERED of a status: how many are mapped, or not.
     pub count: u64,
 }
 
@@ -80,6 +81,7 @@ enum Call {
     HostError,
     Offer,
     Save,
+    Ask,
 }
 
 fn call_numbered(number: u8) -> Option<Call>
@@ -100,6 +102,7 @@ fn call_numbered(number: u8) -> Option<Call>
         12 => Some(Call::HostError),
         13 => Some(Call::Offer),
         14 => Some(Call::Save),
+        15 => Some(Call::Ask),
         _ => None,
     }
 }
@@ -157,6 +160,7 @@ pub(crate) fn serve(kept: &mut KeptXhci, door: &mut UasXhciDoor, bytes: &mut [u8
         }
         Call::Offer => offer(machine, door),
         Call::Save => save(machine, door, bytes),
+        Call::Ask => ask(machine, door),
     }
 }
 
@@ -197,13 +201,38 @@ fn write(machine: &mut Machine, door: &UasXhciDoor) -> u8
     0
 }
 
-/// The next request that isn't out yet.
+/// The same as `ask`; in the disk set there is none, since who doesn't know all of its requests would take one for another.
 fn show_request(machine: &mut Machine, door: &mut UasXhciDoor) -> u8
     ensures { (result, (machine.new, door.new)) ≡ after_request machine.old door.old }
 {
+    if machine.is_disk() {
+        door.good = 0;
+        return 0;
+    }
+    ask(machine, door)
+}
+
+/// The next request that isn't out yet.
+fn ask(machine: &mut Machine, door: &mut UasXhciDoor) -> u8
+    ensures { (result, (machine.new, door.new)) ≡ after_ask machine.old door.old }
+{
     let next = machine.next_request();
     tell_next(door, next);
+    door.value = data_bytes(machine, next) as u64;
     0
+}
+
+/// How many bytes the data of a request have.
+fn data_bytes(machine: &Machine, next: Option<Next>) -> usize
+    ensures { result ≡ bytes_asked (machine.now, next) }
+{
+    let Some(Next::Asks { number, .. }) = next else {
+        return 0;
+    };
+    match machine.request_bytes(number) {
+        Some(bytes) => bytes.len(),
+        None => 0,
+    }
 }
 
 fn tell_next(door: &mut UasXhciDoor, next: Option<Next>)
@@ -327,7 +356,7 @@ pub fn refused_calls_change_nothing(machine: &Machine, door: &UasXhciDoor, bytes
 {}
 
 #[tactic(auto, using(crate::specs::CallLaws::requests_are_told))]
-/// Law: REQUEST tells of a request exactly where an active tag's is to be asked.
+/// Law: ASK tells of a request exactly where an active tag's is to be asked.
 pub fn requests_are_told(machine: &Machine, door: &UasXhciDoor)
     ensures { IsTold machine.now door.now }
 {}

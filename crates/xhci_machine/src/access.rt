@@ -2,6 +2,7 @@
 ghost use Rattle.std.specs.Prelude.{◌≡◌, ℕ, ◌<◌, ◌≤◌, ◌%◌, IfOk, IfSome, IfNone, option_copied, true, false};
 ghost use Rattle.guest_tasks.specs.Active.{IsIdle, TasksAreActive, asks_on};
 ghost use Rattle.uas_tasks.specs.Machine.{answered, bytes_out, has_task, next_of, stale_after};
+ghost use Rattle.uas_tasks.specs.Outcomes.{is_disk};
 ghost use Rattle.xhci_registers.specs.Signals.{is_asserted, messaged, tells_host_error};
 ghost use Rattle.xhci_registers.specs.Words.{read_of};
 ghost use Rattle.xhci_registers.specs.Writes.{reset_registers};
@@ -211,6 +212,13 @@ impl Machine {
             Some(next) => Some(asked_in(bulk, next)),
             None => None,
         }
+    }
+
+    /// Whether its disk's commands are those of the disk set.
+    pub fn is_disk(&self) -> bool
+        ensures { result ≡ is_disk self.now.device.tasks.set }
+    {
+        self.device.tasks.is_disk()
     }
 
     /// The bytes of a request that writes or compares, while it is out.

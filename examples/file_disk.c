@@ -12,7 +12,7 @@ enum { TAGS = 32, CHUNK = 64, ZONE = 128, BLOCKS = 1 << 24 /* 8 GiB */ };
 
 /* A request that is out, with bytes of its own. */
 struct job {
-    struct uas_request request;
+    struct uas_asked request;
     uint16_t tag;
     uint8_t outcome, bytes[CHUNK * UAS_BLOCK_BYTES];
     struct job *next;
@@ -122,11 +122,12 @@ static void go_on(uint16_t tag)
     for (;;) {
         uint8_t phase;
         uint64_t length;
-        must(uas_tasks_next(tasks, tag, &phase, &length, &jobs[tag].request));
+        jobs[tag].request.size = sizeof jobs[tag].request;
+        must(uas_tasks_ask(tasks, tag, &phase, &length, &jobs[tag].request));
         size_t part = length < 1000 ? (size_t)length : 1000; /* any part of it */
         if (phase == UAS_ASKS) {
             if (jobs[tag].request.kind == UAS_REQUEST_WRITE)
-                must(uas_tasks_data(tasks, jobs[tag].request.number, jobs[tag].bytes, (size_t)jobs[tag].request.count * UAS_BLOCK_BYTES));
+                must(uas_tasks_data(tasks, jobs[tag].request.number, jobs[tag].bytes, (size_t)jobs[tag].request.bytes));
             jobs[tag].tag = tag;
             put(&asked, &jobs[tag]);
         } else if (phase == UAS_GIVES || phase == UAS_TAKES) {

@@ -27,7 +27,7 @@ struct job {
     struct reply *reply;
     uint8_t *data;
     size_t room, moved;
-    struct uas_request asked;
+    struct uas_asked asked;
     uint8_t *place;
     size_t size;
 };
@@ -71,7 +71,7 @@ static bool begin(struct job *job)
 static bool find_place(struct job *job)
 {
     bool writes = job->asked.kind == UAS_REQUEST_WRITE;
-    job->size = job->asked.kind == UAS_REQUEST_SYNC ? 0 : (size_t)job->asked.count * UAS_BLOCK_BYTES;
+    job->size = (size_t)job->asked.bytes;
     job->place = job->data + job->moved - (writes ? job->size : 0);
     return !writes || uas_tasks_data(job->seat->tasks, job->asked.number, job->place, job->size) == UAS_OK;
 }
@@ -82,7 +82,8 @@ static bool go_on(struct job *job, uint8_t *phase)
     uas_tasks *tasks = job->seat->tasks;
     for (;;) {
         uint64_t length;
-        if (uas_tasks_next(tasks, job->tag, phase, &length, &job->asked) != UAS_OK)
+        job->asked.size = sizeof job->asked;
+        if (uas_tasks_ask(tasks, job->tag, phase, &length, &job->asked) != UAS_OK)
             return false;
         if (*phase == UAS_ASKS)
             return find_place(job);

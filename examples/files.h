@@ -1,4 +1,4 @@
-/* A file with a disk's blocks, for the examples: opened and locked, read, written, looked through and synced, by any number of threads.
+/* A file with a disk's blocks, for the examples: opened and locked, read, written, zeroed, looked through and synced, by any number of threads.
  *
  * Linux tells of a block that it couldn't write back once for each open file. So of two threads that sync one open file a single one hears of
  * it, and on a network's file system that may be one that writes. An image therefore has an open file that does nothing but sync, for one
@@ -9,7 +9,7 @@
 #ifndef FILES_H
 #define FILES_H
 #ifndef _GNU_SOURCE
-#define _GNU_SOURCE /* locks of an open file */
+#define _GNU_SOURCE /* locks of an open file, fallocate, SEEK_DATA */
 #endif
 #include "uas_tasks.h"
 #include <errno.h>
@@ -20,8 +20,8 @@
 #include <sys/file.h>
 #include <unistd.h>
 
-/* A VERIFY may be of a whole disk: so much of it is looked through at once. */
-enum { LOOK_BLOCKS = 8192 };
+/* A VERIFY may be of a whole disk: so much of it is looked through at once. One block is written on many in parts of so many. */
+enum { LOOK_BLOCKS = 8192, SAME_BLOCKS = 64 };
 
 struct image {
     int file, syncing; /* two open files of the same: of reads and writes, and of syncs */
@@ -161,7 +161,7 @@ static inline uint64_t read_before_bad(struct image *image, uint8_t *bytes, uint
 }
 
 /* What comes of reading a request's blocks, against its bytes where it compares. */
-static inline struct uas_outcome look_through(struct image *image, const struct uas_request *request, const uint8_t *bytes)
+static inline struct uas_outcome look_through(struct image *image, const struct uas_asked *request, const uint8_t *bytes)
 {
     uint8_t part[16 * UAS_BLOCK_BYTES];
     for (uint64_t done = 0; done < request->count; done += 16) {
@@ -178,9 +178,9 @@ static inline struct uas_outcome look_through(struct image *image, const struct 
 }
 
 /* What is looked through at once of a VERIFY of which so many blocks are done: its caller can leave the others. */
-static inline struct uas_request next_look(const struct uas_request *request, uint64_t done)
+static inline struct uas_asked next_look(const struct uas_asked *request, uint64_t done)
 {
-    struct uas_request next = *request;
+    struct uas_asked next = *request;
     next.block += done;
     next.count = request->count - done < LOOK_BLOCKS ? request->count - done : LOOK_BLOCKS;
     return next;
@@ -192,30 +192,95 @@ static inline struct uas_outcome told_of(int why)
     return told(why == ENOSPC || why == EDQUOT ? UAS_NO_SPACE : why == EROFS || why == EPERM ? UAS_WRITE_PROTECTED : UAS_MEDIUM_ERROR);
 }
 
-static inline struct uas_outcome write_blocks(struct image *image, const struct uas_request *request, uint8_t *bytes)
+/* Writes one block on each of a request's. */
+static inline bool write_same(struct image *image, const struct uas_asked *request, const uint8_t *block)
 {
+    uint8_t part[SAME_BLOCKS * UAS_BLOCK_BYTES];
+    for (size_t k = 0; k < SAME_BLOCKS; k++)
+        memcpy(part + k * UAS_BLOCK_BYTES, block, UAS_BLOCK_BYTES);
+    for (uint64_t done = 0; done < request->count; done += SAME_BLOCKS) {
+        uint64_t count = request->count - done < SAME_BLOCKS ? request->count - done : SAME_BLOCKS;
+        if (!move_bytes(image->file, part, (size_t)count * UAS_BLOCK_BYTES, (request->block + done) * UAS_BLOCK_BYTES, true))
+            return false;
+    }
+    return true;
+}
+
+/* Makes zeros of a request's blocks, and gives their room back where it is a discard. Where the file system does neither they are written. */
+static inline bool zero_blocks(struct image *image, const struct uas_asked *request)
+{
+    static const uint8_t zeros[UAS_BLOCK_BYTES];
+    int way = FALLOC_FL_KEEP_SIZE | (request->kind == UAS_REQUEST_DISCARD ? FALLOC_FL_PUNCH_HOLE : FALLOC_FL_ZERO_RANGE), failed;
+    do
+        failed = fallocate(image->file, way, (off_t)(request->block * UAS_BLOCK_BYTES), (off_t)(request->count * UAS_BLOCK_BYTES));
+    while (failed != 0 && errno == EINTR);
+    if (failed != 0 && (errno == EOPNOTSUPP || errno == ENOSYS || errno == EINVAL))
+        return write_same(image, request, zeros);
+    return failed == 0;
+}
+
+/* What comes of a request that changes blocks. */
+static inline struct uas_outcome change_blocks(struct image *image, const struct uas_asked *request, uint8_t *bytes)
+{
+    bool good;
     if (image->bad - request->block < request->count)
         return told_at(UAS_MEDIUM_ERROR, image->bad);
-    if (!move_bytes(image->file, bytes, (size_t)request->count * UAS_BLOCK_BYTES, request->block * UAS_BLOCK_BYTES, true))
+    if (request->kind != UAS_REQUEST_WRITE)
+        good = zero_blocks(image, request);
+    else if ((request->flags & UAS_ASKED_ONE) != 0)
+        good = write_same(image, request, bytes);
+    else
+        good = move_bytes(image->file, bytes, (size_t)request->count * UAS_BLOCK_BYTES, request->block * UAS_BLOCK_BYTES, true);
+    if (!good)
         return told_of(errno);
-    return !request->through || sync_image(image) ? told(UAS_DONE) : told(UAS_MEDIUM_ERROR);
+    return (request->flags & UAS_ASKED_THROUGH) == 0 || sync_image(image) ? told(UAS_DONE) : told(UAS_MEDIUM_ERROR);
+}
+
+static inline struct uas_outcome told_mapped(bool mapped, uint64_t count)
+{
+    return (struct uas_outcome){ .size = sizeof(struct uas_outcome), .flags = mapped ? UAS_OUTCOME_MAPPED : 0, .count = count };
+}
+
+/* How many blocks from the first one on are all mapped or all not: those of the request at the most. A block is mapped where a byte of it is,
+ * and where the file system doesn't tell. */
+static inline struct uas_outcome look_for_holes(struct image *image, const struct uas_asked *request)
+{
+    off_t first = (off_t)(request->block * UAS_BLOCK_BYTES), end = first + (off_t)(request->count * UAS_BLOCK_BYTES);
+    off_t data = lseek(image->file, first, SEEK_DATA), hole = end;
+    if (data < 0)
+        data = errno == ENXIO ? end : first;
+    else if (data < first + UAS_BLOCK_BYTES)
+        hole = lseek(image->file, data, SEEK_HOLE);
+    if (data >= first + UAS_BLOCK_BYTES)
+        return told_mapped(false, (uint64_t)((data < end ? data : end) - first) / UAS_BLOCK_BYTES);
+    if (hole < 0 || hole > end)
+        hole = end;
+    return told_mapped(true, hole > first ? (uint64_t)(hole - first + UAS_BLOCK_BYTES - 1) / UAS_BLOCK_BYTES : 1);
 }
 
 /* Does a request of a disk, whose bytes are these, and returns what came of it. Of a read with a bad block those before it are read. */
-static inline struct uas_outcome try_request(struct image *image, const struct uas_request *request, uint8_t *bytes)
+static inline struct uas_outcome try_request(struct image *image, const struct uas_asked *request, uint8_t *bytes)
 {
-    if (request->kind == UAS_REQUEST_SYNC)
+    uint64_t good;
+    switch (request->kind) {
+    case UAS_REQUEST_SYNC:
         return sync_image(image) ? told(UAS_DONE) : told(UAS_MEDIUM_ERROR);
-    if (request->kind == UAS_REQUEST_WRITE)
-        return write_blocks(image, request, bytes);
-    if (request->kind != UAS_REQUEST_READ)
+    case UAS_REQUEST_WRITE:
+    case UAS_REQUEST_ZERO:
+    case UAS_REQUEST_DISCARD:
+        return change_blocks(image, request, bytes);
+    case UAS_REQUEST_STATUS:
+        return look_for_holes(image, request);
+    case UAS_REQUEST_READ:
+        good = read_before_bad(image, bytes, request->block, request->count);
+        return good == request->count ? told(UAS_DONE) : told_at(UAS_MEDIUM_ERROR, request->block + good);
+    default:
         return look_through(image, request, bytes);
-    uint64_t good = read_before_bad(image, bytes, request->block, request->count);
-    return good == request->count ? told(UAS_DONE) : told_at(UAS_MEDIUM_ERROR, request->block + good);
+    }
 }
 
 /* How many bytes come with that. */
-static inline size_t bytes_of(const struct uas_request *request, const struct uas_outcome *outcome)
+static inline size_t bytes_of(const struct uas_asked *request, const struct uas_outcome *outcome)
 {
     if (request->kind != UAS_REQUEST_READ || outcome->what > UAS_MEDIUM_ERROR || outcome->what == UAS_DIFFERS)
         return 0;
@@ -223,7 +288,7 @@ static inline size_t bytes_of(const struct uas_request *request, const struct ua
 }
 
 /* The same for a disk that isn't told where. */
-static inline uint8_t do_request(struct image *image, const struct uas_request *request, uint8_t *bytes)
+static inline uint8_t do_request(struct image *image, const struct uas_asked *request, uint8_t *bytes)
 {
     uint8_t what = try_request(image, request, bytes).what;
     return what <= UAS_NOT_READY ? what : UAS_MEDIUM_ERROR;

@@ -138,11 +138,12 @@ static bool advance(uint16_t tag)
     for (;;) {
         uint8_t phase, status[UAS_MOST_UNIT_BYTES];
         uint64_t length;
-        struct uas_request *request = &jobs[tag].request;
-        must(uas_tasks_next(tasks, tag, &phase, &length, request));
+        struct uas_asked *request = &jobs[tag].request;
+        request->size = sizeof *request;
+        must(uas_tasks_ask(tasks, tag, &phase, &length, request));
         if (phase == UAS_ASKS) {
             if (request->kind == UAS_REQUEST_WRITE)
-                must(uas_tasks_data(tasks, request->number, jobs[tag].bytes, (size_t)request->count * UAS_BLOCK_BYTES));
+                must(uas_tasks_data(tasks, request->number, jobs[tag].bytes, (size_t)request->bytes));
             jobs[tag].tag = tag;
             put(&asked, &jobs[tag]);
         } else if (phase == UAS_GIVES || phase == UAS_TAKES) {

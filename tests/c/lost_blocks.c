@@ -52,11 +52,11 @@ static void *use(void *seed)
     unsigned chance = *(unsigned *)seed;
     uint8_t bytes[UAS_BLOCK_BYTES] = { 0 };
     for (int k = 0; k < REQUESTS; k++) {
-        struct uas_request request = { .block = (uint64_t)rand_r(&chance) % BLOCKS, .count = 1, .kind = UAS_REQUEST_WRITE };
+        struct uas_asked request = { .block = (uint64_t)rand_r(&chance) % BLOCKS, .count = 1, .kind = UAS_REQUEST_WRITE };
         if (do_request(&image, &request, bytes) == UAS_DONE && rand_r(&chance) % 50 == 0)
             lost++;
         int before = lost;
-        request.through = true;
+        request.flags = UAS_ASKED_THROUGH;
         note(do_request(&image, &request, bytes), before);
         before = lost;
         request.kind = UAS_REQUEST_SYNC;
@@ -69,7 +69,7 @@ static void *use(void *seed)
 static bool open_anew(const char *name)
 {
     struct image second;
-    const struct uas_request sync = { .kind = UAS_REQUEST_SYNC };
+    const struct uas_asked sync = { .kind = UAS_REQUEST_SYNC };
     if (open_image(&image, name) != IMAGE_GOOD || image.bytes != BLOCKS * UAS_BLOCK_BYTES)
         return false;
     heard[image.file] = heard[image.syncing] = lost;

@@ -66,7 +66,7 @@ static int ask_all(uint8_t kind, bool through)
 {
     int good = 0;
     for (int k = 0; k < WRITERS; k++) {
-        tries[k].request = (struct uas_request){ .number = 1, .block = (uint64_t)(k * CHUNK), .count = kind == UAS_REQUEST_SYNC ? 0 : CHUNK, .kind = kind, .through = through };
+        tries[k].request = (struct uas_asked){ .number = 1, .block = (uint64_t)(k * CHUNK), .count = kind == UAS_REQUEST_SYNC ? 0 : CHUNK, .kind = kind, .flags = through };
         put(&asked, &tries[k]);
     }
     for (int k = 0; k < WRITERS; k++)

@@ -123,12 +123,12 @@ static inline void leave_units(struct unit *units)
     }
 }
 
-/* A logical unit of so many bytes, whose serial number a host is told in eight digits and in its NAA name. */
+/* A logical unit of so many bytes, which gives room back, and whose serial number a host is told in eight digits and in its NAA name. */
 static inline struct uas_disk disk_of(const struct unit *unit, uint64_t bytes)
 {
-    struct uas_disk disk = { .size = sizeof disk, .blocks = bytes / UAS_BLOCK_BYTES, .most = MOST_BLOCKS, .naa = { 0x30 } };
+    struct uas_disk disk = { .size = sizeof disk, .blocks = bytes / UAS_BLOCK_BYTES, .most = MOST_BLOCKS, .flags = UAS_DISK_THIN, .naa = { 0x30 } };
     if (unit->drive != NULL && !blk_supports_write_perm(unit->drive))
-        disk.flags = UAS_DISK_READ_ONLY;
+        disk.flags |= UAS_DISK_READ_ONLY;
     snprintf(disk.serial, sizeof disk.serial, "%08u", unit->serial);
     for (unsigned k = 0; k < 4; k++)
         disk.naa[7 - k] = (uint8_t)(unit->serial >> (8 * k));
@@ -158,7 +158,7 @@ static inline bool take_drive(struct unit *unit, struct uas_disk *disk, Error **
         return false;
     }
     *disk = disk_of(unit, (uint64_t)bytes);
-    return blkconf_apply_backend_options(&drive, disk->flags != 0, false, errp);
+    return blkconf_apply_backend_options(&drive, (disk->flags & UAS_DISK_READ_ONLY) != 0, false, errp);
 }
 
 /* Opens all logical units, and tells how many there are and what they are: 0 where one is wrong. Close them in either case. */

@@ -36,7 +36,7 @@ static void job_ended(struct job *job)
     g_free(job);
 }
 
-static void begin_request(UasXhci *device, const struct uas_request *request)
+static void begin_request(UasXhci *device, const struct uas_asked *request)
 {
     struct job *job = g_new(struct job, 1);
     job->ended = job_ended;
@@ -46,7 +46,7 @@ static void begin_request(UasXhci *device, const struct uas_request *request)
     job->request = *request;
     job->looked = 0;
     if (request->kind == UAS_REQUEST_WRITE || request->kind == UAS_REQUEST_COMPARE)
-        uas_xhci_data(device->xhci, request->number, job->bytes, request->count * UAS_BLOCK_BYTES);
+        uas_xhci_data(device->xhci, request->number, job->bytes, (size_t)request->bytes);
     device->jobs++;
     submit(job);
 }
@@ -92,11 +92,11 @@ static void interrupt(UasXhci *device)
 static void turn(void *opaque)
 {
     UasXhci *device = opaque;
-    struct uas_request request;
+    struct uas_asked request = { .size = sizeof request };
     if (device->drains || !device->runs)
         return;
     work(device);
-    while (uas_xhci_next_request(device->xhci, &request))
+    while (uas_xhci_ask(device->xhci, &request) == UAS_OK && request.number != 0)
         begin_request(device, &request);
     interrupt(device);
 }

@@ -5,10 +5,11 @@
 #include "../../examples/qemu-xhci/uas-xhci.c"
 #include <stdatomic.h>
 
-static struct uas_request asked; /* what the library asks for, whenever it is asked */
+static struct uas_asked asked; /* what the library asks for, whenever it is asked */
 static int begun, answered, resets, plugs;
 static uint8_t outcome, told_bytes[65536];
-static uint64_t told_place, told_length;
+static uint64_t told_place, told_length, told_count;
+static bool is_told_mapped;
 static atomic_int writing; /* writes that are on their way into the file */
 static int writing_at_reset = -1;
 static struct uas_disk disks[MOST_UNITS];
@@ -45,12 +46,17 @@ uint8_t uas_xhci_offer_bulk_only(uas_xhci *xhci, uint8_t last, uint32_t serial)
     return UAS_OK;
 }
 
-bool uas_xhci_next_request(uas_xhci *xhci, struct uas_request *request)
+uint8_t uas_xhci_ask(uas_xhci *xhci, struct uas_asked *request)
 {
     (void)xhci;
+    if (request->size != sizeof *request)
+        return UAS_TASKS_SIZE;
+    bool one = (asked.flags & UAS_ASKED_ONE) != 0, moves = asked.kind == UAS_REQUEST_WRITE || asked.kind == UAS_REQUEST_COMPARE;
     *request = asked;
-    request->number = (uint64_t)begun;
-    return request->kind != 0 && begun++ % 2 == 0; /* one each time */
+    request->size = sizeof *request;
+    request->bytes = moves ? (one ? 1 : asked.count) * UAS_BLOCK_BYTES : 0;
+    request->number = asked.kind != 0 && begun++ % 2 == 0 ? (uint64_t)begun : 0; /* one each time */
+    return UAS_OK;
 }
 
 uint8_t uas_xhci_tell(uas_xhci *xhci, uint64_t number, const struct uas_outcome *came, const uint8_t *bytes, size_t length)
@@ -58,6 +64,8 @@ uint8_t uas_xhci_tell(uas_xhci *xhci, uint64_t number, const struct uas_outcome 
     (void)xhci, (void)number;
     outcome = came->what;
     told_place = came->flags == UAS_OUTCOME_AT ? came->at : UINT64_MAX;
+    is_told_mapped = came->flags == UAS_OUTCOME_MAPPED;
+    told_count = came->count;
     told_length = length;
     memcpy(told_bytes, bytes, length);
     answered++;
@@ -150,7 +158,7 @@ static UasXhci *made(const char *path, Error **error)
 }
 
 /* A device with a request at work, whose library would ask for the same again and again. */
-static UasXhci *working(const char *path, struct uas_request request)
+static UasXhci *working(const char *path, struct uas_asked request)
 {
     Error *error = NULL;
     UasXhci *device = made(path, &error);
@@ -167,7 +175,7 @@ static UasXhci *working(const char *path, struct uas_request request)
 
 static void waits_for_writes(const char *path)
 {
-    const struct uas_request write = { .block = 8, .count = 8, .kind = UAS_REQUEST_WRITE };
+    const struct uas_asked write = { .block = 8, .count = 8, .kind = UAS_REQUEST_WRITE };
     UasXhci *device = working(path, write);
     reset(DEVICE(device));
     tell("a reset waits for a write, and begins none", resets == 1 && writing_at_reset == 0 && answered == 1 && device->jobs == 0);
@@ -187,13 +195,13 @@ static void waits_for_writes(const char *path)
 /* A VERIFY of 2 TiB takes minutes; alarm ends the program before. */
 static void leaves_a_verify(const char *path)
 {
-    const struct uas_request verify = { .count = UINT64_C(1) << 32, .kind = UAS_REQUEST_VERIFY };
+    const struct uas_asked verify = { .count = UINT64_C(1) << 32, .kind = UAS_REQUEST_VERIFY };
     alarm(20);
     UasXhci *device = working(path, verify);
     unrealize(&device->parent);
     tell("a VERIFY is left in its midst", answered == 1 && outcome == UAS_ABORTED && device->jobs == 0);
     free(device);
-    device = working(path, (struct uas_request){ .count = 3 * LOOK_BLOCKS + 5, .kind = UAS_REQUEST_VERIFY });
+    device = working(path, (struct uas_asked){ .count = 3 * LOOK_BLOCKS + 5, .kind = UAS_REQUEST_VERIFY });
     asked.kind = 0;
     while (device->jobs > 0)
         aio_poll(NULL, true);
@@ -277,7 +285,7 @@ static void has_units(const char *path, const char *other)
     realize(&device->parent, &error);
     tell("two units", error == NULL && units == 2 && most_lun == 1 && strcmp(disks[1].serial, "00000008") == 0 && disks[1].blocks == 100);
     begun = answered = 0;
-    asked = (struct uas_request){ .unit = 1, .block = 8, .count = 8, .kind = UAS_REQUEST_WRITE };
+    asked = (struct uas_asked){ .unit = 1, .block = 8, .count = 8, .kind = UAS_REQUEST_WRITE };
     write_register(device, 0, 0, 4);
     asked.kind = 0;
     while (device->jobs > 0)
@@ -289,13 +297,90 @@ static void has_units(const char *path, const char *other)
 }
 
 /* Has a device do one request, to its end. */
-static void done(UasXhci *device, struct uas_request request)
+static void done(UasXhci *device, struct uas_asked request)
 {
     begun = answered = 0;
     asked = request;
     write_register(device, 0, 0, 4);
     asked.kind = 0;
     tell("a request is done", answered == 1 && device->jobs == 0);
+}
+
+/* Has a device do one request of a file, which a thread does. */
+static void done_in_file(UasXhci *device, struct uas_asked request)
+{
+    begun = answered = 0;
+    asked = request;
+    write_register(device, 0, 0, 4);
+    asked.kind = 0;
+    while (device->jobs > 0)
+        aio_poll(NULL, true);
+    tell("a request of a file is done", answered == 1);
+}
+
+static bool are_all(const UasXhci *device, uint64_t block, uint64_t count, uint8_t byte)
+{
+    uint8_t bytes[UAS_BLOCK_BYTES];
+    for (; count > 0; block++, count--) {
+        if (pread(device->units[0].image.file, bytes, sizeof bytes, (off_t)(block * UAS_BLOCK_BYTES)) != UAS_BLOCK_BYTES)
+            return false;
+        for (size_t k = 0; k < sizeof bytes; k++)
+            if (bytes[k] != byte)
+                return false;
+    }
+    return true;
+}
+
+/* One block is written on many of a file, some become zeros, and some are given back; all of the file tells which those are. */
+static void gives_room_back(const char *path)
+{
+    Error *error = NULL;
+    asked.kind = 0;
+    UasXhci *device = made(path, &error);
+    tell("a file can give room back", error == NULL && disks[0].flags == UAS_DISK_THIN);
+    done_in_file(device, (struct uas_asked){ .block = 4096, .count = 65, .kind = UAS_REQUEST_WRITE, .flags = UAS_ASKED_ONE | UAS_ASKED_THROUGH });
+    tell("one block is written on many", outcome == UAS_DONE && are_all(device, 4096, 65, 7) && are_all(device, 4161, 1, 0));
+    done_in_file(device, (struct uas_asked){ .block = 4096, .count = 65, .kind = UAS_REQUEST_STATUS });
+    tell("which are mapped", outcome == UAS_DONE && is_told_mapped && told_count == 65);
+    done_in_file(device, (struct uas_asked){ .block = 4100, .count = 3, .kind = UAS_REQUEST_ZERO });
+    tell("zeros", outcome == UAS_DONE && are_all(device, 4100, 3, 0) && are_all(device, 4099, 1, 7) && are_all(device, 4103, 1, 7));
+    done_in_file(device, (struct uas_asked){ .block = 4112, .count = 24, .kind = UAS_REQUEST_DISCARD });
+    tell("room is given back", outcome == UAS_DONE && are_all(device, 4112, 24, 0) && are_all(device, 4111, 1, 7) && are_all(device, 4136, 1, 7));
+    done_in_file(device, (struct uas_asked){ .block = 4112, .count = 1000, .kind = UAS_REQUEST_STATUS });
+    tell("which isn't mapped", outcome == UAS_DONE && told_count >= 1 && (is_told_mapped || told_count == 24));
+    unrealize(&device->parent);
+    free(device);
+    device = named(path);
+    device->bad = 8;
+    realize(&device->parent, &error);
+    done_in_file(device, (struct uas_asked){ .block = 1, .count = 8, .kind = UAS_REQUEST_DISCARD });
+    tell("up to its bad block", outcome == UAS_MEDIUM_ERROR && told_place == 8);
+    unrealize(&device->parent);
+    free(device);
+}
+
+/* A drive does the same. */
+static void drive_gives_room_back(UasXhci *device, BlockBackend *drive)
+{
+    drive->through = 0;
+    done(device, (struct uas_asked){ .block = 10, .count = 80, .kind = UAS_REQUEST_WRITE, .flags = UAS_ASKED_ONE | UAS_ASKED_THROUGH });
+    tell("one block is written on many", outcome == UAS_DONE && drive->bytes[10 * 512] == 7 && drive->bytes[90 * 512 - 1] == 7 && drive->through == 1);
+    done(device, (struct uas_asked){ .block = 20, .count = 10, .kind = UAS_REQUEST_ZERO, .flags = UAS_ASKED_THROUGH });
+    tell("zeros", outcome == UAS_DONE && drive->bytes[20 * 512] == 0 && drive->bytes[30 * 512] == 7 && !drive->empty[20] && drive->through == 2);
+    done(device, (struct uas_asked){ .block = 40, .count = 10, .kind = UAS_REQUEST_DISCARD });
+    tell("room is given back", outcome == UAS_DONE && drive->bytes[50 * 512 - 1] == 0 && drive->empty[40] && drive->empty[49] && !drive->empty[50] && drive->through == 2);
+    done(device, (struct uas_asked){ .block = 30, .count = 70, .kind = UAS_REQUEST_STATUS });
+    tell("which is mapped", outcome == UAS_DONE && is_told_mapped && told_count == 10);
+    done(device, (struct uas_asked){ .block = 42, .count = 58, .kind = UAS_REQUEST_STATUS });
+    tell("and which isn't", outcome == UAS_DONE && !is_told_mapped && told_count == 8);
+    done(device, (struct uas_asked){ .block = 42, .count = 5, .kind = UAS_REQUEST_STATUS });
+    tell("no further than is asked", outcome == UAS_DONE && !is_told_mapped && told_count == 5);
+    drive->bad = 44 * 512;
+    done(device, (struct uas_asked){ .block = 42, .count = 5, .kind = UAS_REQUEST_STATUS });
+    tell("what isn't known is mapped", outcome == UAS_DONE && is_told_mapped && told_count == 1);
+    done(device, (struct uas_asked){ .block = 42, .count = 5, .kind = UAS_REQUEST_DISCARD });
+    tell("want of leave is told", outcome == UAS_WRITE_PROTECTED);
+    drive->bad = -1;
 }
 
 /* A drive of QEMU's: its blocks, a bad one, and what goes through. */
@@ -309,37 +394,38 @@ static void has_a_drive(void)
     for (int i = 0; i < DRIVE_BYTES; i++)
         drive.bytes[i] = (uint8_t)(i / 512);
     realize(&device->parent, &error);
-    tell("a drive", error == NULL && units == 1 && disks[0].blocks == 100 && disks[0].flags == 0);
-    done(device, (struct uas_request){ .block = 8, .count = 64, .kind = UAS_REQUEST_READ });
+    tell("a drive", error == NULL && units == 1 && disks[0].blocks == 100 && disks[0].flags == UAS_DISK_THIN);
+    done(device, (struct uas_asked){ .block = 8, .count = 64, .kind = UAS_REQUEST_READ });
     tell("is read", outcome == UAS_DONE && told_length == 64 * 512 && told_bytes[0] == 8 && told_bytes[64 * 512 - 1] == 71 && drive.reads == 1);
     for (uint64_t bad = 8; bad < 72; bad++) {
         drive.bad = (int64_t)bad * 512 + 5;
-        done(device, (struct uas_request){ .block = 8, .count = 64, .kind = UAS_REQUEST_READ });
+        done(device, (struct uas_asked){ .block = 8, .count = 64, .kind = UAS_REQUEST_READ });
         tell("up to its bad block", outcome == UAS_MEDIUM_ERROR && told_place == bad && told_length == (bad - 8) * 512);
         tell("with the blocks before it", told_length == 0 || (told_bytes[0] == 8 && told_bytes[told_length - 1] == bad - 1));
-        done(device, (struct uas_request){ .block = 8, .count = 64, .kind = UAS_REQUEST_VERIFY });
+        done(device, (struct uas_asked){ .block = 8, .count = 64, .kind = UAS_REQUEST_VERIFY });
         tell("a bad block isn't verified", outcome == UAS_MEDIUM_ERROR);
     }
     drive.bad = -1;
-    done(device, (struct uas_request){ .block = 8, .count = 8, .kind = UAS_REQUEST_COMPARE });
+    done(device, (struct uas_asked){ .block = 8, .count = 8, .kind = UAS_REQUEST_COMPARE });
     tell("what differs is told", outcome == UAS_DIFFERS && told_place == 0);
-    done(device, (struct uas_request){ .block = 8, .count = 8, .kind = UAS_REQUEST_WRITE, .through = true });
+    done(device, (struct uas_asked){ .block = 8, .count = 8, .kind = UAS_REQUEST_WRITE, .flags = UAS_ASKED_THROUGH });
     tell("is written through", outcome == UAS_DONE && drive.bytes[8 * 512] == 7 && drive.bytes[16 * 512 - 1] == 7 && drive.through == 1);
-    done(device, (struct uas_request){ .block = 8, .count = 8, .kind = UAS_REQUEST_COMPARE });
+    done(device, (struct uas_asked){ .block = 8, .count = 8, .kind = UAS_REQUEST_COMPARE });
     tell("and compared", outcome == UAS_DONE);
-    done(device, (struct uas_request){ .block = 8, .count = 9, .kind = UAS_REQUEST_COMPARE });
+    done(device, (struct uas_asked){ .block = 8, .count = 9, .kind = UAS_REQUEST_COMPARE });
     tell("up to the byte that differs", outcome == UAS_DIFFERS && told_place == 8 * 512);
-    done(device, (struct uas_request){ .block = 96, .count = 8, .kind = UAS_REQUEST_WRITE });
+    done(device, (struct uas_asked){ .block = 96, .count = 8, .kind = UAS_REQUEST_WRITE });
     tell("want of room is told", outcome == UAS_NO_SPACE && drive.through == 1);
-    done(device, (struct uas_request){ .count = 100, .kind = UAS_REQUEST_SYNC });
+    done(device, (struct uas_asked){ .count = 100, .kind = UAS_REQUEST_SYNC });
     tell("is synced", outcome == UAS_DONE && drive.flushes == 1);
+    drive_gives_room_back(device, &drive);
     unrealize(&device->parent);
     free(device);
     device = named(NULL);
     device->units[0].drive = &drive;
     drive.only_read = true;
     realize(&device->parent, &error);
-    tell("a drive that is read only", error == NULL && disks[0].flags == UAS_DISK_READ_ONLY);
+    tell("a drive that is read only", error == NULL && disks[0].flags == (UAS_DISK_THIN | UAS_DISK_READ_ONLY));
     unrealize(&device->parent);
     free(device);
 }
@@ -347,7 +433,7 @@ static void has_a_drive(void)
 /* A machine that stands still: what is at work is waited for, and nothing begins. */
 static void stands_still(const char *path)
 {
-    const struct uas_request write = { .block = 8, .count = 8, .kind = UAS_REQUEST_WRITE };
+    const struct uas_asked write = { .block = 8, .count = 8, .kind = UAS_REQUEST_WRITE };
     UasXhci *device = working(path, write);
     runs_told(device, false, RUN_STATE_PAUSED);
     tell("a machine that stops waits for a write", writing == 0 && answered == 1 && device->jobs == 0);
@@ -397,7 +483,7 @@ static void is_moved(const char *path)
     runs_changed(from, true, RUN_STATE_RUNNING);
     tell("the other one hasn't", !from->units[0].locked);
     begun = answered = 0;
-    asked = (struct uas_request){ .block = 8, .count = 8, .kind = UAS_REQUEST_WRITE };
+    asked = (struct uas_asked){ .block = 8, .count = 8, .kind = UAS_REQUEST_WRITE };
     write_register(from, 0, 0, 4);
     tell("and writes nothing", answered == 1 && outcome == UAS_NOT_READY && writing == 0);
     asked.kind = 0;
@@ -426,6 +512,7 @@ int main(void)
     opens_files(path);
     refuses_units(path, other);
     has_units(path, other);
+    gives_room_back(path);
     has_a_drive();
     stands_still(path);
     is_moved(path);

@@ -31,7 +31,7 @@ typedef struct FlatView FlatView;
 typedef struct AioContext AioContext;
 typedef struct ThreadPool ThreadPool;
 typedef struct Property { const char *name; } Property;
-typedef struct BlockBackend BlockBackend;
+typedef struct BlockBackend BlockBackend, BlockDriverState;
 typedef struct BlockConf { BlockBackend *blk; } BlockConf;
 typedef struct QEMUIOVector { void *bytes; size_t size; } QEMUIOVector;
 typedef struct VMChangeStateEntry VMChangeStateEntry;
@@ -219,12 +219,13 @@ static inline bool runstate_check(RunState state) { return run_state == state; }
 static inline VMChangeStateEntry *qdev_add_vm_change_state_handler(DeviceState *device, void (*told)(void *, bool, RunState), void *opaque) { (void)device, (void)opaque; runs_told = told; return NULL; }
 static inline void qemu_del_vm_change_state_handler(VMChangeStateEntry *entry) { (void)entry; runs_told = NULL; }
 
-/* ---- A drive: blocks in memory, of which one is bad and none is written through without being told ---- */
+/* ---- A drive: blocks in memory, of which one is bad, some have no data and none is written through without being told ---- */
 
-enum { BDRV_REQ_FUA = 16, DRIVE_BYTES = 100 * 512 };
+enum { BDRV_REQ_MAY_UNMAP = 4, BDRV_REQ_FUA = 16, BDRV_BLOCK_DATA = 1, BDRV_BLOCK_ZERO = 2, DRIVE_BYTES = 100 * 512 };
 
 struct BlockBackend {
     uint8_t bytes[DRIVE_BYTES];
+    bool empty[DRIVE_BYTES / 512]; /* blocks without data */
     int64_t bad; /* its place in bytes, or -1 */
     int flushes, through, reads;
     bool only_read;
@@ -253,10 +254,36 @@ static inline void blk_aio_preadv(BlockBackend *drive, int64_t at, QEMUIOVector 
 static inline void blk_aio_pwritev(BlockBackend *drive, int64_t at, QEMUIOVector *vector, int flags, void (*done)(void *, int), void *opaque)
 {
     bool bad = is_bad(drive, at, vector->size);
-    if (!bad)
+    if (!bad) {
         memcpy(drive->bytes + at, vector->bytes, vector->size);
+        memset(drive->empty + at / 512, false, vector->size / 512);
+    }
     drive->through += flags == BDRV_REQ_FUA;
     done(opaque, bad ? -ENOSPC : 0);
+}
+
+static inline void blk_aio_pwrite_zeroes(BlockBackend *drive, int64_t at, int64_t size, int flags, void (*done)(void *, int), void *opaque)
+{
+    bool bad = is_bad(drive, at, (size_t)size);
+    if (!bad) {
+        memset(drive->bytes + at, 0, (size_t)size);
+        memset(drive->empty + at / 512, (flags & BDRV_REQ_MAY_UNMAP) != 0, (size_t)size / 512);
+    }
+    drive->through += (flags & BDRV_REQ_FUA) != 0;
+    done(opaque, bad ? -EPERM : 0);
+}
+
+static inline BlockDriverState *blk_bs(BlockBackend *drive) { return drive; }
+
+static inline int bdrv_block_status_above(BlockDriverState *drive, BlockDriverState *base, int64_t at, int64_t size, int64_t *same, int64_t *map, BlockDriverState **file)
+{
+    bool empty = drive->empty[at / 512];
+    (void)base, (void)map, (void)file;
+    if (is_bad(drive, at, (size_t)size))
+        return -EIO;
+    for (*same = 512; *same < size && drive->empty[(at + *same) / 512] == empty; *same += 512)
+        ;
+    return empty ? BDRV_BLOCK_ZERO : BDRV_BLOCK_DATA;
 }
 
 static inline void blk_aio_flush(BlockBackend *drive, void (*done)(void *, int), void *opaque)

@@ -23,6 +23,7 @@ static void null_disks(void) { uas_tasks_new_disks(NULL, 152, UAS_SET_DISK, 0, 8
 static void null_made(void) { uas_xhci_new(&unit, 1, UAS_SET_HOST, 64, 8, NULL); }
 static void null_data(void) { uas_xhci_data(xhci, 1, NULL, sizeof bytes); }
 static void null_outcome(void) { uas_tasks_tell(tasks, 1, NULL, bytes, sizeof bytes); }
+static void null_asked(void) { uas_xhci_ask(xhci, NULL); }
 static void null_answer(void) { uas_tasks_answered(tasks, 1, UAS_DONE, NULL, sizeof bytes); }
 static void null_cdb(void)
 {
@@ -139,6 +140,7 @@ static const struct mistake mistakes[] = {
     { "uas_xhci_data: bytes is a null pointer\n", null_data },
     { "uas_tasks_answered: bytes is a null pointer\n", null_answer },
     { "uas_tasks_tell: outcome is a null pointer\n", null_outcome },
+    { "uas_xhci_ask: asked is a null pointer\n", null_asked },
     { "uas_tasks_cdb_parse: cdb is a null pointer\n", null_cdb },
     { "uas_tasks_receive: tag is a null pointer\n", null_tag },
     { "uas_xhci_work: more is a null pointer\n", null_more },

@@ -151,11 +151,11 @@ static size_t given_by(unsigned unit, const uint8_t cdb[16], uint8_t *data)
     uint16_t began = 0;
     uint64_t length = 0;
     size_t given = 0;
-    struct uas_request request;
+    struct uas_asked request = { .size = sizeof request };
     bytes[9] = (uint8_t)unit;
     memcpy(bytes + 16, cdb, 16);
     AGREE(uas_tasks_receive(tasks, bytes, sizeof bytes, &began) == UAS_OK && began == 7, cdb, 16);
-    while (uas_tasks_next(tasks, 7, &phase, &length, &request) == UAS_OK && phase == UAS_GIVES) {
+    while (uas_tasks_ask(tasks, 7, &phase, &length, &request) == UAS_OK && phase == UAS_GIVES) {
         AGREE(uas_tasks_give(tasks, 7, data + given, (size_t)length) == UAS_OK, cdb, 16);
         given += (size_t)length;
     }

@@ -7,11 +7,12 @@ enum { BLOCKS = 100, ROOM = 1024 };
 
 static uas_tasks *tasks;
 static uint8_t disk[BLOCKS * UAS_BLOCK_BYTES], data[64 * UAS_BLOCK_BYTES];
+static bool is_empty[BLOCKS]; /* whose room was given back */
 static uint64_t bad = UINT64_MAX;
 
 /* What a command came to: the bytes that it gave, its status, its sense. */
 struct ended {
-    size_t given, taken, syncs;
+    size_t given, taken, syncs, discards;
     uint8_t status, sense[3];
 };
 
@@ -56,35 +57,63 @@ static void manage(uint8_t function, uint16_t tag)
     CHECK(begin_function(240, function, tag) && responds(240, UAS_RESPONSE_COMPLETE));
 }
 
-/* Does a request on the disk of this test. */
-static void work(const struct uas_request *request, struct ended *ended)
+/* Writes the data of a request, or zeros, on each of its blocks. */
+static void change(const struct uas_asked *request, uint8_t *at, struct ended *ended)
 {
-    uint8_t bytes[ROOM * 8], outcome = UAS_DONE, *at = disk + request->block * UAS_BLOCK_BYTES;
+    bool writes = request->kind == UAS_REQUEST_WRITE;
+    size_t length = (size_t)request->count * UAS_BLOCK_BYTES, one = (request->flags & UAS_ASKED_ONE) != 0 ? UAS_BLOCK_BYTES : length;
+    CHECK(request->bytes == (writes ? one : 0));
+    if (writes)
+        CHECK(uas_tasks_data(tasks, request->number, at, one) == UAS_OK);
+    else
+        memset(at, 0, length);
+    for (size_t k = one; writes && k < length; k += one)
+        memcpy(at + k, at, one);
+    memset(is_empty + request->block, request->kind == UAS_REQUEST_DISCARD, (size_t)request->count);
+    ended->discards += request->kind == UAS_REQUEST_DISCARD;
+}
+
+/* How many blocks are all mapped or all not. */
+static void look_at_map(const struct uas_asked *request, struct uas_outcome *outcome)
+{
+    outcome->flags = is_empty[request->block] ? 0 : UAS_OUTCOME_MAPPED;
+    for (outcome->count = 1; outcome->count < request->count && request->block + outcome->count < BLOCKS; outcome->count++)
+        if (is_empty[request->block + outcome->count] != is_empty[request->block])
+            break;
+}
+
+/* Does a request on the disk of this test. */
+static void work(const struct uas_asked *request, struct ended *ended)
+{
+    uint8_t bytes[ROOM * 8], *at = disk + request->block * UAS_BLOCK_BYTES;
+    struct uas_outcome outcome = { .size = sizeof outcome };
     size_t length = (size_t)request->count * UAS_BLOCK_BYTES;
     if (request->kind == UAS_REQUEST_SYNC)
         ended->syncs++;
+    else if (request->kind == UAS_REQUEST_STATUS)
+        look_at_map(request, &outcome);
     else if (bad - request->block < request->count)
-        outcome = UAS_MEDIUM_ERROR;
-    else if (request->kind == UAS_REQUEST_WRITE)
-        CHECK(uas_tasks_data(tasks, request->number, at, length) == UAS_OK);
+        outcome.what = UAS_MEDIUM_ERROR;
+    else if (request->kind == UAS_REQUEST_WRITE || request->kind == UAS_REQUEST_ZERO || request->kind == UAS_REQUEST_DISCARD)
+        change(request, at, ended);
     else if (request->kind == UAS_REQUEST_COMPARE) {
         CHECK(uas_tasks_data(tasks, request->number, bytes, length) == UAS_OK);
-        outcome = memcmp(bytes, at, length) == 0 ? UAS_DONE : UAS_DIFFERS;
+        outcome.what = memcmp(bytes, at, length) == 0 ? UAS_DONE : UAS_DIFFERS;
     }
-    bool reads = request->kind == UAS_REQUEST_READ && outcome == UAS_DONE;
-    CHECK(uas_tasks_answered(tasks, request->number, outcome, reads ? at : NULL, reads ? length : 0) == UAS_OK);
+    bool reads = request->kind == UAS_REQUEST_READ && outcome.what == UAS_DONE;
+    CHECK(uas_tasks_tell(tasks, request->number, &outcome, reads ? at : NULL, reads ? length : 0) == UAS_OK);
 }
 
 /* A command to its end; its data goes into `data`, or comes from there. */
 static struct ended run(uint8_t unit, const char *cdb)
 {
-    struct ended ended = { 0, 0, 0, 0xff, { 0, 0, 0 } };
-    struct uas_request request;
+    struct ended ended = { 0, 0, 0, 0, 0xff, { 0, 0, 0 } };
+    struct uas_asked request = { .size = sizeof request };
     uint8_t phase = UAS_ABSENT, answer[UAS_MOST_UNIT_BYTES];
     uint64_t length = 0;
     CHECK(begin(7, unit, cdb));
     for (;;) {
-        uas_tasks_next(tasks, 7, &phase, &length, &request);
+        uas_tasks_ask(tasks, 7, &phase, &length, &request);
         if (phase == UAS_ASKS)
             work(&request, &ended);
         else if (phase == UAS_GIVES) {

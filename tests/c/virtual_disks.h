@@ -42,6 +42,40 @@ static void own_commands(void)
     tells("a3 0c 01 41 00 00 00 00 01 00 00 00", "0003000a41ffffffffff00ffff04", 14);
 }
 
+/* UNMAP of blocks 8 to 15 and 32 to 39, and what is told of them; lists that have a fault; one block on many, and zeros. */
+static void gives_room_back(void)
+{
+    struct ended ended;
+    memset(disk, 7, sizeof disk);
+    memset(is_empty, false, sizeof is_empty);
+    from_hex("00 26 00 20 00 00 00 00 00 00 00 00 00 00 00 08 00 00 00 08 00 00 00 00 00 00 00 00 00 00 00 20 00 00 00 08 00 00 00 00", data, 40);
+    ended = run(0, "42 00 00 00 00 00 00 00 28 00");
+    CHECK(ended.status == UAS_GOOD && ended.taken == 40 && ended.discards == 2);
+    CHECK(is_empty[8] && is_empty[15] && is_empty[32] && is_empty[39] && !is_empty[7] && !is_empty[16] && !is_empty[31] && !is_empty[40]);
+    tells("9e 12 00 00 00 00 00 00 00 08 00 00 00 18 00 00", "00000014000000000000000000000008" "0000000801", 24);
+    tells("9e 12 00 00 00 00 00 00 00 10 00 00 00 18 00 00", "00000014000000000000000000000010" "00000010", 24);
+    tells("9e 12 00 00 00 00 00 00 00 10 00 00 00 00 00 00", "", 0);
+    /* the second descriptor isn't whole; it ends above the end, so that nothing is done; too many blocks in all */
+    from_hex("00 26 00 1f 00 00 00 00 00 00 00 00 00 00 00 30 00 00 00 08 00 00 00 00 00 00 00 00 00 00 00 40 00 00 00 08 00 00 00 00", data, 40);
+    ended = run(0, "42 00 00 00 00 00 00 00 28 00");
+    CHECK(ended.status == UAS_GOOD && ended.discards == 1 && is_empty[48] && !is_empty[64]);
+    from_hex("00 26 00 20 00 00 00 00 00 00 00 00 00 00 00 50 00 00 00 08 00 00 00 00 00 00 00 00 00 00 ff ff 00 00 00 02 00 00 00 00", data, 40);
+    is_refused(0, "42 00 00 00 00 00 00 00 28 00", 5, 0x21, 0);
+    CHECK(!is_empty[80]);
+    from_hex("00 26 00 20 00 00 00 00 00 00 00 00 00 00 00 50 00 00 00 08 00 00 00 00 00 00 00 00 00 00 00 00 00 0f ff f9 00 00 00 00", data, 40);
+    is_refused(0, "42 00 00 00 00 00 00 00 28 00", 5, 0x26, 0);
+    /* bytes on three blocks, zeros on two of them and no block on one */
+    memset(data, 5, UAS_BLOCK_BYTES);
+    ended = run(0, "41 00 00 00 00 09 00 00 03 00");
+    CHECK(ended.status == UAS_GOOD && ended.taken == 512 && ended.discards == 0 && !is_empty[9] && !is_empty[11] && is_empty[12]);
+    CHECK(disk[9 * UAS_BLOCK_BYTES] == 5 && disk[12 * UAS_BLOCK_BYTES - 1] == 5 && disk[12 * UAS_BLOCK_BYTES] == 0);
+    memset(data, 0, UAS_BLOCK_BYTES);
+    ended = run(0, "41 08 00 00 00 09 00 00 02 00");
+    CHECK(ended.status == UAS_GOOD && ended.taken == 512 && ended.discards == 1 && is_empty[9] && is_empty[10] && !is_empty[11]);
+    ended = run(0, "93 01 00 00 00 00 00 00 00 0b 00 00 00 01 00 00");
+    CHECK(ended.status == UAS_GOOD && ended.taken == 0 && ended.discards == 0 && disk[11 * UAS_BLOCK_BYTES] == 0 && !is_empty[11]);
+}
+
 /* A thin one: what it tells, and fields of UNMAP, WRITE SAME and GET LBA STATUS. */
 static void thin_disk(void)
 {
@@ -66,6 +100,7 @@ static void thin_disk(void)
     is_refused(0, "93 01 00 00 00 00 00 00 ff ff 00 00 00 02 00 00", 5, 0x21, 0);
     is_refused(0, "41 01 00 00 00 05 00 00 01 00", 5, 0x24, 0);
     is_refused(0, "9e 12 00 00 00 00 00 01 00 00 00 00 00 18 00 00", 5, 0x21, 0);
+    gives_room_back();
     disk.flags = UAS_DISK_THIN | UAS_DISK_READ_ONLY;
     uas_tasks_free(tasks);
     CHECK(uas_tasks_new_disks(&disk, disk.size, UAS_SET_DISK, 0, 128, &tasks) == UAS_OK);
@@ -93,15 +128,16 @@ static void written_and_verified(void)
 /* The WRITE of a tag asks for a request that goes through, and is done. */
 static bool takes_through(uint16_t tag)
 {
-    struct uas_request request;
+    struct uas_asked request = { .size = sizeof request };
+    const struct uas_outcome done = { .size = sizeof done };
     uint8_t phase = UAS_ABSENT;
     uint64_t length = 0;
-    uas_tasks_next(tasks, tag, &phase, &length, &request);
+    uas_tasks_ask(tasks, tag, &phase, &length, &request);
     if (phase != UAS_TAKES || uas_tasks_take(tasks, tag, data, (size_t)length) != UAS_OK)
         return false;
-    uas_tasks_next(tasks, tag, &phase, &length, &request);
-    return phase == UAS_ASKS && request.kind == UAS_REQUEST_WRITE && request.through &&
-           uas_tasks_answered(tasks, request.number, UAS_DONE, NULL, 0) == UAS_OK;
+    uas_tasks_ask(tasks, tag, &phase, &length, &request);
+    return phase == UAS_ASKS && request.kind == UAS_REQUEST_WRITE && request.flags == UAS_ASKED_THROUGH &&
+           uas_tasks_tell(tasks, request.number, &done, NULL, 0) == UAS_OK;
 }
 
 static void virtual_disks(void)

@@ -69,7 +69,7 @@ static void take_requests(void)
         AGREE(uas_xhci_next_request(xhci, &request));
         second_tasks_ask(&second.device, tag, request.number);
         AGREE(request.unit == slot->request.unit && request.block == slot->request.block && request.count == slot->request.count);
-        AGREE(request.kind == slot->request.kind && request.through == slot->request.through);
+        AGREE(request.kind == slot->request.kind && request.through == (slot->request.flags != 0));
         if (request.kind == UAS_REQUEST_WRITE || request.kind == UAS_REQUEST_COMPARE) {
             static uint8_t bytes[SECOND_MOST_CHUNK * 4096];
             AGREE(uas_xhci_data(xhci, request.number, bytes, slot->length) == UAS_OK);
@@ -113,7 +113,7 @@ static void answer(void)
         bytes[i] = (uint8_t)(word >> i % 8 * 8) ^ (uint8_t)(i / 8);
     outs[which] = outs[--out_count];
     AGREE(uas_xhci_answered(xhci, slot->number, outcome, bytes, length) == UAS_OK);
-    AGREE(second_tasks_answer(&second.device, tag, outcome, bytes, length) == UAS_OK);
+    AGREE(second_tasks_answer(&second.device, tag, &(struct uas_outcome){ .what = outcome }, bytes, length) == UAS_OK);
     answers++;
 }
 

@@ -11,7 +11,7 @@ enum { CALLS = 20000, KINDS = 9 };
 static uas_tasks *tasks;
 static struct second_tasks model;
 static uint64_t state;
-static unsigned long number_of_call, phases[6], outcomes[4], answers[6], kinds[6], dropped, faults[256], senses, held, told;
+static unsigned long number_of_call, phases[6], outcomes[8], answers[6], kinds[10], ones, dropped, faults[256], senses, held, told;
 
 static uint64_t drawn(void)
 {
@@ -36,6 +36,20 @@ static void agree(bool good, const char *what, int line)
 
 #define AGREE(good) agree((good), #good, __LINE__)
 
+/* A device of virtual disks: each is thin or not, read only or not, written through or not. */
+static void make_disks(void)
+{
+    struct uas_disk disks[SECOND_TASK_UNITS];
+    for (uint32_t i = 0; i < model.units; i++) {
+        model.thin[i] = below(3) != 0;
+        model.read_only[i] = below(5) == 0;
+        model.through[i] = below(4) == 0;
+        disks[i] = (struct uas_disk){ .size = sizeof disks[i], .blocks = model.unit[i].blocks, .block_bytes = model.unit[i].block_bytes, .most = model.most };
+        disks[i].flags = (model.thin[i] ? UAS_DISK_THIN : 0) | (model.read_only[i] ? UAS_DISK_READ_ONLY : 0) | (model.through[i] ? UAS_DISK_WRITE_THROUGH : 0);
+    }
+    AGREE(uas_tasks_new_disks(disks, model.units * sizeof disks[0], UAS_SET_DISK, 0, model.blocks, &tasks) == UAS_OK);
+}
+
 static void renew(void)
 {
     static const uint64_t blocks[] = { 1, 200, 3000, 1ull << 32, (1ull << 32) + 1, 1ull << 48 };
@@ -44,10 +58,13 @@ static void renew(void)
     model.units = 1 + below(SECOND_TASK_UNITS);
     for (uint32_t i = 0; i < model.units; i++)
         model.unit[i] = (struct uas_tasks_unit){ blocks[below(6)], i, below(3) ? UAS_BLOCK_BYTES : 4096 };
-    model.set = (uint8_t)below(4) != 0;
-    model.most = model.set == UAS_SET_HOST ? (uint16_t)(8 + 8 * below(20)) : 128;
+    model.set = below(4) == 0 ? UAS_SET_PROFILE : below(3) == 0 ? UAS_SET_HOST : UAS_SET_DISK;
+    model.most = model.set != UAS_SET_PROFILE ? (uint16_t)(8 + 8 * below(20)) : 128;
     model.blocks = (uint16_t)(1 + below(SECOND_MOST_CHUNK));
-    AGREE(uas_tasks_new(model.unit, model.units, model.set, model.set == UAS_SET_HOST ? model.most : 0, model.blocks, &tasks) == UAS_OK);
+    if (model.set == UAS_SET_DISK)
+        make_disks();
+    else
+        AGREE(uas_tasks_new(model.unit, model.units, model.set, model.set == UAS_SET_HOST ? model.most : 0, model.blocks, &tasks) == UAS_OK);
 }
 
 /* ---- Information units ---- */
@@ -55,7 +72,8 @@ static void renew(void)
 /* A CDB of a command that the second implementation knows, or that neither does. */
 static void draw_cdb(uint8_t cdb[16])
 {
-    static const uint8_t codes[] = { 0x00, 0x03, 0x08, 0x0a, 0x12, 0x1b, 0x25, 0x28, 0x28, 0x2a, 0x2a, 0x2f, 0x35, 0x88, 0x8a, 0x8f, 0x91, 0x9e, 0xa0, 0xa8, 0xaa, 0xaf, 0x01, 0x42, 0xff };
+    static const uint8_t codes[] = { 0x00, 0x03, 0x08, 0x0a, 0x12, 0x1b, 0x25, 0x28, 0x28, 0x2a, 0x2a, 0x2f, 0x35, 0x88, 0x8a, 0x8f, 0x91, 0x9e, 0xa0, 0xa8, 0xaa, 0xaf, 0x01, 0xff,
+        0x1d, 0x2e, 0x34, 0x41, 0x41, 0x42, 0x42, 0x42, 0x8e, 0x90, 0x93, 0x93, 0xae };
     uint64_t blocks = model.unit[below((uint32_t)model.units)].blocks;
     uint32_t count = below(8) ? below(20) : below(200);
     uint64_t block = below(8) == 0 ? drawn() << below(48) : below(2) ? below(100) : blocks - below(40);
@@ -82,12 +100,24 @@ static void draw_cdb(uint8_t cdb[16])
         put_big(count, cdb + 7, 2);
     }
     if (cdb[0] == 0x9e)
-        cdb[1] = below(5) ? 0x10 : (uint8_t)drawn();
+        cdb[1] = below(5) ? 0x10 + 2 * (uint8_t)below(2) : (uint8_t)drawn();
+    if (cdb[0] == 0x41 || cdb[0] == 0x93)
+        cdb[1] = below(8) ? (uint8_t)(below(2) * 8 + (cdb[0] == 0x93 && below(3) == 0)) : (uint8_t)drawn();
+    if (cdb[0] == 0x93 && below(20) == 0)
+        put_big(65520 + below(20), cdb + 10, 4);
+    if (cdb[0] == 0x42) {
+        cdb[1] = below(10) == 0;
+        put_big(below(6) ? 8 + 16 * below(6) : below(540), cdb + 7, 2);
+    }
+    if (cdb[0] == 0x1d)
+        memset(cdb + 1, 0, 15), cdb[1] = below(4) ? 4 : (uint8_t)drawn(), cdb[4] = below(8) == 0;
+    if (below(30) == 0)
+        cdb[5 + 2 * below(6)] |= 4;
     if (cdb[0] == 0x12) {
-        cdb[1] = model.set == UAS_SET_HOST || below(4) ? 0 : 1;
+        cdb[1] = model.set != UAS_SET_PROFILE || below(4) ? 0 : 1;
         cdb[2] = below(6) == 0;
         cdb[3] = 0;
-        cdb[4] = (uint8_t)below(50);
+        cdb[4] = (uint8_t)below(110);
     }
     if (cdb[0] == 0x03)
         cdb[1] = below(6) == 0;
@@ -132,6 +162,27 @@ static void draw_bytes(size_t length)
         bytes[i] = (uint8_t)(word >> i % 8 * 8) ^ (uint8_t)(i / 8);
 }
 
+/* The next bytes of a list, whose ranges are mostly on the logical unit and at times of no blocks. */
+static void draw_list(const struct second_slot *slot, size_t length)
+{
+    uint8_t list[544] = { 0 };
+    uint64_t blocks = model.unit[slot->unit].blocks;
+    memcpy(list, slot->chunk, slot->moved);
+    if (slot->moved == 0)
+        put_big(below(4) ? (uint32_t)slot->list : below(600), list + 2, 2);
+    for (size_t at = 8; at + 16 <= sizeof list; at += 16) {
+        uint32_t count = below(4) ? below(blocks < 50 ? (uint32_t)blocks + 1 : 50) : 0;
+        uint64_t block = below(40) ? drawn() % (blocks - count + 1) : drawn() << below(17);
+        count = below(60) ? count : below(3) * 600000;
+        if (at >= slot->moved) {
+            put_big((uint32_t)(block >> 32), list + at, 4);
+            put_big((uint32_t)block, list + at + 4, 4);
+            put_big(count, list + at + 8, 4);
+        }
+    }
+    memcpy(bytes, list + slot->moved, length);
+}
+
 static uint16_t draw_tag(void)
 {
     return (uint16_t)(below(100) ? 1 + below(12) : below(300));
@@ -154,6 +205,10 @@ static void move(bool give)
         const uint8_t *wanted = fault != UAS_OK ? seen : slot->stage == GIVING ? slot->data + slot->moved : slot->chunk + slot->moved;
         AGREE(memcmp(bytes, wanted, length) == 0);
     } else {
+        if (fault == UAS_OK && slot->course == LIST)
+            draw_list(slot, length);
+        else if (fault == UAS_OK && slot->course == SAME && below(3))
+            memset(bytes, below(20) == 0, length);
         AGREE(uas_tasks_take(tasks, tag, bytes, length) == fault);
         if (fault == UAS_OK)
             memcpy(slot->chunk + slot->moved, bytes, length);
@@ -168,10 +223,16 @@ static void move(bool give)
 static void next(void)
 {
     uint16_t tag = draw_tag();
-    struct uas_request request = { 0, 0, 0, 0, 0, false };
+    struct uas_asked request = { .size = sizeof request };
+    struct uas_request known = { 0, 0, 0, 0, 0, false };
     uint64_t length = 0, wanted;
     uint8_t phase = 0xff, wants = second_tasks_phase(&model, tag, &wanted);
-    AGREE(uas_tasks_next(tasks, tag, &phase, &length, &request) == UAS_OK && phase == wants);
+    bool asks = model.set == UAS_SET_DISK || below(2);
+    if (model.set == UAS_SET_DISK)
+        AGREE(uas_tasks_next(tasks, tag, &phase, &length, &known) == UAS_TASKS_SET && phase == 0xff);
+    AGREE((asks ? uas_tasks_ask(tasks, tag, &phase, &length, &request) : uas_tasks_next(tasks, tag, &phase, &length, &known)) == UAS_OK && phase == wants);
+    if (!asks)
+        request.number = known.number;
     phases[phase]++;
     held += model.slots[tag <= UAS_GREATEST_TAG ? tag : 0].stage == HELD && phase == UAS_WAITS;
     if (phase == UAS_GIVES || phase == UAS_TAKES)
@@ -181,10 +242,12 @@ static void next(void)
     for (uint16_t other = 1; other <= UAS_GREATEST_TAG; other++)
         AGREE(!model.slots[other].out || model.slots[other].number != request.number);
     second_tasks_ask(&model, tag, request.number);
-    const struct uas_request *asked = &model.slots[tag].request;
-    AGREE(request.unit == asked->unit && request.block == asked->block && request.count == asked->count);
-    AGREE(request.kind == asked->kind && request.through == asked->through);
-    kinds[request.kind]++;
+    const struct uas_asked *asked = &model.slots[tag].request;
+    AGREE(!asks || memcmp(&request, asked, sizeof request) == 0);
+    AGREE(asks || (known.unit == asked->unit && known.block == asked->block && known.count == asked->count));
+    AGREE(asks || (known.kind == asked->kind && known.through == (asked->flags != 0)));
+    kinds[asked->kind]++;
+    ones += (asked->flags & UAS_ASKED_ONE) != 0;
 }
 
 /* A tag whose request is out, or 0; at times the first of all. */
@@ -214,7 +277,8 @@ static void answer(void)
 {
     uint16_t tag = out();
     struct second_slot *slot = &model.slots[tag];
-    uint8_t outcome = below(10) ? UAS_DONE : (uint8_t)(below(40) ? below(4) : 4 + below(below(2) ? 4 : 252));
+    struct uas_outcome outcome = { .size = sizeof outcome, .what = below(10) ? UAS_DONE : (uint8_t)(below(40) ? below(model.set == UAS_SET_DISK ? 8 : 4) : 4 + below(below(2) ? 4 : 252)) };
+    bool tells = model.set == UAS_SET_DISK || below(2);
     uint64_t number = tag != 0 ? slot->number : below(3) ? slot->number + 256 * below(3) : drawn();
     size_t length = tag != 0 && below(50) ? slot->length : below(100);
     bool is_out = false;
@@ -226,14 +290,19 @@ static void answer(void)
         }
     }
     draw_bytes(length);
-    dropped += is_out && outcome < 4 && slot->stage != WAITING;
-    uint8_t fault = outcome > UAS_BUSY ? UAS_TASKS_CALL : !is_out ? UAS_TASKS_NOT_OUT : UAS_TASKS_CALL;
-    if (is_out && outcome <= UAS_NOT_READY)
-        fault = second_tasks_answer(&model, tag, outcome, bytes, length);
-    AGREE(uas_tasks_answered(tasks, number, outcome, bytes, length) == fault);
+    if (tells && (is_out && slot->request.kind == UAS_REQUEST_STATUS ? below(20) : !below(100))) {
+        outcome.count = below(10) ? 1 + drawn() % (is_out ? slot->request.count : 9) : drawn();
+        outcome.flags = below(2) ? UAS_OUTCOME_MAPPED : 0;
+    }
+    if (model.set == UAS_SET_DISK)
+        AGREE(uas_tasks_answered(tasks, number, outcome.what, bytes, length) == UAS_TASKS_SET);
+    bool gone = is_out && slot->stage != WAITING;
+    uint8_t fault = outcome.what > UAS_BUSY ? UAS_TASKS_CALL : !is_out ? UAS_TASKS_NOT_OUT : second_tasks_answer(&model, tag, &outcome, bytes, length);
+    AGREE((tells ? uas_tasks_tell(tasks, number, &outcome, bytes, length) : uas_tasks_answered(tasks, number, outcome.what, bytes, length)) == fault);
     faults[fault]++;
+    dropped += gone && fault == UAS_OK;
     if (fault == UAS_OK)
-        outcomes[outcome]++;
+        outcomes[outcome.what]++;
 }
 
 static void look_at_data(void)
@@ -323,12 +392,12 @@ int main(int count_of, char **words)
         call();
     }
     uas_tasks_free(tasks);
-    static const uint8_t met[] = { UAS_TASKS_CALL, UAS_TASKS_OVERLAP, UAS_TASKS_PHASE, UAS_TASKS_LENGTH, UAS_TASKS_NOT_OUT };
+    static const uint8_t met[] = { UAS_TASKS_CALL, UAS_TASKS_OVERLAP, UAS_TASKS_PHASE, UAS_TASKS_LENGTH, UAS_TASKS_NOT_OUT, UAS_TASKS_PLACE };
     for (size_t i = 0; count >= 100000 && i < sizeof met; i++)
         AGREE(faults[met[i]] > 0);
-    AGREE(count < 100000 || (held > 0 && told > 0));
-    printf("%lu calls: asked %lu READ, %lu WRITE, %lu COMPARE, %lu VERIFY, %lu SYNC; answered %lu done, %lu differ, %lu medium error, %lu not ready, "
+    AGREE(count < 100000 || (held > 0 && told > 0 && ones > 0 && kinds[UAS_REQUEST_ZERO] > 0 && kinds[UAS_REQUEST_DISCARD] > 0 && kinds[UAS_REQUEST_STATUS] > 0));
+    printf("%lu calls: asked %lu READ, %lu WRITE, %lu of one block on many, %lu COMPARE, %lu VERIFY, %lu SYNC, %lu ZERO, %lu DISCARD, %lu STATUS; answered %lu done, %lu differ, %lu medium error, %lu not ready, "
            "%lu of them dropped; %lu told as stale, %lu Responses held; %lu statuses, %lu of them with sense data, %lu responses\n",
-           count, kinds[1], kinds[2], kinds[3], kinds[4], kinds[5], outcomes[0], outcomes[1], outcomes[2], outcomes[3], dropped, told, held, answers[UAS_UNIT_SENSE], senses,
+           count, kinds[1], kinds[2], ones, kinds[3], kinds[4], kinds[5], kinds[6], kinds[7], kinds[9], outcomes[0], outcomes[1], outcomes[2], outcomes[3], dropped, told, held, answers[UAS_UNIT_SENSE], senses,
            answers[UAS_UNIT_RESPONSE]);
 }

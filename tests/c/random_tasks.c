@@ -73,7 +73,7 @@ static void renew(void)
 static void draw_cdb(uint8_t cdb[16])
 {
     static const uint8_t codes[] = { 0x00, 0x03, 0x08, 0x0a, 0x12, 0x1b, 0x25, 0x28, 0x28, 0x2a, 0x2a, 0x2f, 0x35, 0x88, 0x8a, 0x8f, 0x91, 0x9e, 0xa0, 0xa8, 0xaa, 0xaf, 0x01, 0xff,
-        0x1d, 0x2e, 0x34, 0x41, 0x41, 0x42, 0x42, 0x42, 0x8e, 0x90, 0x93, 0x93, 0xae };
+        0x1d, 0x2e, 0x34, 0x41, 0x41, 0x42, 0x42, 0x42, 0x8e, 0x90, 0x93, 0x93, 0x9e, 0x9e, 0xae };
     uint64_t blocks = model.unit[below((uint32_t)model.units)].blocks;
     uint32_t count = below(8) ? below(20) : below(200);
     uint64_t block = below(8) == 0 ? drawn() << below(48) : below(2) ? below(100) : blocks - below(40);
@@ -291,7 +291,7 @@ static void answer(void)
     }
     draw_bytes(length);
     if (tells && (is_out && slot->request.kind == UAS_REQUEST_STATUS ? below(20) : !below(100))) {
-        outcome.count = below(10) ? 1 + drawn() % (is_out ? slot->request.count : 9) : drawn();
+        outcome.count = below(3) ? 1 + drawn() % (is_out ? slot->request.count : 9) : drawn();
         outcome.flags = below(2) ? UAS_OUTCOME_MAPPED : 0;
     }
     if (model.set == UAS_SET_DISK)

@@ -152,9 +152,9 @@ enum uas_fault {
     UAS_TASKS_NOT_OUT = 148,     /* no request of this number is out */
     UAS_TASKS_BLOCK_BYTES = 149, /* blocks of neither 512 nor 4,096 bytes */
     UAS_TASKS_SERIAL = 150,      /* a serial number of more than eight digits */
-    UAS_TASKS_SET = 151,         /* no such command set, or no maximum transfer length */
+    UAS_TASKS_SET = 151,         /* no such command set, no maximum transfer length, or a call that isn't for UAS_SET_DISK */
     UAS_TASKS_CHUNK = 152,       /* a chunk of no blocks, or of more than 128 */
-    UAS_TASKS_SIZE = 153,        /* a struct uas_disk of fewer than 16 bytes, or with unknown ones that aren't 0 */
+    UAS_TASKS_SIZE = 153,        /* a struct uas_disk of fewer than 16 bytes, or with unknown ones that aren't 0; another record of the wrong size */
     UAS_TASKS_DISK = 154,        /* another field of one that can't be told, or isn't served */
     UAS_TASKS_PLACE = 155,       /* a block or a byte that isn't one of the request's */
     /* the controller over a caller's memory (uas_xhci.h) */

@@ -62,14 +62,13 @@ static void take_requests(void)
 {
     for (uint16_t tag = 1; tag <= UAS_GREATEST_TAG; tag++) {
         struct second_slot *slot = &second.device.slots[tag];
-        struct uas_request request;
+        struct uas_asked request = { .size = sizeof request };
         uint64_t left;
         if (second_tasks_phase(&second.device, tag, &left) != UAS_ASKS)
             continue;
-        AGREE(uas_xhci_next_request(xhci, &request));
+        AGREE(uas_xhci_ask(xhci, &request) == UAS_OK);
         second_tasks_ask(&second.device, tag, request.number);
-        AGREE(request.unit == slot->request.unit && request.block == slot->request.block && request.count == slot->request.count);
-        AGREE(request.kind == slot->request.kind && request.through == (slot->request.flags != 0));
+        AGREE(memcmp(&request, &slot->request, sizeof request) == 0);
         if (request.kind == UAS_REQUEST_WRITE || request.kind == UAS_REQUEST_COMPARE) {
             static uint8_t bytes[SECOND_MOST_CHUNK * 4096];
             AGREE(uas_xhci_data(xhci, request.number, bytes, slot->length) == UAS_OK);

@@ -89,25 +89,55 @@ static void refused_work(void)
 }
 
 /* Requests that are out, and answers, of which some name nothing or are of a wrong length. */
-static struct uas_request out[64];
+static struct uas_asked out[64];
 static uint32_t outs;
+static bool is_disk; /* of the disk set, whose requests uas_xhci_ask alone tells */
+
+static bool is_writing(uint8_t kind)
+{
+    return kind == UAS_REQUEST_WRITE || kind == UAS_REQUEST_SYNC || kind == UAS_REQUEST_ZERO || kind == UAS_REQUEST_DISCARD;
+}
+
+static bool next(struct uas_asked *asked)
+{
+    struct uas_request known;
+    asked->size = sizeof *asked;
+    check(!is_disk || !uas_xhci_next_request(xhci, &known), "who doesn't know the requests of the disk set was told of one");
+    check(uas_xhci_ask(xhci, asked) == UAS_OK, "a record was refused");
+    return asked->number != 0;
+}
+
+static void look_at(const struct uas_asked *asked)
+{
+    bool one = (asked->flags & UAS_ASKED_ONE) != 0, moves = asked->kind < UAS_REQUEST_VERIFY;
+    check(asked->kind >= UAS_REQUEST_READ && (asked->kind <= UAS_REQUEST_SYNC || (is_disk && asked->kind <= UAS_REQUEST_STATUS && asked->kind != 8)), "a request of no kind");
+    check(asked->flags == 0 || (is_writing(asked->kind) && asked->flags <= 3), "a request of no flags");
+    check(!one || (is_disk && asked->kind == UAS_REQUEST_WRITE), "one block for what doesn't write");
+    check(!moves || one || (asked->count >= 1 && asked->count <= 8), "a request of more than a chunk");
+    check(asked->bytes == (moves ? one ? 512 : asked->count * 512 : 0), "a request of other bytes");
+    check(asked->block <= 64 && (asked->kind == UAS_REQUEST_SYNC || asked->count <= 64 - asked->block), "a request beyond the disk");
+    check(asked->tag == asked->number % 256 && asked->tag >= 1 && asked->tag <= UAS_GREATEST_TAG, "a request of no tag");
+}
 
 static void answer(void)
 {
     static uint8_t bytes[9 * 512];
-    while (outs < 64 && uas_xhci_next_request(xhci, &out[outs])) {
-        check(out[outs].kind >= UAS_REQUEST_READ && out[outs].kind <= UAS_REQUEST_SYNC, "a request of no kind");
-        check(out[outs].kind >= UAS_REQUEST_VERIFY || (out[outs].count >= 1 && out[outs].count <= 8), "a request of more than a chunk");
-        check(out[outs].block <= 64 && (out[outs].kind == UAS_REQUEST_SYNC || out[outs].count <= 64 - out[outs].block), "a request beyond the disk");
+    while (outs < 64 && next(&out[outs])) {
+        look_at(&out[outs]);
         outs++;
         requests++;
     }
     if (outs == 0 || draw(3) == 0)
         return;
     uint32_t which = draw(outs);
-    struct uas_request request = out[which];
-    size_t length = (size_t)request.count * 512;
-    uint8_t outcome = draw(8) ? UAS_DONE : (uint8_t)draw(6);
+    struct uas_asked request = out[which];
+    size_t length = (size_t)request.bytes;
+    struct uas_outcome outcome = { .size = sizeof outcome, .what = draw(8) ? UAS_DONE : (uint8_t)draw(6) };
+    bool known = outcome.what <= UAS_NOT_READY || (is_disk && is_writing(request.kind));
+    if (request.kind == UAS_REQUEST_STATUS) {
+        outcome.flags = draw(2) ? UAS_OUTCOME_MAPPED : 0;
+        outcome.count = 1 + draw((uint32_t)request.count);
+    }
     bool has_bytes = request.kind == UAS_REQUEST_WRITE || request.kind == UAS_REQUEST_COMPARE, reads = request.kind == UAS_REQUEST_READ;
     if (has_bytes) {
         uint8_t fault = uas_xhci_data(xhci, request.number, bytes, length);
@@ -117,8 +147,9 @@ static void answer(void)
         uint8_t fault = uas_xhci_answered(xhci, request.number + 1000, UAS_DONE, bytes, 0);
         check(fault == UAS_TASKS_NOT_OUT, "a request that isn't out was answered");
     }
-    uint8_t fault = uas_xhci_answered(xhci, request.number, outcome, bytes, reads && outcome == UAS_DONE ? length : 0);
-    check(fault == (outcome > UAS_NOT_READY ? UAS_TASKS_CALL : UAS_OK), "an answer was refused");
+    length = reads && outcome.what == UAS_DONE ? length : 0;
+    uint8_t fault = is_disk ? uas_xhci_tell(xhci, request.number, &outcome, bytes, length) : uas_xhci_answered(xhci, request.number, outcome.what, bytes, length);
+    check(fault == (known ? UAS_OK : UAS_TASKS_CALL), "an answer was refused");
     if (fault == UAS_OK)
         out[which] = out[--outs];
     moves++;
@@ -174,10 +205,13 @@ int main(int words, char **word)
     make_pages();
     for (uint64_t driver = 0; driver < drivers; driver++) {
         const struct uas_tasks_unit unit = { 64, 1, UAS_BLOCK_BYTES };
+        const struct uas_disk disk = { .size = sizeof disk, .blocks = 64, .flags = UAS_DISK_THIN };
         state = (seed << 32 | driver) * 0x9e3779b97f4a7c15;
         lend();
         outs = 0;
-        check(uas_xhci_new(&unit, 1, draw(2) ? UAS_SET_HOST : UAS_SET_PROFILE, 64, 8, &xhci) == UAS_OK, "no controller");
+        is_disk = draw(2) == 0;
+        check((is_disk ? uas_xhci_new_disks(&disk, sizeof disk, UAS_SET_DISK, 0, 8, &xhci)
+                       : uas_xhci_new(&unit, 1, draw(2) ? UAS_SET_HOST : UAS_SET_PROFILE, 64, 8, &xhci)) == UAS_OK, "no controller");
         for (uint32_t i = 0; i < BYTES && draw(2) == 0; i++)
             *homes[i] = (uint8_t)(any() & any());
         if (draw(8))

@@ -205,9 +205,9 @@ static void move(bool give)
         const uint8_t *wanted = fault != UAS_OK ? seen : slot->stage == GIVING ? slot->data + slot->moved : slot->chunk + slot->moved;
         AGREE(memcmp(bytes, wanted, length) == 0);
     } else {
-        if (fault == UAS_OK && slot->course == LIST)
+        if (fault == UAS_OK && slot->course == BY_LIST)
             draw_list(slot, length);
-        else if (fault == UAS_OK && slot->course == SAME && below(3))
+        else if (fault == UAS_OK && slot->course == ONE_FOR_ALL && below(3))
             memset(bytes, below(20) == 0, length);
         AGREE(uas_tasks_take(tasks, tag, bytes, length) == fault);
         if (fault == UAS_OK)

@@ -14,14 +14,14 @@ enum second_stage { NO_TASK, GIVING, ASKING, WAITING, MOVING, ENDED, HELD };
 
 /* How a command on blocks goes: chunk by chunk; so, and each chunk is checked once it is written; one block for all; a list of ranges; all at once;
  * or it is asked which blocks are mapped. */
-enum second_course { CHUNKS, CHECKED, SAME, LIST, WHOLE, LOOKED };
+enum second_course { IN_CHUNKS, CHECKED_CHUNKS, ONE_FOR_ALL, BY_LIST, AT_ONCE, LOOKS };
 
 struct second_slot {
     enum second_stage stage;
     enum second_course course;
-    uint8_t check;       /* of CHECKED: UAS_REQUEST_VERIFY or UAS_REQUEST_COMPARE */
-    bool unmaps;         /* of SAME */
-    size_t list, range;  /* of LIST: its bytes, and at which of its ranges it is */
+    uint8_t check;       /* of CHECKED_CHUNKS: UAS_REQUEST_VERIFY or UAS_REQUEST_COMPARE */
+    bool unmaps;         /* of ONE_FOR_ALL */
+    size_t list, range;  /* of BY_LIST: its bytes, and at which of its ranges it is */
     int unit;            /* of a command to a logical unit that is there, else -1 */
     int held;            /* of HELD: the logical unit */
     uint8_t kind;        /* of its requests: UAS_REQUEST_... */
@@ -29,7 +29,7 @@ struct second_slot {
     uint64_t lba, count, done; /* in blocks */
     size_t moved, given;       /* of the chunk, or of the device's data */
     uint8_t data[96];
-    uint64_t allocation; /* of LOOKED */
+    uint64_t allocation; /* of LOOKS */
     struct uas_unit answer;
     bool out;            /* a request is out, of this task or of one that is gone */
     uint64_t number;     /* that the library gave it */
@@ -95,14 +95,14 @@ static inline uint64_t chunk_of(const struct second_tasks *device, const struct 
 /* How many bytes of it move. */
 static inline size_t chunk_bytes(const struct second_tasks *device, const struct second_slot *slot)
 {
-    return slot->course == LIST ? slot->list : (size_t)(slot->course == SAME ? 1 : chunk_of(device, slot)) * block_bytes(device, slot);
+    return slot->course == BY_LIST ? slot->list : (size_t)(slot->course == ONE_FOR_ALL ? 1 : chunk_of(device, slot)) * block_bytes(device, slot);
 }
 
 static inline void begin_chunk(struct second_slot *slot)
 {
-    if (slot->course == CHECKED)
+    if (slot->course == CHECKED_CHUNKS)
         slot->kind = UAS_REQUEST_WRITE;
-    bool takes = slot->course == LIST || slot->kind == UAS_REQUEST_WRITE || slot->kind == UAS_REQUEST_COMPARE;
+    bool takes = slot->course == BY_LIST || slot->kind == UAS_REQUEST_WRITE || slot->kind == UAS_REQUEST_COMPARE;
     slot->stage = takes ? MOVING : ASKING;
     slot->moved = 0;
 }
@@ -221,7 +221,7 @@ static inline uint32_t unmap_command(const struct second_tasks *device, struct s
         return 0x072700;
     if (slot->list > 0 && slot->list < 8)
         return 0x051a00;
-    slot->course = LIST;
+    slot->course = BY_LIST;
     slot->kind = UAS_REQUEST_DISCARD;
     slot->through = device->through[slot->unit];
     slot->count = slot->list > 0;
@@ -241,7 +241,7 @@ static inline uint32_t same_command(const struct second_tasks *device, struct se
     if (slot->lba >= blocks || slot->count > blocks - slot->lba)
         return 0x052100;
     slot->unmaps = (cdb[1] & 8) != 0;
-    slot->course = none ? WHOLE : SAME;
+    slot->course = none ? AT_ONCE : ONE_FOR_ALL;
     slot->kind = !none ? UAS_REQUEST_WRITE : slot->unmaps ? UAS_REQUEST_DISCARD : UAS_REQUEST_ZERO;
     slot->through = device->through[slot->unit];
     return 0;
@@ -253,7 +253,7 @@ static inline uint32_t status_command(struct second_slot *slot, const uint8_t *c
     slot->allocation = big(cdb + 10, 4);
     if (slot->lba >= blocks)
         return 0x052100;
-    slot->course = LOOKED;
+    slot->course = LOOKS;
     slot->kind = UAS_REQUEST_STATUS;
     slot->count = slot->allocation == 0 ? 0 : blocks - slot->lba < UINT32_MAX ? blocks - slot->lba : UINT32_MAX;
     return 0;
@@ -263,7 +263,7 @@ static inline uint32_t status_command(struct second_slot *slot, const uint8_t *c
 static inline uint32_t block_command(const struct second_tasks *device, struct second_slot *slot, const uint8_t *cdb, uint64_t blocks)
 {
     bool compares = false, limited = false, fetches = false, disk = device->set == UAS_SET_DISK;
-    slot->course = CHUNKS;
+    slot->course = IN_CHUNKS;
     switch (cdb[0] & 0x1f) { /* the command; the group tells its length */
     case 0x08:
         slot->kind = UAS_REQUEST_READ;
@@ -283,7 +283,7 @@ static inline uint32_t block_command(const struct second_tasks *device, struct s
     case 0x0e: /* WRITE AND VERIFY */
         if ((cdb[1] >> 1 & 3) > 1)
             return 0x052400;
-        slot->course = CHECKED;
+        slot->course = CHECKED_CHUNKS;
         slot->check = cdb[1] >> 1 & 1 ? UAS_REQUEST_COMPARE : UAS_REQUEST_VERIFY;
         slot->kind = UAS_REQUEST_WRITE;
         limited = true;
@@ -297,7 +297,7 @@ static inline uint32_t block_command(const struct second_tasks *device, struct s
         slot->kind = UAS_REQUEST_SYNC;
     }
     if (slot->kind == UAS_REQUEST_SYNC || slot->kind == UAS_REQUEST_VERIFY)
-        slot->course = WHOLE;
+        slot->course = AT_ONCE;
     switch (cdb[0] >> 5) {
     case 0:
         slot->lba = big(cdb + 1, 3) & 0x1fffff;
@@ -320,7 +320,7 @@ static inline uint32_t block_command(const struct second_tasks *device, struct s
     if (limited && slot->count > device->most)
         return 0x052400;
     if (slot->kind == UAS_REQUEST_WRITE && cdb[0] >= 0x20)
-        slot->through = slot->course == CHECKED || (cdb[1] >> 3 & 1);
+        slot->through = slot->course == CHECKED_CHUNKS || (cdb[1] >> 3 & 1);
     if (slot->kind == UAS_REQUEST_WRITE && disk && device->through[slot->unit])
         slot->through = true;
     if (slot->kind == UAS_REQUEST_WRITE && disk && device->read_only[slot->unit])
@@ -364,7 +364,7 @@ static inline void execute_task(struct second_tasks *device, uint16_t tag, const
     slot->stage = NO_TASK;
     slot->lba = slot->count = slot->done = 0;
     slot->through = false;
-    slot->course = WHOLE;
+    slot->course = AT_ONCE;
     if (!there && cdb[0] != UAS_INQUIRY && !hosts)
         sense = 0x052500;
     else if (there && device->attention[slot->unit] && cdb[0] != UAS_INQUIRY && !hosts) {
@@ -490,7 +490,7 @@ static inline void second_tasks_ask(struct second_tasks *device, uint16_t tag, u
 {
     struct second_slot *slot = &device->slots[tag];
     bool moves = slot->kind == UAS_REQUEST_READ || slot->kind == UAS_REQUEST_WRITE || slot->kind == UAS_REQUEST_COMPARE;
-    bool in_chunks = slot->course == CHUNKS || slot->course == CHECKED, one = slot->course == SAME && slot->kind == UAS_REQUEST_WRITE;
+    bool in_chunks = slot->course == IN_CHUNKS || slot->course == CHECKED_CHUNKS, one = slot->course == ONE_FOR_ALL && slot->kind == UAS_REQUEST_WRITE;
     uint8_t flags = (uint8_t)((slot->through && is_writing(slot->kind) ? UAS_ASKED_THROUGH : 0) + (one ? UAS_ASKED_ONE : 0));
     slot->stage = WAITING;
     slot->out = true;
@@ -498,7 +498,7 @@ static inline void second_tasks_ask(struct second_tasks *device, uint16_t tag, u
     slot->length = moves ? chunk_bytes(device, slot) : 0;
     slot->request = (struct uas_asked){ sizeof slot->request, slot->kind, flags, tag, number, (uint64_t)slot->unit, slot->lba + slot->done,
                                         in_chunks ? chunk_of(device, slot) : slot->count, slot->length };
-    if (slot->course == LIST) {
+    if (slot->course == BY_LIST) {
         slot->request.block = range_block(slot, slot->range);
         slot->request.count = range_count(slot, slot->range);
     }
@@ -526,12 +526,12 @@ static inline void second_tasks_move(struct second_tasks *device, uint16_t tag, 
         task_ends(slot, tag, 0);
     else if (slot->kind == UAS_REQUEST_READ)
         chunk_done(device, slot, tag);
-    else if (slot->course == LIST && list_sense(device, slot) != 0)
+    else if (slot->course == BY_LIST && list_sense(device, slot) != 0)
         task_ends(slot, tag, list_sense(device, slot));
-    else if (slot->course == LIST)
+    else if (slot->course == BY_LIST)
         next_range(slot, tag, 0);
     else {
-        if (slot->course == SAME && all_zero(slot->chunk, 0, block_bytes(device, slot)))
+        if (slot->course == ONE_FOR_ALL && all_zero(slot->chunk, 0, block_bytes(device, slot)))
             slot->kind = slot->unmaps ? UAS_REQUEST_DISCARD : UAS_REQUEST_ZERO;
         slot->stage = ASKING;
     }
@@ -583,18 +583,18 @@ static inline uint8_t second_tasks_answer(struct second_tasks *device, uint16_t 
         return UAS_OK;
     if (outcome->what != UAS_DONE)
         task_ends(slot, tag, failed_sense(slot, outcome->what));
-    else if (slot->course == LIST)
+    else if (slot->course == BY_LIST)
         next_range(slot, tag, slot->range + 1);
-    else if (slot->course == LOOKED)
+    else if (slot->course == LOOKS)
         give_status(slot, tag, (outcome->flags & UAS_OUTCOME_MAPPED) != 0, outcome->count);
-    else if (slot->course == CHECKED && slot->kind == UAS_REQUEST_WRITE) {
+    else if (slot->course == CHECKED_CHUNKS && slot->kind == UAS_REQUEST_WRITE) {
         slot->kind = slot->check;
         slot->stage = ASKING;
     } else if (brings) {
         memcpy(slot->chunk, bytes, length);
         slot->stage = MOVING;
         slot->moved = 0;
-    } else if (slot->course == WHOLE || slot->course == SAME)
+    } else if (slot->course == AT_ONCE || slot->course == ONE_FOR_ALL)
         task_ends(slot, tag, 0);
     else
         chunk_done(device, slot, tag);

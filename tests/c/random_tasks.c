@@ -53,12 +53,13 @@ static void make_disks(void)
 static void renew(void)
 {
     static const uint64_t blocks[] = { 1, 200, 3000, 1ull << 32, (1ull << 32) + 1, 1ull << 48 };
+    static const uint8_t sets[] = { UAS_SET_DISK, UAS_SET_HOST, UAS_SET_DISK, UAS_SET_PROFILE, UAS_SET_DISK, UAS_SET_HOST };
     uas_tasks_free(tasks);
     memset(&model, 0, sizeof model);
     model.units = 1 + below(SECOND_TASK_UNITS);
     for (uint32_t i = 0; i < model.units; i++)
         model.unit[i] = (struct uas_tasks_unit){ blocks[below(6)], i, below(3) ? UAS_BLOCK_BYTES : 4096 };
-    model.set = below(4) == 0 ? UAS_SET_PROFILE : below(3) == 0 ? UAS_SET_HOST : UAS_SET_DISK;
+    model.set = sets[number_of_call / CALLS % sizeof sets];
     model.most = model.set != UAS_SET_PROFILE ? (uint16_t)(8 + 8 * below(20)) : 128;
     model.blocks = (uint16_t)(1 + below(SECOND_MOST_CHUNK));
     if (model.set == UAS_SET_DISK)

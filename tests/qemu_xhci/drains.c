@@ -337,6 +337,7 @@ static void gives_room_back(const char *path)
     Error *error = NULL;
     asked.kind = 0;
     UasXhci *device = made(path, &error);
+    bool has_holes = fallocate(device->units[0].image.file, FALLOC_FL_PUNCH_HOLE | FALLOC_FL_KEEP_SIZE, 0, 4096) == 0; /* this file system's files */
     tell("a file can give room back", error == NULL && disks[0].flags == UAS_DISK_THIN);
     done_in_file(device, (struct uas_asked){ .block = 4096, .count = 65, .kind = UAS_REQUEST_WRITE, .flags = UAS_ASKED_ONE | UAS_ASKED_THROUGH });
     tell("one block is written on many", outcome == UAS_DONE && are_all(device, 4096, 65, 7) && are_all(device, 4161, 1, 0));
@@ -347,7 +348,7 @@ static void gives_room_back(const char *path)
     done_in_file(device, (struct uas_asked){ .block = 4112, .count = 24, .kind = UAS_REQUEST_DISCARD });
     tell("room is given back", outcome == UAS_DONE && are_all(device, 4112, 24, 0) && are_all(device, 4111, 1, 7) && are_all(device, 4136, 1, 7));
     done_in_file(device, (struct uas_asked){ .block = 4112, .count = 1000, .kind = UAS_REQUEST_STATUS });
-    tell("which isn't mapped", outcome == UAS_DONE && told_count >= 1 && (is_told_mapped || told_count == 24));
+    tell("which isn't mapped", outcome == UAS_DONE && told_count >= 1 && (!has_holes || (!is_told_mapped && told_count == 24)));
     unrealize(&device->parent);
     free(device);
     device = named(path);
@@ -363,12 +364,12 @@ static void gives_room_back(const char *path)
 static void drive_gives_room_back(UasXhci *device, BlockBackend *drive)
 {
     drive->through = 0;
-    done(device, (struct uas_asked){ .block = 10, .count = 80, .kind = UAS_REQUEST_WRITE, .flags = UAS_ASKED_ONE | UAS_ASKED_THROUGH });
-    tell("one block is written on many", outcome == UAS_DONE && drive->bytes[10 * 512] == 7 && drive->bytes[90 * 512 - 1] == 7 && drive->through == 1);
+    done(device, (struct uas_asked){ .block = 10, .count = 200, .kind = UAS_REQUEST_WRITE, .flags = UAS_ASKED_ONE | UAS_ASKED_THROUGH });
+    tell("one block is written on many, in parts", outcome == UAS_DONE && drive->bytes[10 * 512] == 7 && drive->bytes[210 * 512 - 1] == 7 && drive->bytes[210 * 512] == 210 && drive->through == 2);
     done(device, (struct uas_asked){ .block = 20, .count = 10, .kind = UAS_REQUEST_ZERO, .flags = UAS_ASKED_THROUGH });
-    tell("zeros", outcome == UAS_DONE && drive->bytes[20 * 512] == 0 && drive->bytes[30 * 512] == 7 && !drive->empty[20] && drive->through == 2);
+    tell("zeros", outcome == UAS_DONE && drive->bytes[20 * 512] == 0 && drive->bytes[30 * 512] == 7 && !drive->empty[20] && drive->through == 3);
     done(device, (struct uas_asked){ .block = 40, .count = 10, .kind = UAS_REQUEST_DISCARD });
-    tell("room is given back", outcome == UAS_DONE && drive->bytes[50 * 512 - 1] == 0 && drive->empty[40] && drive->empty[49] && !drive->empty[50] && drive->through == 2);
+    tell("room is given back", outcome == UAS_DONE && drive->bytes[50 * 512 - 1] == 0 && drive->empty[40] && drive->empty[49] && !drive->empty[50] && drive->through == 3);
     done(device, (struct uas_asked){ .block = 30, .count = 70, .kind = UAS_REQUEST_STATUS });
     tell("which is mapped", outcome == UAS_DONE && is_told_mapped && told_count == 10);
     done(device, (struct uas_asked){ .block = 42, .count = 58, .kind = UAS_REQUEST_STATUS });
@@ -394,7 +395,7 @@ static void has_a_drive(void)
     for (int i = 0; i < DRIVE_BYTES; i++)
         drive.bytes[i] = (uint8_t)(i / 512);
     realize(&device->parent, &error);
-    tell("a drive", error == NULL && units == 1 && disks[0].blocks == 100 && disks[0].flags == UAS_DISK_THIN);
+    tell("a drive", error == NULL && units == 1 && disks[0].blocks == 300 && disks[0].flags == UAS_DISK_THIN);
     done(device, (struct uas_asked){ .block = 8, .count = 64, .kind = UAS_REQUEST_READ });
     tell("is read", outcome == UAS_DONE && told_length == 64 * 512 && told_bytes[0] == 8 && told_bytes[64 * 512 - 1] == 71 && drive.reads == 1);
     for (uint64_t bad = 8; bad < 72; bad++) {
@@ -414,9 +415,9 @@ static void has_a_drive(void)
     tell("and compared", outcome == UAS_DONE);
     done(device, (struct uas_asked){ .block = 8, .count = 9, .kind = UAS_REQUEST_COMPARE });
     tell("up to the byte that differs", outcome == UAS_DIFFERS && told_place == 8 * 512);
-    done(device, (struct uas_asked){ .block = 96, .count = 8, .kind = UAS_REQUEST_WRITE });
+    done(device, (struct uas_asked){ .block = 296, .count = 8, .kind = UAS_REQUEST_WRITE });
     tell("want of room is told", outcome == UAS_NO_SPACE && drive.through == 1);
-    done(device, (struct uas_asked){ .count = 100, .kind = UAS_REQUEST_SYNC });
+    done(device, (struct uas_asked){ .count = 300, .kind = UAS_REQUEST_SYNC });
     tell("is synced", outcome == UAS_DONE && drive.flushes == 1);
     drive_gives_room_back(device, &drive);
     unrealize(&device->parent);

@@ -221,7 +221,7 @@ static inline void qemu_del_vm_change_state_handler(VMChangeStateEntry *entry) {
 
 /* ---- A drive: blocks in memory, of which one is bad, some have no data and none is written through without being told ---- */
 
-enum { BDRV_REQ_MAY_UNMAP = 4, BDRV_REQ_FUA = 16, BDRV_BLOCK_DATA = 1, BDRV_BLOCK_ZERO = 2, DRIVE_BYTES = 100 * 512 };
+enum { BDRV_REQ_MAY_UNMAP = 4, BDRV_REQ_FUA = 16, BDRV_BLOCK_DATA = 1, BDRV_BLOCK_ZERO = 2, DRIVE_BYTES = 300 * 512 };
 
 struct BlockBackend {
     uint8_t bytes[DRIVE_BYTES];

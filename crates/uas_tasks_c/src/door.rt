@@ -185,10 +185,10 @@ fn tell_next(tasks: &Tasks, door: &mut UasTasksDoor, next: &Next)
 fn data_bytes(tasks: &Tasks, number: u64) -> usize
     ensures { result ≡ length (unwrap_or (bytes_out tasks.now number) []) }
 {
-    match tasks.request_bytes(number) {
-        Some(bytes) => bytes.len(),
-        None => 0,
-    }
+    let Some(bytes) = tasks.request_bytes(number) else {
+        return 0;
+    };
+    bytes.len()
 }
 
 fn tell_request(door: &mut UasTasksDoor, request: &Request)

@@ -229,10 +229,10 @@ fn data_bytes(machine: &Machine, next: Option<Next>) -> usize
     let Some(Next::Asks { number, .. }) = next else {
         return 0;
     };
-    match machine.request_bytes(number) {
-        Some(bytes) => bytes.len(),
-        None => 0,
-    }
+    let Some(bytes) = machine.request_bytes(number) else {
+        return 0;
+    };
+    bytes.len()
 }
 
 fn tell_next(door: &mut UasXhciDoor, next: Option<Next>)

@@ -206,7 +206,7 @@ fn show_request(machine: &mut Machine, door: &mut UasXhciDoor) -> u8
     ensures { (result, (machine.new, door.new)) ≡ after_request machine.old door.old }
 {
     if machine.is_disk() {
-        door.good = 0;
+        tell_next(door, None);
         return 0;
     }
     ask(machine, door)

@@ -56,7 +56,7 @@ dealt_else b from new k (Both t v w) e other h = (
 dealt_else b from new k Spent e other h = tt
 
 -- the dealer deals its next tag whole
-pub deal_allowed : (counts : TagCounts) (id from : ℕ) → Splits (IsDesk counts) id (Dealer from) (Dealer (from + 1)) (Both from Waiting Idle)
+pub deal_allowed : (counts : TagCounts) (id from : ℕ) → Splits (IsDesk counts) id (Dealer from) (Dealer (from + 1)) (Both from Waiting (Idle []))
 deal_allowed counts id from s held at =
     let b : Books = held.books in
     let know = held.each_seat id (Dealer from) at in
@@ -70,9 +70,9 @@ deal_allowed counts id from s held at =
       fresh = λ t late. held.fresh t (let e = know.1 in omega arith);
       each_tag = held.each_tag;
       each_seat =
-          seats_added (Knows c) s.views id (Dealer (from + 1)) (Both from Waiting Idle)
+          seats_added (Knows c) s.views id (Dealer (from + 1)) (Both from Waiting (Idle []))
           (know.0, refl)
-          (omega arith, updated_here b.client from from new refl, updated_here b.work from from new refl, unseen, subst (WorkKnows Idle) (sym unseen) tt)
+          (omega arith, updated_here b.client from from new refl, updated_here b.work from from new refl, unseen, subst (WorkKnows (Idle [])) (sym unseen) tt)
           (λ k v other there. dealt_else b from new k v know.1 (λ same. other (sym same ∙ know.0)) (held.each_seat k v there));
     }
 

@@ -16,12 +16,13 @@ use Rattle.tag_desk.specs.declared.remains.Standing.TheVariants.{Nothing, Posted
 use Rattle.tag_desk.specs.declared.remains.TagSlip.{TagSlip}
 use Rattle.tag_desk.specs.declared.remains.TagTicket.{TagTicket}
 use Rattle.tag_desk.specs.Slips.{ticket_in, IsEnd}
-use Rattle.tag_desk.specs.Seats.{MadeDesk, Customer, ClientLine, WorkLine, IsClientOf, IsPumpOf, IsTagOf, IsNewCustomer, new_line, posting, with_view}
+use Rattle.tag_desk.specs.Rule.{overlooked}
+use Rattle.tag_desk.specs.Seats.{MadeDesk, Customer, ClientLine, WorkLine, IsClientOf, IsPumpOf, IsTagOf, IsNewCustomer, new_line, posting, with_view, looked_lines, overlooking}
 use Rattle.tag_desk.specs.Seats.{ended_in, finished_in, ended_ticket, finished_ticket}
 use Rattle.tag_desk.specs.Seats.{Server}
 use Rattle.tag_desk.specs.Left.{HasEachClientOf, HasEachPumpOf, client_number, pump_number, no_customer, no_server, seat_of, server_of, line_view, view_or}
 use Rattle.tag_desk.specs.Left.{client_view, work_line, standing, unclaimed, posted_at, done_at, held_at, joined, left_of}
-use Rattle.tag_desk.specs.History.{Deed, posts, reaps, CameBy, PostsAt, KeepsTickets, one_of, posted_count, reaped_count, slip_count, ticket_count}
+use Rattle.tag_desk.specs.History.{Deed, posts, reaps, overlooks, CameBy, PostsAt, KeepsTickets, one_of, posted_count, reaped_count, slip_count, ticket_count}
 use Rattle.tag_desk.proofs.Seating.{end_named}
 use Rattle.tag_desk.proofs.Finding.{found_all}
 use Rattle.tag_desk.proofs.Tags.{tag_by_slot, tag_within}
@@ -62,13 +63,13 @@ apart tags c t tag some own other differ =
 abbrev open_count : ℕ → ClientView → ℕ
 open_count n Waiting = 0
 open_count n (Free m) = 0
-open_count n (Open m x) = if m == n then 1 else 0
+open_count n (Open m x looks) = if m == n then 1 else 0
 
 -- what is open is a slip that names its ticket
 abbrev IsAsked : ClientView → Type 0
 IsAsked Waiting = Unit {0}
 IsAsked (Free m) = Unit {0}
-IsAsked (Open m x) = ticket_in x ≡ m
+IsAsked (Open m x looks) = ticket_in x ≡ m
 
 view_here : (lines : List ClientLine) (k : ℕ) (v : ClientView) → k < length lines → line_view (with_view lines k v) k ≡ v
 view_here [] k v within = absurd (omega arith)
@@ -86,6 +87,36 @@ length_view : (lines : List ClientLine) (k : ℕ) (v : ClientView) → length (w
 length_view [] k v = refl
 length_view (x ∷ xs) zero v = refl
 length_view (x ∷ xs) (suc k) v = ap suc (length_view xs k v)
+
+-- a look that gave nothing leaves what is open
+open_looked : (n looks : ℕ) (v : ClientView) → open_count n (overlooked looks v) ≡ open_count n v
+open_looked n looks Waiting = refl
+open_looked n looks (Free m) = refl
+open_looked n looks (Open m x old) = refl
+
+asked_looked : (looks : ℕ) (v : ClientView) → IsAsked v → IsAsked (overlooked looks v)
+asked_looked looks Waiting asked = asked
+asked_looked looks (Free m) asked = asked
+asked_looked looks (Open m x old) asked = asked
+
+open_after : (n looks : ℕ) (lines : List ClientLine) (k j : ℕ) → open_count n (line_view (looked_lines looks lines k) j) ≡ open_count n (line_view lines j)
+open_after n looks [] k j = refl
+open_after n looks (x ∷ xs) zero zero = open_looked n looks x.view
+open_after n looks (x ∷ xs) zero (suc j) = refl
+open_after n looks (x ∷ xs) (suc k) zero = refl
+open_after n looks (x ∷ xs) (suc k) (suc j) = open_after n looks xs k j
+
+asked_after : (looks : ℕ) (lines : List ClientLine) (k j : ℕ) → IsAsked (line_view lines j) → IsAsked (line_view (looked_lines looks lines k) j)
+asked_after looks [] k j asked = asked
+asked_after looks (x ∷ xs) zero zero asked = asked_looked looks x.view asked
+asked_after looks (x ∷ xs) zero (suc j) asked = asked
+asked_after looks (x ∷ xs) (suc k) zero asked = asked
+asked_after looks (x ∷ xs) (suc k) (suc j) asked = asked_after looks xs k j asked
+
+length_looked : (looks : ℕ) (lines : List ClientLine) (k : ℕ) → length (looked_lines looks lines k) ≡ length lines
+length_looked looks [] k = refl
+length_looked looks (x ∷ xs) zero = refl
+length_looked looks (x ∷ xs) (suc k) = ap suc (length_looked looks xs k)
 
 -- a ticket that wasn't open is, and one more is posted
 sum_more : (posted reaped was one d now : ℕ) → posted ≡ reaped + was → was ≡ 0 → one ≡ d → now ≡ d → one + posted ≡ reaped + now
@@ -137,10 +168,10 @@ known_posted tags c before old seat t x some was post =
     let deep : k < length old.lines = let e = was.count in omega arith in
     let at : slot_of old.tags t ≡ k = ap (λ n. slot_of n t) was.number in
     let own : IsTagOf tags c t = subst (λ (p : ℕ × ℕ). IsTagOf p.0 p.1 t) (λ i. (was.number i, was.client i)) post.own in
-    subst (λ j. Known tags c (posts t x ∷ before) (record old { least_ticket = m + 1; lines = with_view old.lines j (Open m x) })) (sym at) record {
+    subst (λ j. Known tags c (posts t x ∷ before) (record old { least_ticket = m + 1; lines = with_view old.lines j (Open m x 0) })) (sym at) record {
       client = was.client;
       number = was.number;
-      count = length_view old.lines k (Open m x) ∙ was.count;
+      count = length_view old.lines k (Open m x 0) ∙ was.count;
       each =
           λ tag n of.
           let j : ℕ = slot_of tags tag in
@@ -148,22 +179,22 @@ known_posted tags c before old seat t x some was post =
           dite (ℕ_discrete t tag)
           (λ (e : t ≡ tag).
           let place : k ≡ j = ap (slot_of tags) e in
-          let now : open_count n (line_view (with_view old.lines k (Open m x)) j) ≡ (if m == n then 1 else 0) =
-          ap (open_count n) (ap (line_view (with_view old.lines k (Open m x))) (sym place) ∙ view_here old.lines k (Open m x) deep) in
+          let now : open_count n (line_view (with_view old.lines k (Open m x 0)) j) ≡ (if m == n then 1 else 0) =
+          ap (open_count n) (ap (line_view (with_view old.lines k (Open m x 0))) (sym place) ∙ view_here old.lines k (Open m x 0) deep) in
           let none : open_count n (line_view old.lines j) ≡ 0 =
           ap (open_count n) (ap (line_view old.lines) (sym place ∙ sym at) ∙ ap view_or post.free.1 ∙ post.free.2.1) in
           let one = one_here tag n t m e in
           sum_more _ _ _ _ _ _ had none one now)
           (λ (e : t ≢ tag).
-          let same : open_count n (line_view (with_view old.lines k (Open m x)) j) ≡ open_count n (line_view old.lines j) =
-          ap (open_count n) (view_else old.lines k j (Open m x) (apart tags c t tag some own of e)) in
+          let same : open_count n (line_view (with_view old.lines k (Open m x 0)) j) ≡ open_count n (line_view old.lines j) =
+          ap (open_count n) (view_else old.lines k j (Open m x 0) (apart tags c t tag some own of e)) in
           let none = one_else tag n t m e in
           omega arith);
       asked =
           λ j within.
           dite (ℕ_discrete j k)
-          (λ (e : j ≡ k). subst IsAsked (sym (ap (line_view (with_view old.lines k (Open m x))) e ∙ view_here old.lines k (Open m x) deep)) refl)
-          (λ (e : j ≢ k). subst IsAsked (sym (view_else old.lines k j (Open m x) e)) (was.asked j within));
+          (λ (e : j ≡ k). subst IsAsked (sym (ap (line_view (with_view old.lines k (Open m x 0))) e ∙ view_here old.lines k (Open m x 0) deep)) refl)
+          (λ (e : j ≢ k). subst IsAsked (sym (view_else old.lines k j (Open m x 0) e)) (was.asked j within));
       later =
           λ tag n least.
           let none : one_of tag n t m ≡ 0 = one_other tag n t m (λ (e : m ≡ n). absurd (omega arith)) in
@@ -177,10 +208,10 @@ known_posted tags c before old seat t x some was post =
           (λ (e : m ≢ n). let none = one_other tag n t m e in let rest = was.once tag n in omega arith);
     }
 
-known_reaped : (tags c : ℕ) (before : List Deed) (old : Customer) (t m : ℕ) (x y : Slip) (line : ClientLine) → 0 < tags → Known tags c before old
-    → IsTagOf tags c t → slice_get old.lines (slot_of old.tags t) ≡ Some line → line.view ≡ Open m x → IsEnd t m y
+known_reaped : (tags c : ℕ) (before : List Deed) (old : Customer) (t m looks : ℕ) (x y : Slip) (line : ClientLine) → 0 < tags → Known tags c before old
+    → IsTagOf tags c t → slice_get old.lines (slot_of old.tags t) ≡ Some line → line.view ≡ Open m x looks → IsEnd t m y
     → Known tags c (reaps t y ∷ before) (record old { lines = with_view old.lines (slot_of old.tags t) (Free (m + 1)) })
-known_reaped tags c before old t m x y line some was own there view ends =
+known_reaped tags c before old t m looks x y line some was own there view ends =
     let k : ℕ = slot_of tags t in
     let low : k < tags = slots-below_tags tags t some in
     let deep : k < length old.lines = let e = was.count in omega arith in
@@ -217,6 +248,22 @@ known_reaped tags c before old t m x y line some was own there view ends =
       once = λ tag n. was.once tag n;
     }
 
+known_overlooked : (tags c : ℕ) (before : List Deed) (old : Customer) (t : ℕ) → Known tags c before old
+    → Known tags c (overlooks t ∷ before) (overlooking 1 old t)
+known_overlooked tags c before old t was =
+    let k : ℕ = slot_of old.tags t in
+    record {
+      client = was.client;
+      number = was.number;
+      count = length_looked 1 old.lines k ∙ was.count;
+      each =
+          λ tag n of.
+          was.each tag n of ∙ ap (λ i. reaped_count tag n before + i) (sym (open_after n 1 old.lines k (slot_of tags tag)));
+      asked = λ j within. asked_after 1 old.lines k j (was.asked j within);
+      later = λ tag n least. was.later tag n least;
+      once = λ tag n. was.once tag n;
+    }
+
 known : (table : TableId) (tags c : ℕ) (deeds : List Deed) (seat : Customer) → 0 < tags → CameBy table tags c deeds seat → Known tags c deeds seat
 known table tags c [] seat some came = known_new table tags c seat some came
 known table tags c (posts t x ∷ before) seat some came =
@@ -225,7 +272,9 @@ known table tags c (posts t x ∷ before) seat some came =
 known table tags c (reaps t y ∷ before) seat some came =
     let reap = came.3 in
     subst (Known tags c (reaps t y ∷ before)) (sym reap.6)
-    (known_reaped tags c before came.0 t reap.1 reap.2 y reap.0 some (known table tags c before came.0 some came.1) came.2 reap.3 reap.4 reap.5)
+    (known_reaped tags c before came.0 t reap.1 reap.4.0 reap.2 y reap.0 some (known table tags c before came.0 some came.1) came.2 reap.3 reap.4.1 reap.5)
+known table tags c (overlooks t ∷ before) seat some came =
+    subst (Known tags c (overlooks t ∷ before)) (sym came.3) (known_overlooked tags c before came.0 t (known table tags c before came.0 some came.1))
 
 -- ---- the three lists
 
@@ -289,9 +338,9 @@ in_one tag n (Held m) = let one = one_here tag n tag m refl in omega arith
 
 unclaimed_count : (n m : ℕ) (x : Slip) (w : WorkView) → ticket_in x ≡ m → ended_in w ≡ finished_in w
     → standing_count n (unclaimed m x w) ≡ (if m == n then 1 else 0)
-unclaimed_count n m x Idle asked ended = ap (λ i. if i == n then 1 else 0) asked
+unclaimed_count n m x (Idle missed) asked ended = ap (λ i. if i == n then 1 else 0) asked
 unclaimed_count n m x (Claimed k) asked ended = refl
-unclaimed_count n m x (Finished k y) asked ended =
+unclaimed_count n m x (Finished k y missed) asked ended =
     dite (ℕ_discrete k m)
     (λ (e : k ≡ m). ap (λ b. standing_count n (if b then Done y else Posted x)) (eq-eqb k m e) ∙ ap (λ i. if i == n then 1 else 0) (ended ∙ e))
     (λ (e : k ≢ m). ap (λ b. standing_count n (if b then Done y else Posted x)) (ne_eqb k m e) ∙ ap (λ i. if i == n then 1 else 0) asked)
@@ -301,8 +350,8 @@ stands : (n : ℕ) (v : ClientView) (line : Option WorkLine) → IsAsked v → e
     → standing_count n (standing v line) ≡ open_count n v
 stands n Waiting line asked ended = refl
 stands n (Free m) line asked ended = refl
-stands n (Open m x) None asked ended = refl
-stands n (Open m x) (Some line) asked ended = unclaimed_count n m x line.view asked ended
+stands n (Open m x looks) None asked ended = refl
+stands n (Open m x looks) (Some line) asked ended = unclaimed_count n m x line.view asked ended
 
 -- what is left of a tag at place t is what stands there
 left_at : (at : ℕ → Standing) (n tag t ticket : ℕ) → tag ≡ t + 1 → t < n

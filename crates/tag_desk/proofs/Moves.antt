@@ -9,7 +9,7 @@ use lib.ListN.{get_elem?}
 use Rattle.std.proofs.Math.ListN.{length-set}
 use Rattle.std.proofs.lemmas.List.{get_or-set_same, get_or-set_other}
 use Rattle.atomic_table.specs.Table.{State}
-use Rattle.atomic_table.proofs.Lists.{at_set, set_here, set_else, set_again}
+use Rattle.atomic_table.proofs.Lists.{at_set, set_here, set_else}
 use Rattle.tag_desk.specs.declared.Slip.{Slip}
 use Rattle.tag_desk.specs.declared.rule.ClientView.{ClientView}
 use Rattle.tag_desk.specs.declared.rule.WorkView.{WorkView}
@@ -102,10 +102,20 @@ set_found [] i = refl
 set_found (x ∷ xs) zero = refl
 set_found (x ∷ xs) (suc i) = ap (λ l. x ∷ l) (set_found xs i)
 
--- a step that changed nothing
-pub unmoved : (counts : TagCounts) (s : State (Option Slip) View) (t id : ℕ) (w : View) → IsDesk counts s → get_elem? s.views id ≡ some w
+-- a step that changed nothing but what its seat notes, which is true
+pub noted_only : (counts : TagCounts) (s : State (Option Slip) View) (t id : ℕ) (w : View) (held : IsDesk counts s) → Knows held.books id w
     → IsDesk counts record { words = slice_set s.words t (slice_index s.words t); homes = s.homes; views = slice_set s.views id w }
-unmoved counts s t id w held at =
+noted_only counts s t id w held knows =
     let words = set_found s.words t in
-    let views = set_again s.views id w at in
-    subst (IsDesk counts) (λ i. record { words = sym words i; homes = s.homes; views = sym views i }) held
+    subst (λ (l : List ℕ). IsDesk counts record { words = l; homes = s.homes; views = slice_set s.views id w }) (sym words) record {
+      books = held.books;
+      width = held.width;
+      depth = held.depth;
+      fresh = held.fresh;
+      each_tag = held.each_tag;
+      each_seat =
+          λ k v there.
+          ⊎_elim (λ (h : (k ≡ id) × (w ≡ v)). subst (λ (p : ℕ × View). Knows held.books p.0 p.1) (λ i. (sym h.0 i, h.1 i)) knows)
+          (λ (h : (k ≢ id) × (get_elem? s.views k ≡ some v)). held.each_seat k v h.1)
+          (at_set s.views id k w v there);
+    }

@@ -10,12 +10,14 @@ use Rattle.std.proofs.lemmas.List.{set-set, set-get_or, get_or-set_same, get_or-
 use Rattle.tag_desk.specs.declared.Slip.{Slip}
 use Rattle.tag_desk.specs.declared.rule.ClientView.TheVariants.{Free}
 use Rattle.tag_desk.specs.declared.rule.ClientView.{ClientView}
-use Rattle.tag_desk.specs.Seats.{MadeDesk, Customer, Server, ClientLine, WorkLine, HeldClaim, IsClientOf, IsPumpOf, IsServed, IsOnTable, IsFreeAt, ended_ticket, finished_ticket, finishing}
+use Rattle.tag_desk.specs.Seats.{MadeDesk, Customer, Server, ClientLine, WorkLine, HeldClaim, IsClientOf, IsPumpOf, IsServed, IsOnTable, IsFreeAt, ended_in, ended_ticket, finished_in, finished_ticket, finishing}
 use Rattle.tag_desk.specs.Slips.{IsEnd, ticket_in}
+use Rattle.tag_desk.specs.Rule.{noting, overlooked}
 use Rattle.tag_desk.specs.declared.Slip.TheVariants.{Ask, AskTask, Answer, Refused, Unserved}
-use Rattle.tag_desk.specs.Seats.{IsAllFree, IsAway, ReapsAt, ClaimsAt, with_view, new_line, AreNewCustomers, AreServersBelow}
+use Rattle.tag_desk.specs.Seats.{IsAllFree, IsAway, ReapsAt, ClaimsAt, looked_lines, missed_line, missing, overlooking, with_view, new_line, AreNewCustomers, AreServersBelow}
 use Rattle.atomic_table.specs.Seated.{TableId}
-use Rattle.tag_desk.specs.declared.rule.WorkView.TheVariants.{Idle}
+use Rattle.tag_desk.specs.declared.rule.WorkView.{WorkView}
+use Rattle.tag_desk.specs.declared.rule.WorkView.TheVariants.{Idle, Claimed, Finished}
 use Rattle.uas_profile.specs.Tags.{client_of, slot_of}
 use Rattle.uas_profile.proofs.TagLaws.{slots-below_tags}
 
@@ -29,6 +31,18 @@ set_view (x ∷ xs) (suc k) l v within is = ap (λ ls. x ∷ ls) (set_view xs k 
 -- writing back what was read changes nothing
 pub set_back : {X : Type 0} (xs : List X) (k : ℕ) (x : X) → x ≡ get_or xs k x → set xs k x ≡ xs
 set_back xs k x is = ap (set xs k) is ∙ set-get_or xs k x
+
+-- what was read doesn't depend on what stands for none
+pub read_any : {X : Type 0} (xs : List X) (k : ℕ) (x d : X) → k < length xs → x ≡ get_or xs k x → get_or xs k d ≡ x
+read_any [] k x d within is = absurd (omega arith)
+read_any (y ∷ ys) zero x d within is = sym is
+read_any (y ∷ ys) (suc k) x d within is = read_any ys k x d (omega arith) is
+
+-- a line that is read and written back with a note, or left out, is what `missing` says
+pub set_missed : (lines : List (Option WorkLine)) (k ticket : ℕ) (had now : Option WorkLine) → k < length lines → had ≡ get_or lines k had
+    → now ≡ missed_line ticket had → set lines k now ≡ set lines k (missed_line ticket (get_or lines k None))
+set_missed lines k ticket had now within is noted =
+    ap (set lines k) (noted ∙ ap (missed_line ticket) (sym (read_any lines k had None within is)))
 
 pub set_twice_back : {X : Type 0} (xs : List X) (k : ℕ) (x y : X) → x ≡ get_or xs k x → set (set xs k y) k x ≡ xs
 set_twice_back xs k x y is = set-set xs k y x ∙ set_back xs k x is
@@ -51,7 +65,24 @@ view_here [] k v l at = absurd (let e : None ≡ Some l = at in cc)
 view_here (x ∷ xs) zero v l at = let e : x ≡ l = cc in λ i. Some (record { table = (e i).table; index = (e i).index; view = v })
 view_here (x ∷ xs) (suc k) v l at = view_here xs k v l at
 
+-- writing a line back with one look more
+pub set_looked : (looks : ℕ) (lines : List ClientLine) (k : ℕ) (l : ClientLine) → k < length lines → l ≡ get_or lines k l
+    → set lines k (record { table = l.table; index = l.index; view = overlooked looks l.view }) ≡ looked_lines looks lines k
+set_looked looks [] k l within is = absurd (omega arith)
+set_looked looks (x ∷ xs) zero l within is = λ i. record { table = (is i).table; index = (is i).index; view = overlooked looks (is i).view } ∷ xs
+set_looked looks (x ∷ xs) (suc k) l within is = ap (λ ls. x ∷ ls) (set_looked looks xs k l (omega arith) is)
+
+looked_table : (looks : ℕ) (lines : List ClientLine) (k j : ℕ) (d : ClientLine) → (get_or (looked_lines looks lines k) j d).table ≡ (get_or lines j d).table
+looked_table looks [] k j d = refl
+looked_table looks (x ∷ xs) zero zero d = refl
+looked_table looks (x ∷ xs) zero (suc j) d = refl
+looked_table looks (x ∷ xs) (suc k) zero d = refl
+looked_table looks (x ∷ xs) (suc k) (suc j) d = looked_table looks xs k j d
+
 -- a client's seat stays one of the desk
+pub own_looking : (desk : MadeDesk) (seat : Customer) (looks tag : ℕ) → IsClientOf desk seat → IsClientOf desk (overlooking looks seat tag)
+own_looking desk seat looks tag own = (own.0, λ j d within. looked_table looks seat.lines (slot_of seat.tags tag) j d ∙ own.1 j d within, own.2)
+
 pub own_posting : (desk : MadeDesk) (seat : Customer) (k least : ℕ) (v : ClientView) → IsClientOf desk seat
     → IsClientOf desk (record { client = seat.client; tags = seat.tags; least_ticket = least; lines = with_view seat.lines k v })
 own_posting desk seat k least v own = (own.0, λ j d within. view_table seat.lines k j v d ∙ own.1 j d within, own.2)
@@ -94,6 +125,34 @@ end_named tag n (AskTask m task) ends = absurd ends
 end_named tag n (Answer reply) ends = ends.1
 end_named tag n (Refused m fault buffer) ends = ends
 end_named tag n (Unserved m buffer) ends = ends
+
+missed_on : (table : TableId) (ticket : ℕ) (line : Option WorkLine) → IsOnTable table line → IsOnTable table (missed_line ticket line)
+missed_on table ticket None there = there
+missed_on table ticket (Some line) there = there
+
+ended_noting : (n : ℕ) (w : WorkView) → ended_in (noting n w) ≡ ended_in w
+ended_noting n (Idle missed) = refl
+ended_noting n (Claimed m) = refl
+ended_noting n (Finished m y missed) = refl
+
+finished_noting : (n : ℕ) (w : WorkView) → finished_in (noting n w) ≡ finished_in w
+finished_noting n (Idle missed) = refl
+finished_noting n (Claimed m) = refl
+finished_noting n (Finished m y missed) = refl
+
+missed_ended : (ticket : ℕ) (line : Option WorkLine) → IsEndedWell line → IsEndedWell (missed_line ticket line)
+missed_ended ticket None ended = ended
+missed_ended ticket (Some line) ended = ended_noting ticket line.view ∙ ended ∙ sym (finished_noting ticket line.view)
+
+pub own_missing : (desk : MadeDesk) (seat : Server) (tag ticket : ℕ) → IsPumpOf desk seat → IsServed desk seat tag → IsPumpOf desk (missing seat tag ticket)
+own_missing desk seat tag ticket own served =
+    let len = own.0 in
+    let low = served.0 in
+    let high = served.1 in
+    let within : tag - 1 < length seat.lines = omega arith in
+    let line : Option WorkLine = get_or seat.lines (tag - 1) None in
+    own_setting desk seat (tag - 1) (missed_line ticket line) own (missed_on desk.table ticket line (own.1 (tag - 1) None within))
+    (missed_ended ticket line (own.2 (tag - 1) None within))
 
 pub own_finishing : (desk : MadeDesk) (seat : Server) (claim : HeldClaim) (y : Slip) → IsPumpOf desk seat → claim.table ≡ desk.table
     → IsEnd claim.tag claim.ticket y → IsPumpOf desk (finishing seat claim y)
@@ -145,13 +204,13 @@ free_new table tags clients seats some are c d within tag own =
     (line, ap (λ n. slice_get (get_or seats c d).lines (slot_of n tag)) each.tags ∙ there, (0, refl))
 
 on_table_if : (desk : MadeDesk) (t : ℕ) (dealt serves : Bool)
-    → IsOnTable desk.table (if dealt then (if serves then Some (record { table = desk.table; index = t; view = Idle }) else None) else None)
+    → IsOnTable desk.table (if dealt then (if serves then Some (record { table = desk.table; index = t; view = Idle [] }) else None) else None)
 on_table_if desk t true true = refl
 on_table_if desk t true false = refl
 on_table_if desk t false serves = refl
 
 ended_if : (table : TableId) (t : ℕ) (dealt serves : Bool)
-    → IsEndedWell (if dealt then (if serves then Some (record { table = table; index = t; view = Idle }) else None) else None)
+    → IsEndedWell (if dealt then (if serves then Some (record { table = table; index = t; view = Idle [] }) else None) else None)
 ended_if table t true true = refl
 ended_if table t true false = refl
 ended_if table t false serves = refl

@@ -12,20 +12,20 @@ use Rattle.tag_desk.specs.Rule.{IsSettled}
 use Rattle.tag_desk.specs.Left.{unclaimed, joined, posted_at, done_at, held_at, left_below, adding, HasRoom}
 
 -- the slip that came out is the client's, where the word was posted
-pub found_posted : (n found : ℕ) (x z : Slip) (w : WorkView) → IsSettled (Open n x) w found z → found ≡ 4 * n + 1 → Posted z ≡ unclaimed n x w
-found_posted n found x z Idle is word = ap Posted is.1
-found_posted n found x z (Claimed m) is word = absurd is
-found_posted n found x z (Finished m y) is word =
+pub found_posted : (n looks found : ℕ) (x z : Slip) (w : WorkView) → IsSettled (Open n x looks) w found z → found ≡ 4 * n + 1 → Posted z ≡ unclaimed n x w
+found_posted n looks found x z (Idle missed) is word = ap Posted is.1
+found_posted n looks found x z (Claimed m) is word = absurd is
+found_posted n looks found x z (Finished m y missed) is word =
     ⊎_elim
     (λ h. ap Posted h.2 ∙ sym (ap (λ (b : Bool). if b then Done y else Posted x) (ne_eqb m n (λ e. let low = h.1 in absurd (omega arith)))))
     (λ h. let done = h.0 in absurd (omega arith))
     is
 
 -- and else the pump's
-pub found_done : (n found : ℕ) (x z : Slip) (w : WorkView) → IsSettled (Open n x) w found z → found ≢ 4 * n + 1 → Done z ≡ unclaimed n x w
-found_done n found x z Idle is word = absurd (word is.0)
-found_done n found x z (Claimed m) is word = absurd is
-found_done n found x z (Finished m y) is word =
+pub found_done : (n looks found : ℕ) (x z : Slip) (w : WorkView) → IsSettled (Open n x looks) w found z → found ≢ 4 * n + 1 → Done z ≡ unclaimed n x w
+found_done n looks found x z (Idle missed) is word = absurd (word is.0)
+found_done n looks found x z (Claimed m) is word = absurd is
+found_done n looks found x z (Finished m y missed) is word =
     ⊎_elim
     (λ h. absurd (word h.0))
     (λ h. ap Done h.2 ∙ sym (ap (λ (b : Bool). if b then Done y else Posted x) (eq-eqb m n h.1)))

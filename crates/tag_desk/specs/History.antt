@@ -6,12 +6,13 @@ use Rattle.tag_desk.specs.declared.remains.TagSlip.{TagSlip}
 use Rattle.tag_desk.specs.declared.remains.TagTicket.{TagTicket}
 use Rattle.tag_desk.specs.declared.remains.Left.{Left}
 use Rattle.tag_desk.specs.Slips.{ticket_in, IsAsk}
-use Rattle.tag_desk.specs.Seats.{Customer, IsTagOf, IsFreeAt, IsNewCustomer, ReapsAt, posting}
+use Rattle.tag_desk.specs.Seats.{Customer, IsTagOf, IsFreeAt, IsNewCustomer, ReapsAt, overlooking, posting}
 
--- a post of a slip on a tag, or a look at a tag that gave one
+-- a post of a slip on a tag, or a look at a tag that gave one, or none
 pub data Deed : Type 0 where
   posts : ℕ → Slip → Deed
   reaps : ℕ → Slip → Deed
+  overlooks : ℕ → Deed
 
 -- a post, as it is asked for and done
 pub record PostsAt (old new : Customer) (tag : ℕ) (x : Slip) : Type 0 where
@@ -26,6 +27,7 @@ abbrev pub CameBy : TableId → ℕ → ℕ → List Deed → Customer → Type 
 CameBy table tags c [] seat = IsNewCustomer table tags c seat
 CameBy table tags c (posts tag x ∷ before) seat = (old : Customer) × CameBy table tags c before old × PostsAt old seat tag x
 CameBy table tags c (reaps tag y ∷ before) seat = (old : Customer) × CameBy table tags c before old × IsTagOf tags c tag × ReapsAt old seat tag y
+CameBy table tags c (overlooks tag ∷ before) seat = (old : Customer) × CameBy table tags c before old × IsTagOf tags c tag × (seat ≡ overlooking 1 old tag)
 
 -- one where the tag and the ticket are those that are counted: with tag 3 and ticket 7 counted, one for 3 and 7, none for 3 and 8
 abbrev pub one_of : ℕ → ℕ → ℕ → ℕ → ℕ
@@ -36,11 +38,13 @@ abbrev pub posted_count : ℕ → ℕ → List Deed → ℕ
 posted_count tag ticket [] = 0
 posted_count tag ticket (posts t x ∷ before) = one_of tag ticket t (ticket_in x) + posted_count tag ticket before
 posted_count tag ticket (reaps t y ∷ before) = posted_count tag ticket before
+posted_count tag ticket (overlooks t ∷ before) = posted_count tag ticket before
 
 -- how often an end of a ticket was looked up on a tag
 abbrev pub reaped_count : ℕ → ℕ → List Deed → ℕ
 reaped_count tag ticket [] = 0
 reaped_count tag ticket (posts t x ∷ before) = reaped_count tag ticket before
+reaped_count tag ticket (overlooks t ∷ before) = reaped_count tag ticket before
 reaped_count tag ticket (reaps t y ∷ before) = one_of tag ticket t (ticket_in y) + reaped_count tag ticket before
 
 abbrev pub slip_count : ℕ → ℕ → List TagSlip → ℕ

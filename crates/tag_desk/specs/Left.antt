@@ -18,16 +18,16 @@ use Rattle.uas_profile.specs.Tags.{client_of, slot_of}
 
 -- a ticket that the client has open: the pump's slip stands where the pump finished that very ticket, and else the client's
 abbrev pub unclaimed : ℕ → Slip → WorkView → Standing
-unclaimed n x Idle = Posted x
+unclaimed n x (Idle missed) = Posted x
 unclaimed n x (Claimed m) = Held n
-unclaimed n x (Finished m y) = if m == n then Done y else Posted x
+unclaimed n x (Finished m y missed) = if m == n then Done y else Posted x
 
 -- what stands at a tag, by what its client knows of it and the pump's line, which is none where it is out with a claim
 abbrev pub standing : ClientView → Option WorkLine → Standing
 standing Waiting line = Nothing
 standing (Free next) line = Nothing
-standing (Open n x) None = Held n
-standing (Open n x) (Some line) = unclaimed n x line.view
+standing (Open n x looks) None = Held n
+standing (Open n x looks) (Some line) = unclaimed n x line.view
 
 abbrev pub view_or : Option ClientLine → ClientView
 view_or None = Waiting

@@ -1,5 +1,5 @@
 -- The rule of the table: for each tag its word, its slot, what its client's seat knows and what its pump's seat knows agree.
-use Rattle.std.specs.Prelude.{◌≡◌, ℕ, ◌+◌, ◌-◌, ◌*◌, ◌/◌, ◌<◌, ◌≤◌, ◌==◌, List, [], ◌∷◌, length, slice_index, Option, Some, None, MatchBool, ◌⊎◌}
+use Rattle.std.specs.Prelude.{◌≡◌, ℕ, ◌+◌, ◌-◌, ◌*◌, ◌/◌, ◌<◌, ◌≤◌, ◌==◌, List, [], ◌∷◌, ◌++◌, length, slice_index, Option, Some, None, MatchBool, ◌⊎◌}
 use mathlib.Core.Option.{some}
 use mathlib.Core.Option as maybe
 use lib.ListN.{get_elem?}
@@ -58,7 +58,7 @@ IsOpen n x (done m y) = m ≡ n
 abbrev pub ClientKnows : ClientView → Stage → Type 0
 ClientKnows Waiting stage = stage ≡ undealt
 ClientKnows (Free n) stage = stage ≡ free n
-ClientKnows (Open n x) stage = IsOpen n x stage
+ClientKnows (Open n x looks) stage = IsOpen n x stage
 
 -- a pump without the claim: the tag isn't taken, and where it is done, this pump finished it with that slip. What is posted is later than what it finished
 abbrev pub IsUntaken : Stage → Type 0
@@ -76,9 +76,9 @@ IsFinished n y (taken m) = ⊥
 IsFinished n y (done m z) = (m ≡ n) × (z ≡ y)
 
 abbrev pub WorkKnows : WorkView → Stage → Type 0
-WorkKnows Idle stage = IsUntaken stage
+WorkKnows (Idle missed) stage = IsUntaken stage
 WorkKnows (Claimed n) stage = stage ≡ taken n
-WorkKnows (Finished n y) stage = IsFinished n y stage
+WorkKnows (Finished n y missed) stage = IsFinished n y stage
 
 -- Where each tag is, which seat is its client's and which its pump's, which seat deals, and how many tags are dealt
 pub record Books : Type 0 where
@@ -112,18 +112,18 @@ Sat = Me (Option Slip) View
 
 -- the slot is dealt
 abbrev pub Lifts : Step (Option Slip) → Sat → ℕ → Sat → Type 0
-Lifts s me found w = w ≡ (Both s.word (Free 0) Idle, (s.word, None) ∷ [])
+Lifts s me found w = w ≡ (Both s.word (Free 0) (Idle []), (s.word, None) ∷ [])
 
 -- the seat that gave back a slot with a slip has it on record
 abbrev pub after_post : ℕ → ℕ → List (ℕ × Option Slip) → View
 after_post t n [] = Spent
 after_post t n ((k, None) ∷ slots) = Spent
-after_post t n ((k, Some x) ∷ slots) = Client t (Open n x)
+after_post t n ((k, Some x) ∷ slots) = Client t (Open n x 0)
 
 abbrev pub after_finish : ℕ → ℕ → List (ℕ × Option Slip) → View
 after_finish t n [] = Spent
 after_finish t n ((k, None) ∷ slots) = Spent
-after_finish t n ((k, Some y) ∷ slots) = Work t (Finished n y)
+after_finish t n ((k, Some y) ∷ slots) = Work t (Finished n y [])
 
 abbrev pub Posts : Step (Option Slip) → Sat → ℕ → Sat → Type 0
 Posts s me found w = w ≡ (after_post s.word (s.first / 4) me.1, [])
@@ -140,19 +140,26 @@ client_in other = Waiting
 abbrev pub work_in : View → WorkView
 work_in (Work t w) = w
 work_in (Both t v w) = w
-work_in other = Idle
+work_in other = Idle []
 
 -- The ticket is above the one that the pump finished last on the tag, if it finished one; no claim is out. After ticket 5 it is 6 or more
 abbrev pub IsAbove : WorkView → ℕ → Type 0
-IsAbove Idle n = Unit {0}
+IsAbove (Idle missed) n = Unit {0}
 IsAbove (Claimed m) n = ⊥
-IsAbove (Finished m y) n = m < n
+IsAbove (Finished m y missed) n = m < n
 
--- the slot comes with such a slip of the ticket, which is above what the pump finished, where the word was posted with it
+-- a pump's seat after it found the tag not posted with one ticket more
+abbrev pub noting : ℕ → WorkView → WorkView
+noting n (Idle missed) = Idle (missed ++ n ∷ [])
+noting n (Claimed m) = Claimed m
+noting n (Finished m y missed) = Finished m y (missed ++ n ∷ [])
+
+-- the slot comes with such a slip of the ticket, which is above what the pump finished, where the word was posted with it; elsewhere the
+-- seat notes that it wasn't
 abbrev pub TakesOne : (ℕ → Slip → Type 0) → Step (Option Slip) → Sat → ℕ → Sat → Type 0
 TakesOne Such s me found w = MatchBool (found == s.first)
     ((x : Slip) × Such (s.first / 4) x × IsAbove (work_in me.0) (s.first / 4) × (w ≡ (Work s.word (Claimed (s.first / 4)), (s.word, Some x) ∷ [])))
-    (w ≡ me)
+    (w ≡ (Work s.word (noting (s.first / 4) (work_in me.0)), me.1))
 
 -- A step doesn't know how many tags a client has, and so not whether its tag is for task management: there is a step for either kind.
 abbrev pub Takes : Step (Option Slip) → Sat → ℕ → Sat → Type 0
@@ -165,19 +172,25 @@ TakesTask s me found w = TakesOne IsTask s me found w
 abbrev pub Took : ℕ → ℕ → WorkView → ℕ → Sat → Type 0
 Took tags t v n w = (x : Slip) × IsAsk tags (t + 1) n x × IsAbove v n × (w ≡ (Work t (Claimed n), (t, Some x) ∷ []))
 
--- the slot comes with an end of the ticket, where the word was done with it
+-- a client's seat after so many looks at its tag that found no end
+abbrev pub overlooked : ℕ → ClientView → ClientView
+overlooked more Waiting = Waiting
+overlooked more (Free n) = Free n
+overlooked more (Open n x looks) = Open n x (looks + more)
+
+-- the slot comes with an end of the ticket, where the word was done with it; elsewhere the seat counts the look
 abbrev pub Looks : Step (Option Slip) → Sat → ℕ → Sat → Type 0
 Looks s me found w = MatchBool (found == s.first)
     ((y : Slip) × IsEnd (s.word + 1) (s.first / 4) y × (w ≡ (Client s.word (Free (s.first / 4 + 1)), (s.word, Some y) ∷ [])))
-    (w ≡ me)
+    (w ≡ (Client s.word (overlooked 1 (client_in me.0)), me.1))
 
 -- what was posted, or finished by this very seat, comes back
 abbrev pub IsSettled : ClientView → WorkView → ℕ → Slip → Type 0
 IsSettled Waiting w found z = ⊥
 IsSettled (Free n) w found z = ⊥
-IsSettled (Open n x) Idle found z = (found ≡ posted_word n) × (z ≡ x)
-IsSettled (Open n x) (Claimed m) found z = ⊥
-IsSettled (Open n x) (Finished m y) found z = ((found ≡ posted_word n) × (m < n) × (z ≡ x)) ⊎ ((found ≡ done_word n) × (m ≡ n) × (z ≡ y))
+IsSettled (Open n x looks) (Idle missed) found z = (found ≡ posted_word n) × (z ≡ x)
+IsSettled (Open n x looks) (Claimed m) found z = ⊥
+IsSettled (Open n x looks) (Finished m y missed) found z = ((found ≡ posted_word n) × (m < n) × (z ≡ x)) ⊎ ((found ≡ done_word n) × (m ≡ n) × (z ≡ y))
 
 -- the word index of the seat's tag
 abbrev pub index_in : View → ℕ
@@ -194,7 +207,7 @@ abbrev pub dealt_less : View → View
 dealt_less v = Dealer (index_in v + 1)
 
 abbrev pub dealt : View → View
-dealt v = Both (index_in v) Waiting Idle
+dealt v = Both (index_in v) Waiting (Idle [])
 
 abbrev pub clients_part : View → View
 clients_part v = Client (index_in v) (client_in v)

@@ -10,7 +10,7 @@ use Rattle.tag_desk.specs.declared.rule.WorkView.{WorkView}
 use Rattle.tag_desk.specs.declared.rule.WorkView.TheVariants.{Idle, Claimed, Finished}
 use Rattle.tag_desk.specs.declared.rule.View.TheVariants.{Client, Work}
 use Rattle.tag_desk.specs.declared.rule.TagCounts.{TagCounts}
-use Rattle.tag_desk.specs.Rule.{Sat, IsAbove}
+use Rattle.tag_desk.specs.Rule.{Sat, IsAbove, noting, overlooked}
 use Rattle.tag_desk.specs.Slips.{IsAsk, IsEnd, ticket_in}
 use Rattle.uas_profile.specs.declared.TheConstants.{MAX_CLIENTS, STREAMS}
 use Rattle.uas_profile.specs.Tags.{AreTags, client_of, slot_of}
@@ -54,23 +54,23 @@ IsFree v = (last : ℕ) × (v ≡ Free last)
 abbrev pub slots_at : ℕ → ClientView → List (ℕ × Option Slip)
 slots_at t Waiting = []
 slots_at t (Free n) = (t, None) ∷ []
-slots_at t (Open n x) = []
+slots_at t (Open n x looks) = []
 
 abbrev pub open_ticket : ClientView → Option ℕ
 open_ticket Waiting = None
 open_ticket (Free n) = None
-open_ticket (Open n x) = Some n
+open_ticket (Open n x looks) = Some n
 
 -- the least number above all tickets that the client posted on its tag
 abbrev pub next_ticket : ClientView → ℕ
 next_ticket Waiting = 0
 next_ticket (Free next) = next
-next_ticket (Open n x) = n + 1
+next_ticket (Open n x looks) = n + 1
 
 abbrev pub IsDealt : ClientView → Type 0
 IsDealt Waiting = ⊥
 IsDealt (Free n) = Unit {0}
-IsDealt (Open n x) = n < 2 ^ 60
+IsDealt (Open n x looks) = n < 2 ^ 60
 
 abbrev pub client_sat : ℕ → ClientView → Sat
 client_sat t v = (Client t v, slots_at t v)
@@ -87,13 +87,17 @@ claim_sat t n = (Work t (Claimed n), (t, None) ∷ [])
 
 -- a pump's seat that isn't out with a claim
 abbrev pub IsHome : WorkView → Type 0
-IsHome Idle = Unit {0}
+IsHome (Idle missed) = Unit {0}
 IsHome (Claimed n) = ⊥
-IsHome (Finished n y) = Unit {0}
+IsHome (Finished n y missed) = Unit {0}
+
+-- the slip is posted with the ticket, however often its end was looked for
+abbrev pub IsOpenWith : ℕ → Slip → ClientView → Type 0
+IsOpenWith n x view = (looks : ℕ) × (view ≡ Open n x looks)
 
 -- a look that gave a slip: it ends the ticket that was open, and the tag is free after it
 abbrev pub Reaps : ClientLine → ClientLine → Slip → Type 0
-Reaps old new y = (n : ℕ) × (x : Slip) × (old.view ≡ Open n x) × IsEnd (old.index + 1) n y × (new ≡ record old { view = Free (n + 1) })
+Reaps old new y = (n : ℕ) × (x : Slip) × IsOpenWith n x old.view × IsEnd (old.index + 1) n y × (new ≡ record old { view = Free (n + 1) })
 
 abbrev pub IsClaimOf : ℕ → WorkLine → ℕ → HeldClaim → Type 0
 IsClaimOf tags line ticket claim = (x : Slip) × IsAsk tags (line.index + 1) ticket x
@@ -141,9 +145,9 @@ IsClientOf desk seat = (seat.client < desk.clients)
 
 -- the ticket that a pump finished last on a tag, 0 where it finished none or its line is out
 abbrev pub finished_in : WorkView → ℕ
-finished_in Idle = 0
+finished_in (Idle missed) = 0
 finished_in (Claimed n) = 0
-finished_in (Finished n y) = n
+finished_in (Finished n y missed) = n
 
 abbrev pub finished_ticket : Option WorkLine → ℕ
 finished_ticket None = 0
@@ -151,9 +155,9 @@ finished_ticket (Some line) = finished_in line.view
 
 -- the ticket that the slip names with which it finished
 abbrev pub ended_in : WorkView → ℕ
-ended_in Idle = 0
+ended_in (Idle missed) = 0
 ended_in (Claimed n) = 0
-ended_in (Finished n y) = ticket_in y
+ended_in (Finished n y missed) = ticket_in y
 
 abbrev pub ended_ticket : Option WorkLine → ℕ
 ended_ticket None = 0
@@ -187,13 +191,30 @@ with_view (line ∷ lines) (suc k) v = line ∷ with_view lines k v
 
 -- the seat after a post
 abbrev pub posting : Customer → ℕ → ℕ → Slip → Customer
-posting seat tag ticket x = record seat { least_ticket = ticket + 1; lines = with_view seat.lines (slot_of seat.tags tag) (Open ticket x) }
+posting seat tag ticket x = record seat { least_ticket = ticket + 1; lines = with_view seat.lines (slot_of seat.tags tag) (Open ticket x 0) }
 
 -- a look that gave a slip: it ends the ticket that was open on the tag, and the tag is free after it
 abbrev pub ReapsAt : Customer → Customer → ℕ → Slip → Type 0
-ReapsAt old new tag y = (line : ClientLine) × (n : ℕ) × (x : Slip) × (slice_get old.lines (slot_of old.tags tag) ≡ Some line) × (line.view ≡ Open n x)
+ReapsAt old new tag y = (line : ClientLine) × (n : ℕ) × (x : Slip) × (slice_get old.lines (slot_of old.tags tag) ≡ Some line) × IsOpenWith n x line.view
     × IsEnd tag n y
     × (new ≡ record old { lines = with_view old.lines (slot_of old.tags tag) (Free (n + 1)) })
+
+abbrev pub looked_lines : ℕ → List ClientLine → ℕ → List ClientLine
+looked_lines looks [] k = []
+looked_lines looks (line ∷ lines) zero = record line { view = overlooked looks line.view } ∷ lines
+looked_lines looks (line ∷ lines) (suc k) = line ∷ looked_lines looks lines k
+
+-- the seat after so many looks at a tag that gave nothing: where a ticket is open there, each of them found no end of it
+abbrev pub overlooking : ℕ → Customer → ℕ → Customer
+overlooking looks seat tag = record seat { lines = looked_lines looks seat.lines (slot_of seat.tags tag) }
+
+abbrev pub missed_line : ℕ → Option WorkLine → Option WorkLine
+missed_line ticket None = None
+missed_line ticket (Some line) = Some (record line { view = noting ticket line.view })
+
+-- the seat after a claim that wasn't given: where its line of the tag is home, it found the tag not posted with the ticket
+abbrev pub missing : Server → ℕ → ℕ → Server
+missing seat tag ticket = record seat { lines = slice_set seat.lines (tag - 1) (missed_line ticket (slice_index_or seat.lines (tag - 1) None)) }
 
 -- a claim that was given: it holds an ask of the ticket, and the pump's line is out with it
 abbrev pub ClaimsAt : ℕ → Server → Server → ℕ → ℕ → HeldClaim → Type 0
@@ -214,7 +235,7 @@ finishing seat claim y = record seat {
     table = claim.table;
     index = claim.tag - 1;
     view =
-        Finished claim.ticket y;
+        Finished claim.ticket y [];
   });
 }
 
@@ -235,7 +256,7 @@ server_line desk p below t = if nat_lt t below then (if client_of desk.tags (suc
   table = desk.table;
   index = t;
   view =
-      Idle;
+      Idle [];
 } else None) else None
 
 pub record IsServerBelow (desk : MadeDesk) (below p : ℕ) (seat : Server) : Type 0 where

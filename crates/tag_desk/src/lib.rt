@@ -25,8 +25,9 @@
 //! specs/Seats.antt). What `look` gives is an end of the ticket that the client posted, once. `close` tells what stands at each
 //! tag, and of a claim that is out the ticket alone. Whatever a client did, each ticket that it posted was looked up or stands
 //! in one of the lists that `close` gives, once (`KeepsTickets` in specs/History.antt). A `Slip` is neither `Copy` nor `Clone`:
-//! it is moved from one hand to the next. No call waits or scans, and `with_tags` and `close` alone take memory. That `claim` and
-//! `look` find a slip at all is no clause: a body that never gives one is refused by a test.
+//! it is moved from one hand to the next. No call waits or scans, and `with_tags` and `close` alone take memory. A `claim` or a `look`
+//! that gives nothing leaves a note of the tag and its ticket in the seat, which only the step on the tag's word writes, and only where
+//! the word was another (`missing` and `overlooking` in specs/Seats.antt).
 //!
 //! It stands on `scsi_cmd` for requests and replies, and on `atomic_table`.
 #![tactic(auto)]
@@ -34,7 +35,7 @@
 ghost use Rattle.std.specs.Prelude.{◌≡◌, ℕ, ◌+◌, ◌-◌, ◌*◌, ◌/◌, ◌%◌, ◌^◌, ◌<◌, ◌≤◌, length, IfOk, IfSome, MatchOption, MatchResult, ◌⊎◌, All, IsTrue, ◌↔◌};
 ghost use Rattle.tag_desk.specs.Slips.{ticket_in, IsAsk, IsEnd};
 ghost use Rattle.tag_desk.specs.Seats.{IsClientOf, IsPumpOf, IsTagOf, IsServed, IsAllFree, IsFreeAt, IsAway};
-ghost use Rattle.tag_desk.specs.Seats.{posting, finishing, ReapsAt, ClaimsAt, IsAboveLast, AreNewCustomers, AreServersBelow};
+ghost use Rattle.tag_desk.specs.Seats.{posting, finishing, overlooking, missing, ReapsAt, ClaimsAt, IsAboveLast, AreNewCustomers, AreServersBelow};
 ghost use Rattle.tag_desk.specs.Left.{HasEachClientOf, HasEachPumpOf, IsAllClientsOf, IsAllPumpsOf, left_of, seat_of};
 ghost use Rattle.tag_desk.specs.History.{KeepsTickets};
 ghost use Rattle.uas_profile.specs.declared.TheConstants.{MAX_CLIENTS, STREAMS, USUAL_CLIENTS};
@@ -295,11 +296,11 @@ impl Desk {
     }
 
     /// The slip with which the pump finished the ticket that is open on a tag of the client, after which the tag is
-    /// free; nothing where it didn't finish yet, or the tag is free.
+    /// free; nothing where it didn't finish yet, which the seat counts then, or the tag is free.
     pub fn look(&self, seat: &mut ClientSeat, tag: u16) -> Option<Slip>
         requires own { IsClientOf self.now seat.old }
         requires tag { IsTagOf seat.old.tags seat.old.client tag }
-        ensures slip { MatchOption result (seat.new ≡ seat.old) (ReapsAt seat.old seat.new tag) }
+        ensures slip { MatchOption result (seat.new ≡ overlooking 1 seat.old tag) (ReapsAt seat.old seat.new tag) }
         ensures own { IsClientOf self.now seat.new }
         ensures free { IfSome result (λ slip. IsFreeAt seat.new tag) }
     {
@@ -307,14 +308,14 @@ impl Desk {
         seat.lines[slot_of(seat.tags, tag)].look(self, index)
     }
 
-    /// The claim of a ticket on a tag that the pump serves, where the client has it posted; nothing where it hasn't, or
-    /// the tag's claim is out. The tickets that are claimed on a tag rise.
+    /// The claim of a ticket on a tag that the pump serves, where the client has it posted; nothing where it hasn't, which the seat
+    /// notes then, or the tag's claim is out. The tickets that are claimed on a tag rise.
     pub fn claim(&self, seat: &mut WorkSeat, tag: u16, ticket: u64) -> Option<Claim>
         requires own { IsPumpOf self.now seat.old }
         requires served { IsServed self.now seat.old tag }
         requires ticket { ticket < 2 ^ 60 }
         ensures same { IfSome result (λ claim. claim.table ≡ self.now.table) }
-        ensures claim { MatchOption result (seat.new ≡ seat.old) (ClaimsAt self.now.tags seat.old seat.new tag ticket) }
+        ensures claim { MatchOption result (seat.new ≡ missing seat.old tag ticket) (ClaimsAt self.now.tags seat.old seat.new tag ticket) }
         // It is above the ticket that the seat finished there last, so that none is claimed twice.
         ensures above { IfSome result (λ claim. IsAboveLast seat.old tag ticket) }
         ensures own { IsPumpOf self.now seat.new }

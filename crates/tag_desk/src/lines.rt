@@ -1,12 +1,12 @@
 //! What a client and a pump have of one tag, and the steps of each on its word.
-ghost use Rattle.std.specs.Prelude.{◌≡◌, ℕ, ◌+◌, ◌-◌, ◌*◌, ◌^◌, ◌<◌, ◌≤◌, Some, IfOk, IfSome, MatchBool, MatchOption, MatchResult, IsTrue, ◌↔◌};
+ghost use Rattle.std.specs.Prelude.{◌≡◌, ℕ, ◌+◌, ◌-◌, ◌*◌, ◌^◌, ◌<◌, ◌≤◌, [], Some, IfOk, IfSome, MatchBool, MatchOption, MatchResult, IsTrue, ◌↔◌};
 ghost use Rattle.tag_desk.specs.declared.rule.ClientView.TheVariants.{Open};
 ghost use Rattle.tag_desk.specs.declared.rule.WorkView.TheVariants.{Finished};
 ghost use Rattle.tag_desk.specs.Slips.{IsAsk, IsEnd};
 ghost use Rattle.tag_desk.specs.declared.rule.WorkView.TheVariants.{Idle};
 ghost use Rattle.tag_desk.specs.declared.rule.View.TheVariants.{Dealer};
 ghost use Rattle.tag_desk.specs.declared.Slip.{Slip};
-ghost use Rattle.tag_desk.specs.Rule.{client_in, work_in, IsAbove, Took};
+ghost use Rattle.tag_desk.specs.Rule.{client_in, work_in, IsAbove, Took, noting, overlooked};
 ghost use Rattle.tag_desk.specs.Seats.{IsFree, Reaps, IsClaimOf, client_sat, work_sat, new_line, next_ticket};
 ghost use Rattle.tag_desk.specs.Left.{standing};
 
@@ -82,7 +82,7 @@ impl Line {
         requires ticket { ticket < 2 ^ 60 }
         requires later { next_ticket self.old.view ≤ ticket }
         requires ask { IsAsk desk.now.tags (index + 1) ticket slip }
-        ensures { self.new ≡ record self.old { view = Open ticket slip } }
+        ensures { self.new ≡ record self.old { view = Open ticket slip 0 } }
     {
         let shared = &desk.table.shared;
         drop(shared.exchange(&mut self.seat, index, Some(slip)));
@@ -96,12 +96,12 @@ impl Line {
         self.posted.is_none()
     }
 
-    /// The slip with which the pump finished, where it did.
+    /// The slip with which the pump finished, where it did; elsewhere the look is counted.
     pub(crate) fn look(&mut self, desk: &Desk, index: usize) -> Option<Slip>
         requires table { self.old.table ≡ desk.now.table }
         requires index { self.old.index ≡ index }
         requires within { index < desk.now.tags * desk.now.clients }
-        ensures { MatchOption result (self.new ≡ self.old) (λ slip. Reaps self.old self.new slip) }
+        ensures { MatchOption result (self.new ≡ record self.old { view = overlooked 1 self.old.view }) (λ slip. Reaps self.old self.new slip) }
     {
         let ticket = self.posted?;
         let shared = &desk.table.shared;
@@ -134,13 +134,13 @@ impl Line {
 }
 
 impl Work {
-    /// The claim of the ticket, where it is posted; else the seat comes back.
+    /// The claim of the ticket, where it is posted; else the seat comes back, with a note that it wasn't.
     pub(crate) fn claim(self, desk: &Desk, tag: u16, ticket: u64) -> Result<Claim, Work>
         requires table { self.table ≡ desk.now.table }
         requires tag { tag ≡ self.index + 1 }
         requires within { tag ≤ desk.now.tags * desk.now.clients }
         requires ticket { ticket < 2 ^ 60 }
-        ensures claim { MatchResult result (λ claim. IsClaimOf desk.now.tags self ticket claim) (λ work. work ≡ self) }
+        ensures claim { MatchResult result (λ claim. IsClaimOf desk.now.tags self ticket claim) (λ work. work ≡ record self { view = noting ticket self.view }) }
         ensures above { IfOk result (λ claim. IsAbove self.view ticket) }
     {
         let Work { mut seat } = self;
@@ -163,7 +163,7 @@ impl Work {
         requires low { 1 ≤ claim.tag }
         requires within { claim.tag ≤ desk.now.tags * desk.now.clients }
         requires end { IsEnd claim.tag claim.ticket slip }
-        ensures { result ≡ record { table = claim.table; index = claim.tag - 1; view = Finished claim.ticket slip } }
+        ensures { result ≡ record { table = claim.table; index = claim.tag - 1; view = Finished claim.ticket slip [] } }
     {
         let Claim {
             mut seat,
@@ -184,7 +184,7 @@ impl Work {
         requires table { (self.table ≡ desk.now.table) × (seat.table_id ≡ desk.now.table) }
         requires index { self.index ≡ index }
         requires within { index < desk.now.tags * desk.now.clients }
-        requires client { (x : Slip) × (seat.me ≡ client_sat index (Open ticket x)) }
+        requires client { (x : Slip) × (looks : ℕ) × (seat.me ≡ client_sat index (Open ticket x looks)) }
         requires ticket { ticket < 2 ^ 60 }
         ensures { result ≡ standing (client_in seat.me.0) (Some self) }
     {
@@ -203,7 +203,7 @@ impl Work {
     }
 }
 
-/// Whether the ticket is posted on the tag; then it is taken. What is posted there is told by the tag's kind.
+/// Whether the ticket is posted on the tag; then it is taken, else the seat notes that it isn't. What is posted there is told by the tag's kind.
 fn takes(desk: &Desk, seat: &mut TableSeat, tag: u16, ticket: u64) -> bool
     requires table { seat.old.table_id ≡ desk.now.table }
     requires low { 1 ≤ tag }
@@ -211,7 +211,7 @@ fn takes(desk: &Desk, seat: &mut TableSeat, tag: u16, ticket: u64) -> bool
     requires pump { seat.old.me ≡ work_sat (tag - 1) (work_in seat.old.me.0) }
     requires ticket { ticket < 2 ^ 60 }
     ensures table { seat.new.table_id ≡ desk.now.table }
-    ensures took { MatchBool result (Took desk.now.tags (tag - 1) (work_in seat.old.me.0) ticket seat.new.me) (seat.new.me ≡ seat.old.me) }
+    ensures took { MatchBool result (Took desk.now.tags (tag - 1) (work_in seat.old.me.0) ticket seat.new.me) (seat.new.me ≡ work_sat (tag - 1) (noting ticket (work_in seat.old.me.0))) }
 {
     let index = usize::from(tag) - 1;
     let shared = &desk.table.shared;
@@ -230,7 +230,7 @@ pub(crate) fn deal(desk: &Desk, dealer: &mut TableSeat, index: usize) -> (Line, 
     requires table { dealer.old.table_id ≡ desk.now.table }
     requires next { dealer.old.me.0 ≡ Dealer index }
     ensures line { result.0 ≡ new_line desk.now.table index }
-    ensures work { result.1 ≡ record { table = desk.now.table; index = index; view = Idle } }
+    ensures work { result.1 ≡ record { table = desk.now.table; index = index; view = Idle [] } }
     ensures table { dealer.new.table_id ≡ desk.now.table }
     ensures next { dealer.new.me.0 ≡ Dealer (index + 1) }
 {

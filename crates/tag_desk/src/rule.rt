@@ -5,21 +5,23 @@ ghost use Rattle.tag_desk.specs.Rule.{Lifts, Posts, Takes, TakesTask, Finishes, 
 use crate::Slip;
 use atomic_table::{Join, Play, Split, Table, TableRule};
 use std::alloc::Global;
+use std::collections::LinkedList;
 
 /// What a client's seat knows of its tag: the slot is not dealt to it yet; the tag is free, and all tickets posted on
-/// it were below this number; or this slip is posted with this ticket, and its end isn't seen yet. No value of it is made, nor of the next two.
+/// it were below this number; or this slip is posted with this ticket, and so many looks found no end of it yet. No value of it is made, nor of
+/// the next two.
 pub enum ClientView {
     Waiting,
     Free(u64),
-    Open(u64, Slip),
+    Open(u64, Slip, u64),
 }
 
 /// What a pump's seat knows of a tag: it claimed nothing on it yet, it has the claim of this ticket, or it finished the
-/// claim of this ticket with this slip.
+/// claim of this ticket with this slip; and with which tickets it found the tag not posted since.
 pub enum WorkView {
-    Idle,
+    Idle(LinkedList<u64>),
     Claimed(u64),
-    Finished(u64, Slip),
+    Finished(u64, Slip, LinkedList<u64>),
 }
 
 /// What a seat at the table knows. The dealer has yet to deal the tags from a number on.

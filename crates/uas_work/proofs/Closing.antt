@@ -25,16 +25,16 @@ if_not_held true tag x y = refl
 if_not_held false tag x y = refl
 
 unclaimed_not_held : (tag n : ℕ) (x : Slip) (view : WorkView) → IsHome view → held_at tag (unclaimed n x view) ≡ []
-unclaimed_not_held tag n x Idle home = refl
+unclaimed_not_held tag n x (Idle missed) home = refl
 unclaimed_not_held tag n x (Claimed m) home = absurd home
-unclaimed_not_held tag n x (FinishedView m y) home = if_not_held (m == n) tag x y
+unclaimed_not_held tag n x (FinishedView m y missed) home = if_not_held (m == n) tag x y
 
 -- no claim stands at a tag whose line is home
 not_held : (tag : ℕ) (view : ClientView) (line : Option WorkLine) → IsHomeLine line → held_at tag (standing view line) ≡ []
 not_held tag Waiting line home = refl
 not_held tag (Free next) line home = refl
-not_held tag (Open n x) None home = absurd home
-not_held tag (Open n x) (Some line) home = unclaimed_not_held tag n x line.view home
+not_held tag (Open n x looks) None home = absurd home
+not_held tag (Open n x looks) (Some line) home = unclaimed_not_held tag n x line.view home
 
 mod_below : (t n : ℕ) → 0 < n → t % n < n
 mod_below t n some = grind arith

@@ -37,7 +37,7 @@ holds_set P (y ∷ ys) (suc k) (suc j) x d here there = holds_set P ys k j x d (
 
 -- CLAIMS
 
-at_moved : (desk : MadeDesk) (old new : Server) (k : ℕ) (o : Option HeldClaim) → new.pump ≡ old.pump
+pub at_moved : (desk : MadeDesk) (old new : Server) (k : ℕ) (o : Option HeldClaim) → new.pump ≡ old.pump
     → ((tag : ℕ) → tag ≡ k + 1 → IsAway old tag → IsAway new tag) → IsHeldAt desk old k o → IsHeldAt desk new k o
 at_moved desk old new k None same keeps h = tt
 at_moved desk old new k (Some claim) same keeps h = (h.0, h.1, (h.2.0, h.2.1, h.2.2 ∙ sym same), keeps claim.tag h.1 h.3)
@@ -91,7 +91,7 @@ held-finished desk seat held k line none it =
 pub held_ended : (desk : MadeDesk) (seat : Server) (held : List (Option HeldClaim)) (claim : HeldClaim) (end : Slip)
     → get_or held (claim.tag - 1) None ≡ None → AreHeldBy desk seat held → AreHeldBy desk (finishing seat claim end) held
 held_ended desk seat held claim end none it =
-    held-finished desk seat held (claim.tag - 1) (Some (record { table = claim.table; index = claim.tag - 1; view = Finished claim.ticket end })) none it
+    held-finished desk seat held (claim.tag - 1) (Some (record { table = claim.table; index = claim.tag - 1; view = Finished claim.ticket end [] })) none it
 
 -- a place that was emptied is empty
 pub none_at : (held : List (Option HeldClaim)) (k : ℕ) → get_or (set held k None) k None ≡ None

@@ -7,7 +7,7 @@ use Rattle.std.proofs.Math.ListN.{length-set}
 use Rattle.std.proofs.lemmas.Bool.{lt-ltb}
 use Rattle.std.proofs.lemmas.Grind.{get_or-set_at}
 use Rattle.std.proofs.lemmas.List.{get_or-set_other}
-use Rattle.uas_profile.specs.Tags.{client_of}
+use Rattle.uas_profile.specs.Tags.{client_of, slot_of}
 use Rattle.scsi_cmd.specs.declared.Reply.{Reply}
 use Rattle.scsi_cmd.specs.Replies.{reply_tag}
 use Rattle.shared_machine.specs.declared.Refusal.{Refusal}
@@ -18,7 +18,8 @@ use Rattle.tag_desk.specs.Seats.{MadeDesk, Server, WorkLine, HeldClaim, IsServer
 use Rattle.uas_work.specs.declared.Booking.{Booking}
 use Rattle.uas_work.specs.Booked.{BookedState}
 use Rattle.uas_work.specs.Held.{Pump, AreAccounted, AreAllHome, AreUnserved, GaveUp, IsHomeLine, answered, answered_at, is_claim_of, unserved_line}
-use Rattle.uas_work.specs.Pumps.{GaveUpIn, TookInOrLeft, brought, asked, claiming, emptied, submitted}
+use Rattle.uas_work.specs.Pumps.{GaveUpIn, TookInOrLeft, brought, asked, claiming, emptied, passing, submitted}
+use Rattle.uas_work.proofs.Passing.{passed_accounted, passed_length}
 
 -- LINES
 
@@ -57,7 +58,7 @@ gave_up_accounted desk old new count it gave =
 finished_accounted : (desk : MadeDesk) (tag ticket : ℕ) (end : Slip) (old : Pump) → AreAccounted desk old.seat old.held
     → AreAccounted desk (finishing (claiming tag old).seat (emptied desk tag ticket) end) old.held
 finished_accounted desk tag ticket end old it k within serves none =
-    home_again old.seat.lines (tag - 1) k None (Some (record { table = desk.table; index = tag - 1; view = Finished ticket end })) tt
+    home_again old.seat.lines (tag - 1) k None (Some (record { table = desk.table; index = tag - 1; view = Finished ticket end [] })) tt
     (it k within serves none)
 
 -- IT IS HELD
@@ -84,21 +85,25 @@ took_accounted : (took : Bool) (desk : MadeDesk) (client ticket : ℕ) (before a
     → length old.held ≡ desk.tags * desk.clients → AreAccounted desk old.seat old.held → TookInOrLeft desk client ticket before after old new took
     → AreAccounted desk new.seat new.held
 took_accounted true desk client ticket before after old new count it took =
-    subst (λ (p : Pump). AreAccounted desk p.seat p.held) (sym took.pump) (submitted_accounted desk took.tag ticket _ old count it)
+    subst (λ (p : Pump). AreAccounted desk p.seat p.held) (sym took.pump)
+    (submitted_accounted desk took.tag ticket _ (passing desk client ticket (slot_of desk.tags took.tag) old) count
+    (passed_accounted desk client ticket (slot_of desk.tags took.tag) old it))
 took_accounted false desk client ticket before after old new count it left =
-    subst (λ (p : Pump). AreAccounted desk p.seat p.held) (sym left.1) it
+    subst (λ (p : Pump). AreAccounted desk p.seat p.held) (sym left.1) (passed_accounted desk client ticket desk.tags old it)
 
 gave_up_in_accounted : (desk : MadeDesk) (client ticket : ℕ) (old new : Pump) → length old.seat.lines ≡ desk.tags * desk.clients
     → AreAccounted desk old.seat old.held → GaveUpIn desk client ticket old new → AreAccounted desk new.seat new.held
 gave_up_in_accounted desk client ticket old new count it gave =
     let claim : HeldClaim = emptied desk gave.tag ticket in
     let end : Slip = Unserved ticket (brought (asked client gave.tag gave.slip)) in
-    let line : Option WorkLine = Some (record { table = desk.table; index = gave.tag - 1; view = Finished ticket end }) in
-    let out : List (Option WorkLine) = set old.seat.lines (gave.tag - 1) None in
+    let line : Option WorkLine = Some (record { table = desk.table; index = gave.tag - 1; view = Finished ticket end [] }) in
+    let slots : ℕ = slot_of desk.tags gave.tag in
+    let mid : Pump = passing desk client ticket slots old in
+    let out : List (Option WorkLine) = set mid.seat.lines (gave.tag - 1) None in
     home_accounted desk new.seat new.held
-    (given_back_home desk (finishing (claiming gave.tag old).seat claim end) new.seat old.held
-    (length-set out (gave.tag - 1) line ∙ length-set old.seat.lines (gave.tag - 1) None ∙ count)
-    (finished_accounted desk gave.tag ticket end old it) gave.ends.ends)
+    (given_back_home desk (finishing (claiming gave.tag mid).seat claim end) new.seat old.held
+    (length-set out (gave.tag - 1) line ∙ length-set mid.seat.lines (gave.tag - 1) None ∙ passed_length desk client ticket slots old ∙ count)
+    (finished_accounted desk gave.tag ticket end mid (passed_accounted desk client ticket slots old it)) gave.ends.ends)
 
 -- what `pump_in` leaves
 pub in_accounted : (result : Result Bool Booking) (desk : MadeDesk) (client ticket : ℕ) (before after : BookedState) (old new : Pump)
@@ -115,7 +120,7 @@ in_accounted (Err booking) desk client ticket before after old new lines count i
 answered_claim : (desk : MadeDesk) (claim : HeldClaim) (end : Slip) (old : Pump) → length old.seat.lines ≡ desk.tags * desk.clients
     → AreAccounted desk old.seat old.held → AreAccounted desk (finishing old.seat claim end) (set old.held (claim.tag - 1) None)
 answered_claim desk claim end old count it k within serves none =
-    let line : Option WorkLine = Some (record { table = claim.table; index = claim.tag - 1; view = Finished claim.ticket end }) in
+    let line : Option WorkLine = Some (record { table = claim.table; index = claim.tag - 1; view = Finished claim.ticket end [] }) in
     dite (ℕ_discrete k (claim.tag - 1))
     (λ (e : k ≡ claim.tag - 1).
     subst IsHomeLine (sym (get_or-set_at old.seat.lines (claim.tag - 1) k line None e (omega (arith, e, count, within)))) tt)
@@ -158,7 +163,7 @@ if_lt a b x y h = ap (λ c. if c then x else y) (lt-ltb a b h)
 pub new_home : (desk : MadeDesk) (p : ℕ) (seat : Server) → IsServerBelow desk (desk.tags * desk.clients) p seat → AreAllHome desk seat
 new_home desk p seat new k within serves =
     let mine : client_of desk.tags (suc k) % desk.pumps ≡ p = serves ∙ new.pump in
-    let line : Option WorkLine = Some (record { table = desk.table; index = k; view = Idle }) in
+    let line : Option WorkLine = Some (record { table = desk.table; index = k; view = Idle [] }) in
     let here : (if client_of desk.tags (suc k) % desk.pumps == p then line else None) ≡ line =
     ap (λ b. if b then line else None) (eq-eqb (client_of desk.tags (suc k) % desk.pumps) p mine) in
     subst IsHomeLine

@@ -2,7 +2,9 @@ pub mod Counting
 pub mod Bookings
 pub mod Openings
 pub mod Holding
+pub mod Passing
 pub mod Taking
+pub mod Looking
 pub mod Numbers
 pub mod Rows
 pub mod Later

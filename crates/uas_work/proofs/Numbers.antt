@@ -9,6 +9,7 @@ use Rattle.uas_work.specs.declared.Booking.{Booking}
 use Rattle.uas_work.specs.Booked.{BookedState}
 use Rattle.uas_work.specs.Held.{Pump, GaveUp, answered, answered_at}
 use Rattle.uas_work.specs.Pumps.{GaveUpIn, TookInOrLeft, submitted}
+use Rattle.uas_work.proofs.Passing.{passed_number}
 
 if_number : (b : Bool) (one other : Pump) (n : ℕ) → one.seat.pump ≡ n → other.seat.pump ≡ n → (if b then one else other).seat.pump ≡ n
 if_number true one other n left right = left
@@ -28,14 +29,14 @@ answered_number (Some reply) old = answered_at_number (slice_index_or old.held (
 
 left_number : (took : Bool) (desk : MadeDesk) (client ticket : ℕ) (before after : BookedState) (old new : Pump)
     → TookInOrLeft desk client ticket before after old new took → new.seat.pump ≡ old.seat.pump
-left_number true desk client ticket before after old new took = ap (λ (p : Pump). p.seat.pump) took.pump ∙ submitted_number _ _ _
-left_number false desk client ticket before after old new left = ap (λ (p : Pump). p.seat.pump) left.1
+left_number true desk client ticket before after old new took = ap (λ (p : Pump). p.seat.pump) took.pump ∙ submitted_number _ _ _ ∙ passed_number desk client ticket _ old
+left_number false desk client ticket before after old new left = ap (λ (p : Pump). p.seat.pump) left.1 ∙ passed_number desk client ticket desk.tags old
 
 pub in_number : (result : Result Bool Booking) (desk : MadeDesk) (client ticket : ℕ) (before after : BookedState) (old new : Pump)
     → IfOk result (TookInOrLeft desk client ticket before after old new) → IfErr result (λ booking. GaveUpIn desk client ticket old new)
     → new.seat.pump ≡ old.seat.pump
 in_number (Ok took) desk client ticket before after old new done gave_up = left_number took desk client ticket before after old new done
-in_number (Err booking) desk client ticket before after old new done gave_up = gave_up.ends.ends.pump
+in_number (Err booking) desk client ticket before after old new done gave_up = gave_up.ends.ends.pump ∙ passed_number desk client ticket _ old
 
 pub out_number : (result : Result Bool Booking) (reply : Option Reply) (old new : Pump)
     → IfOk result (λ took. new ≡ answered reply old) → IfErr result (λ booking. GaveUp old new) → new.seat.pump ≡ old.seat.pump

@@ -12,7 +12,7 @@ use Rattle.tag_desk.specs.Seats.{MadeDesk, Server, HeldClaim, ClaimsAt, IsAway, 
 use Rattle.uas_work.specs.declared.Booking.{Booking}
 use Rattle.uas_work.specs.Booked.{BookedState, booked_step}
 use Rattle.uas_work.specs.Held.{Pump, AreHeldBy, ServesClient}
-use Rattle.uas_work.specs.Pumps.{Given, GaveUpIn, GaveUpWith, Submits, TookInOrLeft, asked, brought, claiming, emptied, submitted}
+use Rattle.uas_work.specs.Pumps.{Given, GaveUpIn, GaveUpWith, Submits, TookInOrLeft, asked, brought, claiming, emptied, passing, submitted}
 use Rattle.uas_work.proofs.Holding.{held-given}
 
 -- THE TAGS OF A CLIENT
@@ -44,6 +44,9 @@ placed_own tags client each owner slot tag is number same within =
 
 pub client_at : (tags client slot tag : ℕ) → slot < tags → tag ≡ tag_of tags (record { client = client; slot = slot }) → client_of tags tag ≡ client
 client_at tags client slot tag within is = ap (client_of tags) is ∙ (tag-of_its_place tags (record { client = client; slot = slot }) within).0
+
+pub slot_at : (tags client slot tag : ℕ) → slot < tags → tag ≡ tag_of tags (record { client = client; slot = slot }) → slot_of tags tag ≡ slot
+slot_at tags client slot tag within is = ap (slot_of tags) is ∙ (tag-of_its_place tags (record { client = client; slot = slot }) within).1
 
 pub served_at : (desk : MadeDesk) (seat : Server) (client slot tag : ℕ) → ServesClient desk seat client → slot < desk.tags
     → tag ≡ tag_of desk.tags (record { client = client; slot = slot }) → IsServed desk seat tag
@@ -121,34 +124,34 @@ pump_is : (desk : MadeDesk) (client ticket : ℕ) (claim : HeldClaim) (slip : Sl
 pump_is desk client ticket claim slip old mid it = λ i. record { seat = it.seat i; held = old.held }
 
 pub took_in : (desk : MadeDesk) (client ticket : ℕ) (claim : HeldClaim) (slip : Slip) (step : Step) (before after : BookedState) (old new : Pump)
-    (mid : Server) (result : Result Bool Booking) → Given desk client ticket claim slip old mid → step ≡ asked client claim.tag slip
+    (mid : Server) (result : Result Bool Booking) → Given desk client ticket claim slip (passing desk client ticket (slot_of desk.tags claim.tag) old) mid → step ≡ asked client claim.tag slip
     → IfOk result (λ took. took ≡ true) → IfOk result (λ took. after ≡ (booked_step before step).0)
     → IfOk result (λ took. new ≡ submitted (booked_step before step).1.refused claim (record { seat = mid; held = old.held }))
     → IfOk result (TookInOrLeft desk client ticket before after old new)
 took_in desk client ticket claim slip step before after old new mid (Ok true) it is told books pump = record {
   tag = claim.tag;
   slip = slip;
-  asks = it.asks;
+  asks = record { own = it.asks.own; free = it.asks.free; ask = it.asks.ask };
   booked = books ∙ ap (λ (s : Step). (booked_step before s).0) is;
   pump =
       pump ∙ ap (λ (s : Step). submitted (booked_step before s).1.refused claim (record { seat = mid; held = old.held })) is
-      ∙ ap (λ (p : Pump). submitted (booked_step before (asked client claim.tag slip)).1.refused claim p) (pump_is desk client ticket claim slip old mid it)
-      ∙ ap (λ (k : HeldClaim). submitted (booked_step before (asked client claim.tag slip)).1.refused k (claiming claim.tag old)) it.is;
+      ∙ ap (λ (p : Pump). submitted (booked_step before (asked client claim.tag slip)).1.refused claim p) (pump_is desk client ticket claim slip (passing desk client ticket (slot_of desk.tags claim.tag) old) mid it)
+      ∙ ap (λ (k : HeldClaim). submitted (booked_step before (asked client claim.tag slip)).1.refused k (claiming claim.tag (passing desk client ticket (slot_of desk.tags claim.tag) old))) it.is;
 }
 took_in desk client ticket claim slip step before after old new mid (Ok false) it is told books pump = absurd (let e : false ≡ true = told in cc)
 took_in desk client ticket claim slip step before after old new mid (Err booking) it is told books pump = tt
 
 pub gave_up_in : (desk : MadeDesk) (client ticket : ℕ) (claim : HeldClaim) (slip : Slip) (step : Step) (old new : Pump)
-    (mid : Server) (result : Result Bool Booking) → Given desk client ticket claim slip old mid → step ≡ asked client claim.tag slip
+    (mid : Server) (result : Result Bool Booking) → Given desk client ticket claim slip (passing desk client ticket (slot_of desk.tags claim.tag) old) mid → step ≡ asked client claim.tag slip
     → IfErr result (λ booking. GaveUpWith claim (brought step) (record { seat = mid; held = old.held }) new)
     → IfErr result (λ booking. GaveUpIn desk client ticket old new)
 gave_up_in desk client ticket claim slip step old new mid (Ok took) it is gave = tt
 gave_up_in desk client ticket claim slip step old new mid (Err booking) it is gave = record {
   tag = claim.tag;
   slip = slip;
-  asks = it.asks;
+  asks = record { own = it.asks.own; free = it.asks.free; ask = it.asks.ask };
   ends =
-      subst (λ (k : HeldClaim). GaveUpWith k (brought (asked client claim.tag slip)) (claiming claim.tag old) new) it.is
-      (subst (λ (p : Pump). GaveUpWith claim (brought (asked client claim.tag slip)) p new) (pump_is desk client ticket claim slip old mid it)
+      subst (λ (k : HeldClaim). GaveUpWith k (brought (asked client claim.tag slip)) (claiming claim.tag (passing desk client ticket (slot_of desk.tags claim.tag) old)) new) it.is
+      (subst (λ (p : Pump). GaveUpWith claim (brought (asked client claim.tag slip)) p new) (pump_is desk client ticket claim slip (passing desk client ticket (slot_of desk.tags claim.tag) old) mid it)
       (subst (λ (s : Step). GaveUpWith claim (brought s) (record { seat = mid; held = old.held }) new) is gave));
 }

@@ -4,7 +4,7 @@ use Rattle.scsi_cmd.specs.declared.Reply.{Reply}
 use Rattle.uas_profile.specs.declared.Place.{Place}
 use Rattle.uas_profile.specs.Tags.{tag_of}
 use Rattle.tag_desk.specs.declared.Slip.{Slip}
-use Rattle.tag_desk.specs.Seats.{Customer, ReapsAt}
+use Rattle.tag_desk.specs.Seats.{Customer, ReapsAt, overlooking}
 use Rattle.uas_work.specs.declared.parts.ClientPart.{ClientPart}
 use Rattle.uas_work.specs.Rounds.{kept_of}
 
@@ -15,6 +15,10 @@ pub record Account : Type 0 where
 
 abbrev pub account_of : ClientPart → Account
 account_of part = record { seat = part.seat; replies = part.replies.items }
+
+-- it looked at a tag so many times, and found no end of what is open there
+abbrev pub LookedInVain : ℕ → Customer → Customer → Type 0
+LookedInVain tag old new = (looks : ℕ) × (new ≡ overlooking looks old tag)
 
 -- it looked up the slip that ends the ticket that was open on a tag, which is free now, and kept what the slip brought
 abbrev pub Took : ℕ → Account → Account → Type 0

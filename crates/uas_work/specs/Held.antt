@@ -56,7 +56,7 @@ AreAccounted desk seat held = (k : ℕ) → k < desk.tags * desk.clients → cli
 abbrev pub unserved_line : Option HeldClaim → Option WorkLine → Option WorkLine
 unserved_line None line = line
 unserved_line (Some claim) line =
-    Some (record { table = claim.table; index = claim.tag - 1; view = Finished claim.ticket (Unserved claim.ticket []) })
+    Some (record { table = claim.table; index = claim.tag - 1; view = Finished claim.ticket (Unserved claim.ticket []) [] })
 
 -- a seat once the claim that was held, or none, is finished as unserved
 abbrev pub unserving : Option HeldClaim → Server → Server

@@ -1,9 +1,10 @@
 -- What each worker has of its own at the desk and at the board, and what it gives back.
-use Rattle.std.specs.Prelude.{◌≡◌, ℕ, ◌*◌, ◌<◌, ◌≤◌, List, length, slice_index_or, vec_len, vec_capacity}
+use Rattle.std.specs.Prelude.{◌≡◌, ℕ, ◌*◌, ◌<◌, ◌≤◌, true, List, length, slice_index_or, vec_len, vec_capacity}
 use Rattle.uas_profile.specs.declared.TheConstants.{MAX_CLIENTS}
 use Rattle.door_board.specs.Counts.{MadeBoard, IsSeatOf}
 use Rattle.tag_desk.specs.Seats.{MadeDesk, Customer, Server, IsClientOf, IsPumpOf}
 use Rattle.uas_work.specs.Held.{AreAccounted, AreAllHome, AreHeldBy}
+use Rattle.uas_work.specs.declared.parts.ClientBack.{ClientBack}
 use Rattle.uas_work.specs.declared.parts.ClientPart.{ClientPart}
 use Rattle.uas_work.specs.declared.parts.PumpPart.{PumpPart}
 use Rattle.uas_work.specs.declared.workers.Lists.{Lists}
@@ -68,10 +69,19 @@ pub record ArePumpParts (desk : MadeDesk) (board : MadeBoard) (parts : List Pump
   pub each : (k : ℕ) (d : PumpPart) → k < desk.pumps → IsPumpPart desk board (slice_index_or parts k d)
   pub order : (k : ℕ) (d : PumpPart) → k < desk.pumps → (slice_index_or parts k d).pump ≡ k
 
--- a client's worker was started with the promise of this client's seat, or gave that seat back
-abbrev pub IsStartedClient : MadeDesk → ℕ → StartedClient → Type 0
-IsStartedClient desk client (clients.Thread hand) = (hand.promise.desk.value ≡ desk) × (hand.promise.client ≡ client)
-IsStartedClient desk client (clients.Here back) = IsSeatOfClient desk client back.seat
+-- a client that took all its rounds brings a reply for each of its tickets, two a round
+abbrev pub BringsAll : ℕ → ClientBack → Type 0
+BringsAll rounds back = back.is_done ≡ true → vec_len back.replies ≡ 2 * rounds
+
+-- what a client's worker gives back: this client's seat, and all replies of so many rounds where it took them
+abbrev pub IsBackOf : MadeDesk → ℕ → ℕ → ClientBack → Type 0
+IsBackOf desk rounds client back = IsSeatOfClient desk client back.seat × BringsAll rounds back
+
+-- a client's worker was started with the promise of that, or gave it back
+abbrev pub IsStartedClient : MadeDesk → ℕ → ℕ → StartedClient → Type 0
+IsStartedClient desk rounds client (clients.Thread hand) =
+    (hand.promise.desk.value ≡ desk) × (hand.promise.rounds ≡ rounds) × (hand.promise.client ≡ client)
+IsStartedClient desk rounds client (clients.Here back) = IsBackOf desk rounds client back
 
 -- a pump's worker was started with the promise of this pump's seat, or gave that seat back
 abbrev pub IsStartedPump : MadeDesk → ℕ → StartedPump → Type 0
@@ -79,9 +89,9 @@ IsStartedPump desk pump (pumps.Thread hand) = (hand.promise.desk.value ≡ desk)
 IsStartedPump desk pump (pumps.Here seat) = IsSeatOfPump desk pump seat
 
 -- each client's worker was started, or gave its seat back, in order
-pub record AreStartedClients (desk : MadeDesk) (hands : List StartedClient) : Type 0 where
+pub record AreStartedClients (desk : MadeDesk) (rounds : ℕ) (hands : List StartedClient) : Type 0 where
   pub count : length hands ≡ desk.clients
-  pub each : (k : ℕ) (d : StartedClient) → k < desk.clients → IsStartedClient desk k (slice_index_or hands k d)
+  pub each : (k : ℕ) (d : StartedClient) → k < desk.clients → IsStartedClient desk rounds k (slice_index_or hands k d)
 
 -- each pump's worker was started, or gave its seat back, in order
 pub record AreStartedPumps (desk : MadeDesk) (hands : List StartedPump) : Type 0 where

@@ -1,5 +1,5 @@
 -- What a pump books of a client, and what becomes of the slip.
-use Rattle.std.specs.Prelude.{◌≡◌, ℕ, ◌-◌, ◌⊎◌, Bool, true, false, List, [], Option, Some, None, slice_index_or, slice_set}
+use Rattle.std.specs.Prelude.{◌≡◌, ℕ, zero, suc, ◌-◌, ◌⊎◌, Bool, true, false, List, [], Option, Some, None, slice_index_or, slice_set}
 use Rattle.std.specs.Option.{option_map_or}
 use Rattle.shared_machine.specs.declared.Refusal.{Refusal}
 use Rattle.shared_machine.specs.declared.Step.{Step}
@@ -7,7 +7,8 @@ use Rattle.shared_machine.specs.declared.Step.TheVariants.{Submit, Task, Command
 use Rattle.tag_desk.specs.declared.Slip.{Slip}
 use Rattle.tag_desk.specs.declared.Slip.TheVariants.{Ask, AskTask, Answer, Refused, Unserved}
 use Rattle.tag_desk.specs.Slips.{IsAsk}
-use Rattle.tag_desk.specs.Seats.{MadeDesk, Server, HeldClaim, IsAway, IsServed, IsTagOf, finishing}
+use Rattle.tag_desk.specs.Seats.{MadeDesk, Server, HeldClaim, IsAway, IsServed, IsTagOf, finishing, missing}
+use Rattle.uas_profile.specs.Tags.{slot_of, tag_of}
 use Rattle.shared_machine.specs.Shared.{due}
 use Rattle.uas_work.specs.Booked.{BookedState, booked_step, turns_in}
 use Rattle.uas_work.specs.Control.{IsLeft}
@@ -53,6 +54,21 @@ emptied desk tag ticket = record { table = desk.table; tag = tag; ticket = ticke
 abbrev pub claiming : ℕ → Pump → Pump
 claiming tag old = record old { seat = record old.seat { lines = slice_set old.seat.lines (tag - 1) None } }
 
+-- the seat once it looked on a tag for a ticket, which wasn't posted there; a tag of which a claim is held isn't looked at
+abbrev pub passed_at : ℕ → ℕ → Option HeldClaim → Server → Server
+passed_at tag ticket None seat = missing seat tag ticket
+passed_at tag ticket (Some claim) seat = seat
+
+-- and once it did so on the first so many of a client's tags, by rising index
+abbrev pub passed : MadeDesk → ℕ → ℕ → ℕ → Pump → Server
+passed desk client ticket zero old = old.seat
+passed desk client ticket (suc slot) old =
+    passed_at (tag_of desk.tags (record { client = client; slot = slot })) ticket
+    (slice_index_or old.held (tag_of desk.tags (record { client = client; slot = slot }) - 1) None) (passed desk client ticket slot old)
+
+abbrev pub passing : MadeDesk → ℕ → ℕ → ℕ → Pump → Pump
+passing desk client ticket slots old = record old { seat = passed desk client ticket slots old }
+
 -- the pump once a claim's slip is booked: the claim is held, or finished as refused with the fault and the buffer
 abbrev pub submitted : Option Refusal → HeldClaim → Pump → Pump
 submitted None claim old = record old { held = slice_set old.held (claim.tag - 1) (Some claim) }
@@ -78,25 +94,27 @@ pub record Given (desk : MadeDesk) (client ticket : ℕ) (claim : HeldClaim) (sl
   pub away : IsAway new claim.tag
   pub seat : new ≡ (claiming claim.tag old).seat
 
--- one slip of the client with this ticket was claimed, and its step is booked
+-- one slip of the client with this ticket was claimed, behind the tags below it, where it wasn't posted, and its step is booked
 pub record TookIn (desk : MadeDesk) (client ticket : ℕ) (before after : BookedState) (old new : Pump) : Type 0 where
   pub tag : ℕ
   pub slip : Slip
   pub asks : Asks desk.tags client ticket tag slip old
   pub booked : after ≡ (booked_step before (asked client tag slip)).0
-  pub pump : new ≡ submitted (booked_step before (asked client tag slip)).1.refused (emptied desk tag ticket) (claiming tag old)
+  pub pump : new ≡ submitted (booked_step before (asked client tag slip)).1.refused (emptied desk tag ticket)
+      (claiming tag (passing desk client ticket (slot_of desk.tags tag) old))
 
--- one slip was booked, or nothing was done
+-- one slip was booked; or nothing, as none of the client's tags had the ticket posted when it was looked at
 abbrev pub TookInOrLeft : MadeDesk → ℕ → ℕ → BookedState → BookedState → Pump → Pump → Bool → Type 0
 TookInOrLeft desk client ticket before after old new true = TookIn desk client ticket before after old new
-TookInOrLeft desk client ticket before after old new false = (after ≡ before) × (new ≡ old)
+TookInOrLeft desk client ticket before after old new false = (after ≡ before) × (new ≡ passing desk client ticket desk.tags old)
 
 -- one slip of the client with this ticket was claimed, but couldn't be booked
 pub record GaveUpIn (desk : MadeDesk) (client ticket : ℕ) (old new : Pump) : Type 0 where
   pub tag : ℕ
   pub slip : Slip
   pub asks : Asks desk.tags client ticket tag slip old
-  pub ends : GaveUpWith (emptied desk tag ticket) (brought (asked client tag slip)) (claiming tag old) new
+  pub ends : GaveUpWith (emptied desk tag ticket) (brought (asked client tag slip))
+      (claiming tag (passing desk client ticket (slot_of desk.tags tag) old)) new
 
 -- WHAT A PUMP BOOKS OF A CLIENT UNDER A GATE
 

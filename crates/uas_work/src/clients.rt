@@ -1,8 +1,8 @@
 //! The part of a client: it posts its commands on the desk, so many at a time, and looks for what they came to.
 ghost use Rattle.std.specs.Prelude.{◌≡◌, ◌+◌, ◌*◌, ◌++◌, ◌≤◌, ◌<◌, ◌^◌, true, MatchOption, vec_len, vec_capacity};
 ghost use Rattle.tag_desk.specs.Seats.{IsTagOf, ReapsAt};
-ghost use Rattle.uas_work.specs.Batches.{Account, Took, TookInOrder, account_of};
-ghost use Rattle.uas_work.specs.Parts.{HasRoomForRounds, IsClientPart, IsSeatOfClient};
+ghost use Rattle.uas_work.specs.Batches.{Account, LookedInVain, Took, TookInOrder, account_of};
+ghost use Rattle.uas_work.specs.Parts.{BringsAll, HasRoomForRounds, IsClientPart, IsSeatOfClient};
 ghost use Rattle.uas_work.specs.Rounds.{IsDepth, kept_of};
 
 use crate::desk_and_board::DeskAndBoard;
@@ -38,13 +38,19 @@ impl ClientPart {
         requires part { IsClientPart shared.now.desk shared.now.board self }
         requires depth { IsDepth shared.now.desk.tags depth }
         requires room { HasRoomForRounds rounds self }
-        ensures { IsSeatOfClient shared.now.desk self.client result.seat }
+        ensures seat { IsSeatOfClient shared.now.desk self.client result.seat }
+        ensures all { BringsAll rounds result }
     {
-        if self.took_rounds(rt, locked, shared, gate, rounds, depth) {
+        let is_done = self.took_rounds(rt, locked, shared, gate, rounds, depth);
+        if is_done {
             locked.client_done();
         }
         let ClientPart { seat, replies, .. } = self;
-        ClientBack { seat, replies }
+        ClientBack {
+            seat,
+            replies,
+            is_done,
+        }
     }
 
     /// Takes so many rounds, two tickets each: whether it came to their end.
@@ -63,6 +69,7 @@ impl ClientPart {
         ensures part { IsClientPart shared.now.desk shared.now.board self.new }
         ensures same { self.new.client ≡ self.old.client }
         ensures tickets { result ≡ true → self.new.tags.held.next ≡ self.old.tags.held.next + 2 * rounds }
+        ensures all { result ≡ true → vec_len self.new.replies ≡ 2 * rounds }
     {
         let all = 2 * u64::from(rounds);
         let mut next = 0;
@@ -96,6 +103,7 @@ impl ClientPart {
         ensures most { vec_len self.new.replies ≤ vec_len self.old.replies + count }
         ensures room { vec_capacity self.new.replies ≡ vec_capacity self.old.replies }
         ensures tickets { result ≡ true → self.new.tags.held.next ≡ self.old.tags.held.next + count }
+        ensures all { result ≡ true → vec_len self.new.replies ≡ vec_len self.old.replies + count }
         ensures taken { result ≡ true → (posted : Account) × TookInOrder shared.now.desk.tags self.old.client count posted (account_of self.new) }
     {
         if locked.is_over(gate, u32::from(self.client)) {
@@ -190,6 +198,7 @@ impl ClientPart {
         ensures most { vec_len self.new.replies ≤ vec_len self.old.replies + count }
         ensures room { vec_capacity self.new.replies ≡ vec_capacity self.old.replies }
         ensures tickets { self.new.tags.held.next ≡ self.old.tags.held.next }
+        ensures all { result ≡ true → vec_len self.new.replies ≡ vec_len self.old.replies + count }
         ensures taken { result ≡ true → TookInOrder shared.now.desk.tags self.old.client count (account_of self.old) (account_of self.new) }
     {
         let client = usize::from(self.client);
@@ -203,7 +212,7 @@ impl ClientPart {
         goes_on
     }
 
-    /// Looks for what a tag's command came to. Whether the client goes on. Asks for room for a reply.
+    /// Looks for what a tag's command came to. Whether the client goes on, which it does with a reply alone. Asks for room for one.
     fn took_one<J: Origin, R: Wait, G: Gate>(
         &mut self,
         rt: &R,
@@ -220,10 +229,20 @@ impl ClientPart {
         ensures one { vec_len self.new.replies ≤ vec_len self.old.replies + 1 }
         ensures room { vec_capacity self.new.replies ≡ vec_capacity self.old.replies }
         ensures tickets { self.new.tags.held.next ≡ self.old.tags.held.next }
+        ensures all { result ≡ true → vec_len self.new.replies ≡ vec_len self.old.replies + 1 }
         ensures taken { result ≡ true → Took tag (account_of self.old) (account_of self.new) }
     {
         match self.awaited(rt, locked, shared, gate, tag) {
-            Some(slip) => locked.may_tell(rt, gate, self.client) && self.took(slip, tag),
+            Some(slip) => {
+                if !locked.may_tell(rt, gate, self.client) {
+                    return false;
+                }
+                if self.took(slip, tag) {
+                    return true;
+                }
+                locked.end(Ended::Stopped);
+                false
+            }
             None => false,
         }
     }
@@ -243,13 +262,16 @@ impl ClientPart {
         ensures same { self.new.client ≡ self.old.client }
         ensures room { self.new.replies ≡ self.old.replies }
         ensures tags { self.new.tags ≡ self.old.tags }
-        ensures slip { MatchOption result (self.new.seat ≡ self.old.seat) (ReapsAt self.old.seat self.new.seat tag) }
+        ensures slip { MatchOption result (LookedInVain tag self.old.seat self.new.seat) (ReapsAt self.old.seat self.new.seat tag) }
     {
         for _ in rt.forever() {
             let is_last = locked.are_pumps_done();
-            let slip = self.looked(shared, tag);
-            if slip.is_some() || is_last {
-                return slip;
+            match self.looked(shared, tag) {
+                Some(slip) => return Some(slip),
+                None => {}
+            }
+            if is_last {
+                return None;
             }
             locked.park(rt, Worker::Client(usize::from(self.client)));
             if !locked.is_ended() && !gate.turn(u32::from(self.client)) {
@@ -268,19 +290,18 @@ impl ClientPart {
         ensures room { self.new.replies ≡ self.old.replies }
         ensures tag { IsTagOf self.new.seat.tags self.new.seat.client tag }
         ensures tags { self.new.tags ≡ self.old.tags }
-        ensures slip { MatchOption result (self.new.seat ≡ self.old.seat) (ReapsAt self.old.seat self.new.seat tag) }
+        ensures slip { MatchOption result (LookedInVain tag self.old.seat self.new.seat) (ReapsAt self.old.seat self.new.seat tag) }
     {
         for _ in 0..MOST_LOOKS {
-            let slip = shared.desk.look(&mut self.seat, tag);
-            if slip.is_some() {
-                return slip;
+            match shared.desk.look(&mut self.seat, tag) {
+                Some(slip) => return Some(slip),
+                None => spin_loop(),
             }
-            spin_loop();
         }
         None
     }
 
-    /// Keeps what a tag's command came to, and gives the tag back. Whether the client goes on. Asks for room for a reply.
+    /// Keeps what a tag's command came to, and gives the tag back: whether it was a reply. Asks for room for one.
     fn took(&mut self, slip: Slip, tag: u16) -> bool
         requires room { vec_len self.old.replies < vec_capacity self.old.replies }
         ensures kept { self.new.replies.items ≡ self.old.replies.items ++ kept_of slip }
@@ -288,6 +309,7 @@ impl ClientPart {
         ensures bell { self.new.bell ≡ self.old.bell }
         ensures client { self.new.client ≡ self.old.client }
         ensures one { vec_len self.new.replies ≤ vec_len self.old.replies + 1 }
+        ensures all { result ≡ true → vec_len self.new.replies ≡ vec_len self.old.replies + 1 }
         ensures capacity { vec_capacity self.new.replies ≡ vec_capacity self.old.replies }
         ensures tags { self.new.tags.tags ≡ self.old.tags.tags }
         ensures owner { self.new.tags.held.client ≡ self.old.tags.held.client }
@@ -301,8 +323,10 @@ impl ClientPart {
                 self.replies.push_reserved(reply);
                 true
             }
-            Slip::Refused { .. } => true,
-            Slip::Ask { .. } | Slip::AskTask { .. } | Slip::Unserved { .. } => false,
+            Slip::Ask { .. }
+            | Slip::AskTask { .. }
+            | Slip::Refused { .. }
+            | Slip::Unserved { .. } => false,
         }
     }
 }

@@ -1,5 +1,5 @@
 //! Joining the workers that give something back: each client's seat and replies, each pump's seat.
-ghost use Rattle.std.specs.Prelude.{◌≡◌, ◌≤◌, length, vec_len, vec_capacity};
+ghost use Rattle.std.specs.Prelude.{◌≡◌, ◌*◌, ◌≤◌, true, All, length, vec_len, vec_capacity};
 ghost use Rattle.tag_desk.specs.Left.{IsAllClientsOf, IsAllPumpsOf};
 ghost use Rattle.uas_work.specs.Parts.{ArePumpsHome, AreStartedClients, AreStartedPumps};
 
@@ -11,32 +11,38 @@ use tag_desk::{ClientSeat, WorkSeat};
 use uas_log::Replies;
 
 impl DeskAndBoard {
-    /// Joins the clients' workers: their seats and what each took, by number.
+    /// Joins the clients' workers, which were started for so many rounds: their seats and what each took, by number, and whether each took
+    /// all its rounds.
     pub(crate) fn joined_clients<R: Threads>(
         &self,
         rt: &R,
         hands: Vec<StartedClient>,
         mut seats: Vec<ClientSeat>,
         mut replies: Vec<Replies>,
-    ) -> (Vec<ClientSeat>, Vec<Replies>)
-        requires hands { AreStartedClients self.now.desk hands.items }
+        rounds: u32,
+    ) -> (Vec<ClientSeat>, Vec<Replies>, bool)
+        requires hands { AreStartedClients self.now.desk rounds hands.items }
         requires seats { (vec_len seats ≡ 0) × (self.now.clients ≤ vec_capacity seats) }
         requires replies { (vec_len replies ≡ 0) × (self.now.clients ≤ vec_capacity replies) }
         ensures seats { IsAllClientsOf self.now.desk result.0.items }
         ensures replies { length result.1.items ≡ self.now.clients }
+        ensures rounds { result.2 ≡ true → All (λ replies. length replies ≡ 2 * rounds) result.1.items }
     {
+        let mut are_done = true;
         for hand in hands {
             let ClientBack {
                 seat,
                 replies: taken,
+                is_done,
             } = match hand {
                 StartedClient::Thread(hand) => hand.join(rt),
                 StartedClient::Here(back) => back,
             };
             seats.push_reserved(seat);
             replies.push_reserved(Replies::from_vec(taken));
+            are_done &= is_done;
         }
-        (seats, replies)
+        (seats, replies, are_done)
     }
 
     /// Joins the pumps' workers: their seats, by number.

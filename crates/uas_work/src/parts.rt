@@ -24,9 +24,10 @@ pub(crate) struct PumpPart {
     pub(crate) bell: Seat,
 }
 
-/// What a client's worker gives back: its seat, and its replies in order.
+/// What a client's worker gives back: its seat, its replies in order, and whether it took all its rounds.
 #[derive(Drop)]
 pub(crate) struct ClientBack {
     pub(crate) seat: ClientSeat,
     pub(crate) replies: Vec<Reply>,
+    pub(crate) is_done: bool,
 }

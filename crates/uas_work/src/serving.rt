@@ -1,13 +1,13 @@
 //! The part of a pump: it books what its clients posted on the desk, and brings home what it came to.
 ghost use Rattle.std.specs.Prelude.{◌≡◌, ℕ, ◌+◌, ◌-◌, ◌*◌, ◌/◌, ◌<◌, ◌≤◌, ◌^◌, IfOk, IfErr, IfSome, IfNone, IsErrAnd, MatchResult, None, Some, false, true, length, slice_index_or};
-ghost use Rattle.uas_profile.specs.Tags.{client_of};
+ghost use Rattle.uas_profile.specs.Tags.{client_of, slot_of};
 ghost use Rattle.shared_machine.specs.declared.Step.{Step};
 ghost use Rattle.shared_machine.specs.Bus.{HasTicket};
 ghost use Rattle.shared_machine.specs.Shared.{due};
 ghost use Rattle.tag_desk.specs.Seats.{IsPumpOf, IsServed, IsAway};
 ghost use Rattle.uas_work.specs.Booked.{booked_step, turns_in};
 ghost use Rattle.uas_work.specs.Held.{AreHeldBy, ServesClient, GaveUp, answered};
-ghost use Rattle.uas_work.specs.Pumps.{TookInOrLeft, GaveUpIn, GaveUpWith, Given, Submits, asked, brought, handed_back, submitted};
+ghost use Rattle.uas_work.specs.Pumps.{TookInOrLeft, GaveUpIn, GaveUpWith, Given, Submits, asked, brought, handed_back, passed, passed_at, passing, submitted};
 
 use crate::{Booked, Booking, Held, PreparedStep};
 use bus_core::{Outcome, Step};
@@ -17,8 +17,8 @@ use std::alloc::Global;
 use tag_desk::{Claim, Desk, Slip, WorkSeat};
 use uas_profile::{Place, tag_of};
 
-/// Claims the slip that a client posted with its next ticket, and books what it asks for: whether there was one. The claim is
-/// held until its reply, or finished where the submission is refused. The client's tags are tried by rising index. Where the
+/// Claims the slip that a client posted with its next ticket, and books what it asks for: whether there was one, where each of the
+/// client's tags of which no claim is held was looked at. The claim is held until its reply, or finished where the submission is refused. The client's tags are tried by rising index. Where the
 /// step can't be booked, nothing is, and every claim is given back unserved, the new one with its buffer.
 pub fn pump_in(
     alloc: Global,
@@ -115,15 +115,17 @@ fn claimed(
     requires held { AreHeldBy desk.now seat.old held.now }
     requires client { ServesClient desk.now seat.old client }
     requires ticket { ticket < 2 ^ 60 }
-    ensures none { IfNone result (seat.new ≡ seat.old) }
+    ensures none { IfNone result (seat.new ≡ passed desk.now client ticket desk.now.tags (record { seat = seat.old; held = held.now })) }
     ensures own { IsPumpOf desk.now seat.new }
-    ensures given { IfSome result (λ given. Given desk.now client ticket given.0 given.1 (record { seat = seat.old; held = held.now }) seat.new) }
+    ensures given { IfSome result (λ given. Given desk.now client ticket given.0 given.1
+        (passing desk.now client ticket (slot_of desk.now.tags given.0.tag) (record { seat = seat.old; held = held.now })) seat.new) }
 {
     let tags = desk.tags();
     for slot in 0..tags {
         let tag = tag_of(tags, Place { client, slot });
-        if let Some(given) = claimed_at(desk, seat, held, tag, ticket) {
-            return Some(given);
+        match claimed_at(desk, seat, held, tag, ticket) {
+            Some(given) => return Some(given),
+            None => {}
         }
     }
     None
@@ -141,8 +143,9 @@ fn claimed_at(
     requires count { length held.now ≡ desk.now.tags * desk.now.clients }
     requires served { IsServed desk.now seat.old tag }
     requires ticket { ticket < 2 ^ 60 }
-    ensures none { IfNone result (seat.new ≡ seat.old) }
+    ensures none { IfNone result (seat.new ≡ passed_at tag ticket (slice_index_or held.now (tag - 1) None) seat.old) }
     ensures own { IsPumpOf desk.now seat.new }
+    ensures tag { IfSome result (λ given. given.0.tag ≡ tag) }
     ensures given { IfSome result (λ given. Given desk.now (client_of desk.now.tags tag) ticket given.0 given.1 (record { seat = seat.old; held = held.now }) seat.new) }
 {
     if !held.is_free(tag) {

@@ -1,9 +1,9 @@
 //! The workers: clients, pumps, controllers and a dispatcher in threads of their own, over one bus that is locked.
-ghost use Rattle.std.specs.Prelude.{◌≡◌, ◌≢◌, ◌<◌, ◌≤◌, [], IfOk, IfErr, IfSome, IfNone, length, vec_len, vec_capacity};
+ghost use Rattle.std.specs.Prelude.{◌≡◌, ◌≢◌, ◌*◌, ◌<◌, ◌≤◌, [], true, All, IfOk, IfErr, IfSome, IfNone, length, vec_len, vec_capacity};
 ghost use Rattle.tag_desk.specs.Left.{IsAllClientsOf, IsAllPumpsOf};
 ghost use Rattle.uas_work.specs.Booked.{IsBooked, IsLater};
 ghost use Rattle.uas_work.specs.Rounds.{IsDepth};
-ghost use Rattle.uas_work.specs.Parts.{AreClientParts, ArePumpParts, ArePumpsHome, AreStartedClients, AreStartedPumps, HasRoomFor, HasRoomForRounds, IsClientPart, IsPumpPart, IsSeatOfClient, IsSeatOfPump};
+ghost use Rattle.uas_work.specs.Parts.{AreClientParts, ArePumpParts, ArePumpsHome, AreStartedClients, AreStartedPumps, HasRoomFor, HasRoomForRounds, IsBackOf, IsClientPart, IsPumpPart, IsSeatOfPump};
 
 use crate::desk_and_board::{DeskAndBoard, Opened, open_desk_and_board};
 use crate::handed::Origin;
@@ -19,17 +19,18 @@ use std::thread::{Promise, PromisedHandle, Scope, SpawnError, Threads};
 use tag_desk::{ClientSeat, Desk, Left, Seats, WorkSeat};
 use uas_log::Replies;
 
-/// That a client's worker gives back the client's seat at this desk.
+/// That a client's worker gives back the client's seat at this desk, and all replies of so many rounds where it took them.
 #[derive(Drop)]
 pub(crate) struct ClientOf {
     desk: Snapshot<Desk>,
     client: u8,
+    rounds: u32,
 }
 
 impl Promise<ClientBack> for ClientOf {
-    ghost use Rattle.uas_work.specs.Parts.{IsSeatOfClient};
+    ghost use Rattle.uas_work.specs.Parts.{IsBackOf};
 
-    ghost kept_by = { λ promise back. IsSeatOfClient promise.desk.value promise.client back.seat };
+    ghost kept_by = { λ promise back. IsBackOf promise.desk.value promise.rounds promise.client back };
 }
 
 /// That a pump's worker gives back the pump's seat at this desk.
@@ -74,6 +75,8 @@ struct Lists {
 struct Backs {
     seats: Seats,
     replies: Vec<Replies>,
+    /// Whether each client took all its rounds.
+    are_done: bool,
 }
 
 /// Lets the clients of a bus, as many pumps and controllers as planned and one dispatcher work on it, each in a thread of its own,
@@ -95,6 +98,7 @@ pub fn spawn_all<R: Threads + Wait + Sync, G: Gate + Sync>(
     ensures later { IfOk result (λ finished. IsLater booked finished.booked) }
     ensures booked { IfOk result (λ finished. IsBooked finished.booked) }
     ensures replies { IfOk result (λ finished. length finished.replies.items ≡ length booked.bus.parts) }
+    ensures rounds { IfOk result (λ finished. finished.ended ≡ Ended.Done → All (λ replies. length replies ≡ 2 * plan.rounds) finished.replies.items) }
     ensures closed { IfOk result (λ finished. IfNone finished.left (finished.ended ≢ Ended.Done)) }
     ensures held { IfOk result (λ finished. IfSome finished.left (λ left. left.held ≡ [])) }
     ensures err { IfErr result (λ back. back.1 ≡ booked) }
@@ -128,6 +132,7 @@ fn finished<J: Origin + Send + Sync, R: Threads + Wait + Sync, G: Gate + Sync>(
     ensures later { IsLater J.first result.booked }
     ensures booked { IsBooked result.booked }
     ensures replies { length result.replies.items ≡ opened.shared.clients }
+    ensures rounds { result.ended ≡ Ended.Done → All (λ replies. length replies ≡ 2 * plan.rounds) result.replies.items }
     ensures closed { IfNone result.left (result.ended ≢ Ended.Done) }
     ensures held { IfSome result.left (λ left. left.held ≡ []) }
 {
@@ -138,11 +143,15 @@ fn finished<J: Origin + Send + Sync, R: Threads + Wait + Sync, G: Gate + Sync>(
     } = opened;
     let locked: LockedBus<J> = LockedBus::new(alloc, booked, shared.clients, shared.pumps);
     let backs = worked(rt, &locked, &shared, gate, plan, clients, pumps, lists);
-    let Backs { seats, replies } = backs;
+    let Backs {
+        seats,
+        replies,
+        are_done,
+    } = backs;
     let DeskAndBoard { desk, .. } = shared;
     let left = closed(alloc, desk, seats);
     let (booked, ended) = locked.into_parts();
-    let ended = ended_with(ended, &left);
+    let ended = ended_with(ended, &left, are_done);
     Finished {
         booked,
         replies,
@@ -151,13 +160,22 @@ fn finished<J: Origin + Send + Sync, R: Threads + Wait + Sync, G: Gate + Sync>(
     }
 }
 
-/// Why the workers ended; want of memory where nothing ended them and the desk couldn't be closed.
-fn ended_with(ended: Ended, left: &Option<Left>) -> Ended
-    ensures some { IfSome left.now (λ left. result ≡ ended) }
+/// Why the workers ended; where nothing ended them, want of memory where the desk couldn't be closed, and stopped where a client didn't take
+/// its rounds.
+fn ended_with(ended: Ended, left: &Option<Left>, are_done: bool) -> Ended
+    ensures some { IfSome left.now (λ left. are_done ≡ true → result ≡ ended) }
     ensures none { IfNone left.now (result ≢ Ended.Done) }
+    ensures all { result ≡ Ended.Done → are_done ≡ true }
 {
     match (ended, left) {
         (Ended::Done, None) => Ended::NoMemory,
+        (Ended::Done, Some(_)) => {
+            if are_done {
+                Ended::Done
+            } else {
+                Ended::Stopped
+            }
+        }
         _ => ended,
     }
 }
@@ -208,6 +226,7 @@ fn worked<'h, J: Origin + Send + Sync, R: Threads + Wait + Sync, G: Gate + Sync>
     ensures pumps { IsAllPumpsOf shared.now.desk result.seats.pumps.items }
     ensures home { ArePumpsHome shared.now.desk result.seats.pumps.items }
     ensures replies { length result.replies.items ≡ shared.now.clients }
+    ensures rounds { result.are_done ≡ true → All (λ replies. length replies ≡ 2 * plan.rounds) result.replies.items }
 {
     thread::scope(
         thread::scope_env(),
@@ -221,6 +240,7 @@ fn worked<'h, J: Origin + Send + Sync, R: Threads + Wait + Sync, G: Gate + Sync>
             ensures pumps { IsAllPumpsOf shared.entry.now.desk result.seats.pumps.items }
             ensures home { ArePumpsHome shared.entry.now.desk result.seats.pumps.items }
             ensures replies { length result.replies.items ≡ shared.entry.now.clients }
+            ensures rounds { result.are_done ≡ true → All (λ replies. length replies ≡ 2 * plan.rounds) result.replies.items }
         {
             let backs = started_and_joined(
                 scope, rt, locked, shared, gate, plan, clients, pumps, lists,
@@ -257,6 +277,7 @@ fn started_and_joined<
     ensures pumps { IsAllPumpsOf shared.now.desk result.seats.pumps.items }
     ensures home { ArePumpsHome shared.now.desk result.seats.pumps.items }
     ensures replies { length result.replies.items ≡ shared.now.clients }
+    ensures rounds { result.are_done ≡ true → All (λ replies. length replies ≡ 2 * plan.rounds) result.replies.items }
 {
     let Lists {
         clients: client_hands,
@@ -278,11 +299,18 @@ fn started_and_joined<
     );
     let pump_hands = start_pumps(scope, rt, locked, shared, gate, pumps, pump_hands);
     start_others(scope, rt, locked, shared, gate, plan.controllers);
-    let (clients, replies) = shared.joined_clients(rt, client_hands, client_seats, replies);
+    let (clients, replies, are_done) = shared.joined_clients(
+        rt,
+        client_hands,
+        client_seats,
+        replies,
+        plan.rounds,
+    );
     let pumps = shared.joined_pumps(rt, pump_hands, pump_seats);
     Backs {
         seats: Seats { clients, pumps },
         replies,
+        are_done,
     }
 }
 
@@ -301,7 +329,7 @@ fn start_clients<'s, 'h: 's, E, J: Origin + Send + Sync, R: Wait + Sync, G: Gate
     requires depth { IsDepth shared.now.desk.tags depth }
     requires parts { AreClientParts shared.now.desk shared.now.board rounds parts.items }
     requires room { (vec_len hands ≡ 0) × (shared.now.clients ≤ vec_capacity hands) }
-    ensures { AreStartedClients shared.now.desk result.items }
+    ensures { AreStartedClients shared.now.desk rounds result.items }
 {
     for part in parts {
         let desk = Snapshot::of(&shared.desk);
@@ -310,9 +338,16 @@ fn start_clients<'s, 'h: 's, E, J: Origin + Send + Sync, R: Wait + Sync, G: Gate
             requires part { IsClientPart shared.now.desk shared.now.board part }
             requires depth { IsDepth shared.now.desk.tags depth }
             requires room { HasRoomForRounds rounds part }
-            ensures { IsSeatOfClient shared.entry.now.desk part.client result.seat }
+            ensures { IsBackOf shared.entry.now.desk rounds part.client result }
         { part.work(rt, locked, shared, gate, rounds, depth) };
-        let hand = match scope.spawn_with(ClientOf { desk, client }, work) {
+        let hand = match scope.spawn_with(
+            ClientOf {
+                desk,
+                client,
+                rounds,
+            },
+            work,
+        ) {
             Ok(hand) => StartedClient::Thread(hand),
             Err(refused) => {
                 locked.end(Ended::NoThread);

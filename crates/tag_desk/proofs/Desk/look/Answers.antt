@@ -2,10 +2,10 @@ use Rattle.std.proofs.Common.{◌≡◌, ◌+◌, ◌<◌, length, set, sym, ap,
 use Rattle.std.proofs.lemmas.Option.{slice_get_read}
 use Rattle.tag_desk.specs.declared.rule.ClientView.TheVariants.{Free}
 use Rattle.tag_desk.specs.Slips.{IsEnd}
-use Rattle.tag_desk.specs.Seats.{Customer, ClientLine, IsClientOf, IsTagOf, with_view}
+use Rattle.tag_desk.specs.Seats.{Customer, ClientLine, IsClientOf, IsTagOf, with_view, looked_lines, overlooking}
 use Rattle.std.specs.Vec.{with_item}
 use Rattle.tag_desk.specs.contracts.ClientSeat.{the_view}
-use Rattle.tag_desk.proofs.Seating.{set_view, set_back, match_option, either_option, if_some, own_reaping, free_reaping}
+use Rattle.tag_desk.proofs.Seating.{set_view, set_looked, match_option, either_option, if_some, own_looking, own_reaping, free_reaping}
 use Rattle.tag_desk.proofs.Desk.look.Goals as goal
 use Rattle.tag_desk.proofs.Tags.{line_named, line_there, tag_within}
 use Rattle.uas_profile.specs.Tags.{slot_of}
@@ -57,13 +57,11 @@ returns-clause-slip c =
     (ap (slice_get seat.lines.items) (sym place) ∙ slice_get_read seat.lines.items
     (length seat.lines.items) k line (λ i. length seat.lines.items) within read) in
     match_option c.look.result
-    (λ same. (λ i. record {
-      client = seat.client;
-      tags = seat.tags;
-      least_ticket = seat.least_ticket;
-      lines = (ap (set seat.lines.items k) same
-          ∙ set_back seat.lines.items k line read) i;
-    }) ∙ c.seat.view_is)
+    (λ same.
+    let lines : set seat.lines.items k c.look.new.self ≡ looked_lines 1 seat.lines.items (slot_of seat.tags c.args.tag) =
+    ap (set seat.lines.items k) same ∙ set_looked 1 seat.lines.items k line within read ∙ ap (looked_lines 1 seat.lines.items) place in
+    (λ i. record { client = seat.client; tags = seat.tags; least_ticket = seat.least_ticket; lines = lines i })
+    ∙ ap (λ (s : Customer). overlooking 1 s c.args.tag) c.seat.view_is)
     (λ slip h.
     let n = h.0 in
     let lines : set seat.lines.items k c.look.new.self ≡ with_view seat.lines.items (slot_of seat.tags c.args.tag) (Free (n + 1)) =
@@ -97,7 +95,7 @@ returns-clause-own c =
       lines = with_item c.seat.inside.lines c.slot_of.result c.look.new.self;
     }) in
     either_option {C = IsClientOf desk new} c.look.result
-    (λ same. subst (IsClientOf desk) (sym same) c.requires.own)
+    (λ same. subst (IsClientOf desk) (sym same) (own_looking desk old 1 c.args.tag c.requires.own))
     (λ slip reaps. own_reaping desk old new c.args.tag slip c.requires.own reaps)
     (returns-clause-slip c)
 

@@ -53,9 +53,9 @@ returns-clause-seat c =
     let ticket = c.ticket-ticket.result in
     let there = line_there (the_view seat) c.args.tag c.seat.invariant in
     let place = c.slot_of.ensures in
-    let within = set_view seat.lines.items k c.index_mut.result.now (Open ticket slip) (omega arith) c.index_mut.ensures.value in
-    let lines : set seat.lines.items k c.post.new.self ≡ with_view seat.lines.items (slot_of seat.tags c.args.tag) (Open (ticket_in slip) slip) =
-    ap (set seat.lines.items k) c.post.ensures ∙ within ∙ (λ i. with_view seat.lines.items (place i) (Open (c.ticket-ticket.ensures i) slip)) in
+    let within = set_view seat.lines.items k c.index_mut.result.now (Open ticket slip 0) (omega arith) c.index_mut.ensures.value in
+    let lines : set seat.lines.items k c.post.new.self ≡ with_view seat.lines.items (slot_of seat.tags c.args.tag) (Open (ticket_in slip) slip 0) =
+    ap (set seat.lines.items k) c.post.ensures ∙ within ∙ (λ i. with_view seat.lines.items (place i) (Open (c.ticket-ticket.ensures i) slip 0)) in
     (λ i. record { client = seat.client; tags = seat.tags; least_ticket = c.ticket-ticket.ensures i + 1; lines = lines i })
     ∙ ap (λ (s : Customer). posting s c.args.tag (ticket_in slip) slip) c.seat.view_is
 
@@ -63,4 +63,4 @@ pub returns-clause-own : goal.returns-clause-own
 returns-clause-own c =
     let now = c.args.seat.now in
     subst (IsClientOf c.args.self.now) (sym (returns-clause-seat c)) (own_posting c.args.self.now now (slot_of now.tags c.args.tag) (ticket_in c.args.slip + 1)
-    (Open (ticket_in c.args.slip) c.args.slip) c.requires.own)
+    (Open (ticket_in c.args.slip) c.args.slip 0) c.requires.own)

@@ -31,7 +31,7 @@ load-requires c =
     let all = ap (λ (d : MadeDesk). d.tags * d.clients) c.desk.view_is in
     let split = c.split_seat-seat in
     let seat = split.result in
-    let me : seat.me ≡ (Both t Waiting Idle, []) = split.ensures.4 ∙ ap (λ (v : View). (dealt v, [])) c.requires.next in
+    let me : seat.me ≡ (Both t Waiting (Idle []), []) = split.ensures.4 ∙ ap (λ (v : View). (dealt v, [])) c.requires.next in
     let within : t < shared.key.all = omega arith in (
       split.ensures.3 ∙ c.requires.table ∙ sym table,
       omega arith,
@@ -49,5 +49,5 @@ split_seat-work-requires c =
     let view = ap (λ (m : Sat). m.0) c.load.ensures.2 in (
       c.load.ensures.0 ∙ c.split_seat-seat.ensures.3 ∙ c.requires.table ∙ sym table,
       omega arith,
-      subst (λ (v : View). Splits (IsDesk shared.key) seat.id v (clients_part v) (pumps_part v)) (sym view) (part_allowed shared.key seat.id t (Free 0) Idle),
+      subst (λ (v : View). Splits (IsDesk shared.key) seat.id v (clients_part v) (pumps_part v)) (sym view) (part_allowed shared.key seat.id t (Free 0) (Idle [])),
     )

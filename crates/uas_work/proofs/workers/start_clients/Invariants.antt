@@ -10,5 +10,5 @@ invariant-loop-part g l =
     × (shared.clients ≤ vec_capacity l.hands)
     × ((k : ℕ) (d : _) → k < into_iter_len rest → IsClientPart shared.desk shared.board (get_or (into_iter_items rest) k d))
     × ((k : ℕ) (d : _) → k < into_iter_len rest → (get_or (into_iter_items rest) k d).client ≡ done + k)
-    × ((k : ℕ) (d : _) → k < done → IsStartedClient shared.desk k (get_or (vec_items l.hands) k d))
+    × ((k : ℕ) (d : _) → k < done → IsStartedClient shared.desk l.rounds k (get_or (vec_items l.hands) k d))
     × ((k : ℕ) (d : _) → k < into_iter_len rest → HasRoomForRounds l.rounds (get_or (into_iter_items rest) k d))

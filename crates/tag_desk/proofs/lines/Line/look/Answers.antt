@@ -5,7 +5,7 @@ use Rattle.atomic_table.specs.Table.{Allows, step}
 use Rattle.tag_desk.specs.declared.Slip.{Slip}
 use Rattle.tag_desk.specs.declared.rule.ClientView.TheVariants.{Free}
 use Rattle.tag_desk.specs.declared.rule.View.TheVariants.{Client}
-use Rattle.tag_desk.specs.Rule.{IsDesk, Looks, Sat, index_in, client_in}
+use Rattle.tag_desk.specs.Rule.{IsDesk, Looks, Sat, index_in, client_in, overlooked}
 use Rattle.tag_desk.specs.Seats.{MadeDesk, ClientLine, Reaps}
 use Rattle.tag_desk.specs.Slips.{IsEnd}
 use Rattle.tag_desk.specs.contracts.lines.Line.{the_view}
@@ -27,8 +27,8 @@ compare_exchange-found-requires c =
       ap (λ (l : ClientLine). l.table) c.self.view_is ∙ c.requires.table ∙ sym table,
       omega arith,
       subst (λ (me : Sat). Allows (IsDesk shared.key) shared.table_id.slots seat.id me t (λ k. either (k == (4 * n + 3)) (4 * n) k) (Looks
-          (step shared.table_id.slots t (4 * n + 3) (4 * n) maybe.none) me)) (sym old.2)
-          (look_allowed shared.key shared.table_id.slots t seat.id n old.0 within),
+          (step shared.table_id.slots t (4 * n + 3) (4 * n) maybe.none) me)) (sym old.3)
+          (look_allowed shared.key shared.table_id.slots t seat.id n old.1 old.0 within),
     )
 
 pub exchange-requires : goal.exchange-requires
@@ -65,6 +65,6 @@ returns c =
     } =
     λ i. record { table = table i; index = (ap index_in view ∙ sym c.requires.index) i; view = client_in (view i) } in
     let reaped : Reaps c.args.self.now (the_view (record { seat = swap.new.seat; posted = None })) won.0 =
-    (n, old.0, sym (ap (λ (l : ClientLine). l.view) c.self.view_is) ∙ old.1, subst (λ k. IsEnd (k + 1) n won.0) (sym c.requires.index) won.1, line) in
-    subst (λ (o : Option Slip). MatchOption o (the_view (record { seat = swap.new.seat; posted = None }) ≡ c.args.self.now)
+    (n, old.0, (old.1, sym (ap (λ (l : ClientLine). l.view) c.self.view_is) ∙ old.2), subst (λ k. IsEnd (k + 1) n won.0) (sym c.requires.index) won.1, line) in
+    subst (λ (o : Option Slip). MatchOption o (the_view (record { seat = swap.new.seat; posted = None }) ≡ record c.args.self.now { view = overlooked 1 c.args.self.now.view })
     (λ slip. Reaps c.args.self.now (the_view (record { seat = swap.new.seat; posted = None })) slip)) (sym given) reaped

@@ -21,7 +21,7 @@ exchange-slip-requires c =
     let table = ap (λ (d : MadeDesk). d.table) c.desk.view_is in
     let same : c.from-index.result - 1 ≡ t = let e = c.from-index.ensures in omega arith in
     let won : Took c.args.desk.now.tags t (work_in c.self.inside.seat.me.0) n seat.me =
-    told_true _ (seat.me ≡ c.self.inside.seat.me) c.takes.result c.if-not-takes.false c.takes.ensures.took in (
+    told_true _ _ c.takes.result c.if-not-takes.false c.takes.ensures.took in (
       c.takes.ensures.table ∙ sym table,
       holds_one seat.me (Work t (Claimed n)) (c.from-index.result - 1) (Some won.0)
           (won.3 ∙ ap (λ k. let sat : Sat = (Work t (Claimed n), (k, Some won.0) ∷ []) in sat) (sym same)),

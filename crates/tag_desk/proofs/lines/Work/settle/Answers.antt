@@ -22,13 +22,13 @@ join_seat-requires c =
     let all = ap (λ (d : MadeDesk). d.tags * d.clients) c.desk.view_is in
     let index = ap (λ (l : WorkLine). l.index) c.self.view_is ∙ c.requires.index in
     let its : other.me ≡ (Work t w, []) = c.self.invariant.0 ∙ ap (λ k. work_sat k w) index in
-    let mine = c.requires.client.1 in (
+    let mine = c.requires.client.2 in (
       c.requires.table.1 ∙ sym table,
       ap (λ (l : WorkLine). l.table) c.self.view_is ∙ c.requires.table.0 ∙ sym table,
       ap (λ (m : Sat). m.1) its,
       omega arith,
       subst (λ (p : View × View). Joins (IsDesk shared.key) seat.id p.0 other.id p.1 (united p.0 p.1) Spent) (λ i. ((sym mine i).0, (sym its i).0))
-          (unite_allowed shared.key seat.id other.id t (Open c.args.ticket c.requires.client.0) w),
+          (unite_allowed shared.key seat.id other.id t (Open c.args.ticket c.requires.client.0 c.requires.client.1) w),
     )
 
 pub swap-found-requires : goal.swap-found-requires
@@ -43,14 +43,14 @@ swap-found-requires c =
     let all = ap (λ (d : MadeDesk). d.tags * d.clients) c.desk.view_is in
     let index = ap (λ (l : WorkLine). l.index) c.self.view_is ∙ c.requires.index in
     let its : other.me ≡ (Work t w, []) = c.self.invariant.0 ∙ ap (λ k. work_sat k w) index in
-    let mine = c.requires.client.1 in
-    let new : seat.me ≡ (Both t (Open c.args.ticket x) w, []) = c.join_seat.ensures.2 ∙ (λ i. (united (mine i).0 (its i).0, (mine i).1)) in
+    let mine = c.requires.client.2 in
+    let new : seat.me ≡ (Both t (Open c.args.ticket x c.requires.client.1) w, []) = c.join_seat.ensures.2 ∙ (λ i. (united (mine i).0 (its i).0, (mine i).1)) in
     let within : t < shared.key.all = omega arith in (
       c.join_seat.ensures.0 ∙ c.requires.table.1 ∙ sym table,
       omega arith,
       subst (λ (me : Sat). Allows (IsDesk shared.key) shared.table_id.slots seat.id me t (λ _. 0) (Settles
           (step shared.table_id.slots t 0 0 maybe.none) me)) (sym new)
-          (settle_allowed shared.key shared.table_id.slots t seat.id c.args.ticket x w within c.self.invariant.1),
+          (settle_allowed shared.key shared.table_id.slots t seat.id c.args.ticket c.requires.client.1 x w within c.self.invariant.1),
     )
 
 pub exchange-requires : goal.exchange-requires

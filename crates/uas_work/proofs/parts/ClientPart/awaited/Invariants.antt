@@ -1,5 +1,6 @@
 use Rattle.std.specs.Prelude.{◌≡◌}
 use Rattle.tag_desk.specs.Seats.{IsTagOf}
+use Rattle.uas_work.specs.Batches.{LookedInVain}
 use Rattle.uas_work.specs.Parts.{IsClientPart}
 use Rattle.uas_work.proofs.parts.ClientPart.awaited.Given as goal
 
@@ -11,4 +12,4 @@ invariant-loop g l =
     × (l.self.replies ≡ l.fn.self.replies)
     × IsTagOf l.self.seat.tags l.self.seat.client l.tag
     × (l.self.tags ≡ l.fn.self.tags)
-    × (l.self.seat ≡ l.fn.self.seat)
+    × LookedInVain l.tag l.fn.self.seat l.self.seat

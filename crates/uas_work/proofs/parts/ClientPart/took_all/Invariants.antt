@@ -10,4 +10,5 @@ invariant-loop-slot g l =
     × (vec_len l.self.replies ≤ vec_len l.fn.self.replies + l.slot)
     × (vec_capacity l.self.replies ≡ vec_capacity l.fn.self.replies)
     × (l.self.tags.held.next ≡ l.fn.self.tags.held.next)
+    × (l.goes_on ≡ true → vec_len l.self.replies ≡ vec_len l.fn.self.replies + l.slot)
     × (l.goes_on ≡ true → TookInOrder l.shared.desk.tags l.fn.self.client l.slot (account_of l.fn.self) (account_of l.self))

@@ -7,7 +7,7 @@ abbrev pub invariant-loop-next : goal.invariant-loop-next
 invariant-loop-next g l =
     IsClientPart l.shared.desk l.shared.board l.self
     × (l.self.client ≡ l.fn.self.client)
-    × (vec_len l.self.replies ≤ l.next)
+    × (vec_len l.self.replies ≡ l.next)
     × (l.all ≤ vec_capacity l.self.replies)
     × (l.next ≤ l.all)
     × (l.self.tags.held.next ≡ l.fn.self.tags.held.next + l.next)

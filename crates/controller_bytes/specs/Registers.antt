@@ -12,15 +12,15 @@ use Rattle.xhci_registers.specs.declared.ports.Wake.{Wake}
 use Rattle.xhci_registers.specs.Bits.{bit, field, is_set}
 use Rattle.xhci_registers.specs.Ports.{link_number, wake_in, wake_word}
 use Rattle.controller_bytes.specs.declared.registers.Addresses.{Addresses}
-use Rattle.controller_bytes.specs.declared.registers.CommandBits.{CommandBits}
+use Rattle.controller_bytes.specs.declared.words.CommandBits.{CommandBits}
 use Rattle.controller_bytes.specs.declared.registers.Flags.{Flags}
-use Rattle.controller_bytes.specs.declared.registers.ManagementBits.{ManagementBits}
-use Rattle.controller_bytes.specs.declared.registers.OperationalWords.{OperationalWords}
+use Rattle.controller_bytes.specs.declared.words.ManagementBits.{ManagementBits}
+use Rattle.controller_bytes.specs.declared.words.OperationalWords.{OperationalWords}
 use Rattle.controller_bytes.specs.declared.registers.Pointers.{Pointers}
-use Rattle.controller_bytes.specs.declared.registers.PortBits.{PortBits}
-use Rattle.controller_bytes.specs.declared.registers.PortWords.{PortWords}
-use Rattle.controller_bytes.specs.declared.registers.RuntimeWords.{RuntimeWords}
-use Rattle.controller_bytes.specs.declared.registers.StatusBits.{StatusBits}
+use Rattle.controller_bytes.specs.declared.ports.PortBits.{PortBits}
+use Rattle.controller_bytes.specs.declared.ports.PortWords.{PortWords}
+use Rattle.controller_bytes.specs.declared.words.RuntimeWords.{RuntimeWords}
+use Rattle.controller_bytes.specs.declared.words.StatusBits.{StatusBits}
 use Rattle.controller_bytes.specs.declared.registers.Words.{Words}
 
 -- USBCMD, 40h: R/S 0, INTE 2, HSEE 3, EWE 10

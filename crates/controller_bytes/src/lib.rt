@@ -31,10 +31,12 @@ mod bulk;
 mod consumers;
 mod control;
 mod pipes;
+mod ports;
 mod registers;
 mod slots;
 mod tags;
 mod transfers;
+mod words;
 
 pub use bulk::{BulkText, read_bulk, restore_bulk, write_bulk};
 pub use consumers::{read_consumer, read_state, write_consumer, write_state};

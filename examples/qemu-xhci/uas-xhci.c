@@ -133,13 +133,17 @@ static void reset(DeviceState *state)
 
 /* ---- Saving and moving ---- */
 
-/* While the machine stands still no request is at work and nothing is written; what was left to do is done when it runs again. */
+/* While the machine stands still no request is at work and nothing is written; what was left to do is done when it runs again. A machine that was moved
+ * while usb-storage had the disk lost pages now and then, as if a write hadn't been noted; until that is understood all memory that is lent counts as
+ * written here, so that it is sent once more. */
 static void runs_changed(void *opaque, bool running, RunState state)
 {
     UasXhci *device = opaque;
     device->runs = running;
     if (!running) {
         drain(device);
+        for (size_t i = 0; i < device->lent; i++)
+            tell_written(device, device->regions[i].address, device->regions[i].length);
         return;
     }
     lock_units(device->units);
